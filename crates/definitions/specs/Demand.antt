@@ -1,0 +1,142 @@
+-- Document 01, 'What demand 3 speaks of', and demand 3 as one statement about the results of Order, Split, Cut and Route.
+-- The statement is a type; the crate `theory` proves it. Assumes nothing.
+use Prim.Native.Nat.{ℕ, _+_, _-_, _*_, _≤_, _<_}
+use mathlib.Core.Bool.{Bool, true, false, _||_}
+use mathlib.Core.List.{List, [], _∷_}
+use mathlib.Core.Logic.{_⊎_, _↔_, _≢_}
+use mathlib.Core.Path.{_≡_}
+use lib.Dec.{eqb}
+use lib.ListN.{length, getD, take, drop}
+use Rattle.definitions.specs.Outcome.{refused, done}
+use Rattle.definitions.specs.Lists.{table, has, count, total}
+use Rattle.definitions.specs.Network.{joins, linked, Accepted}
+use Rattle.definitions.specs.Order.{orderAnswer, relaysAfter, placesAfter}
+use Rattle.definitions.specs.Forests.{splitAnswer, forestsAfter, cutAnswer, marksAfter}
+use Rattle.definitions.specs.Route.{tooShort, routeAnswer, countsAfter, routeRelaysAfter}
+
+-- "Two relays are joined through live relays over some links if a chain of live relays, both of them included, leads from
+-- one to the other, each joined to the next by one of those links."
+pub data Joined (live : ℕ → Type 0) (link : ℕ → ℕ → Type 0) : ℕ → ℕ → Type 0 where
+  alone : {a : ℕ} → live a → Joined live link a a
+  onward : {a b c : ℕ} → live a → link a b → Joined live link b c → Joined live link a c
+
+-- A link of the table, of those that the property picks by their index, joins a and b.
+abbrev pub LinkOf : List ℕ → List ℕ → (ℕ → Type 0) → ℕ → ℕ → Type 0
+LinkOf lows highs picked a b = (i : ℕ) × (i < length lows) × (joins lows highs a b i ≡ true) × picked i
+
+-- "All the links are those of the table."
+abbrev pub AnyLink : ℕ → Type 0
+AnyLink i = Unit {0}
+
+-- "A link is kept if Cut marks it 1."
+abbrev pub Kept : List ℕ → ℕ → Type 0
+Kept marks i = getD marks i 0 ≡ 1
+
+-- "forest i holds the links that Split gives the number i"
+abbrev pub InForest : List ℕ → ℕ → ℕ → Type 0
+InForest forests f i = getD forests i 0 ≡ f
+
+-- "Any of its relays may be found dead, none or all of them; the others are live."
+abbrev pub Live : ℕ → (ℕ → Bool) → ℕ → Type 0
+Live n dead r = (r < n) × (dead r ≡ false)
+
+-- How many of the n relays are dead.
+abbrev pub deadCount : ℕ → (ℕ → Bool) → ℕ
+deadCount n dead = count dead (table (λ r. r) 0 n)
+
+-- "Two relays are in one tree of forest i if they are equal or joined by links of forest i alone."
+abbrev pub OneTree : List ℕ → List ℕ → List ℕ → ℕ → ℕ → ℕ → Type 0
+OneTree lows highs forests f a b = Joined (λ _. Unit {0}) (LinkOf lows highs (InForest forests f)) a b
+
+-- "its links join each of its relays to the next"
+abbrev pub AlongFrom : (ℕ → ℕ → Type 0) → ℕ → List ℕ → Type 0
+AlongFrom link a [] = Unit {0}
+AlongFrom link a (b ∷ rest) = link a b × AlongFrom link b rest
+
+abbrev pub Along : (ℕ → ℕ → Type 0) → List ℕ → Type 0
+Along link [] = Unit {0}
+Along link (a ∷ rest) = AlongFrom link a rest
+
+-- Link i of the table joins some relay of the route, from a on, to the next.
+unfoldable pub usesFrom : List ℕ → List ℕ → ℕ → ℕ → List ℕ → Bool
+usesFrom lows highs i a [] = false
+usesFrom lows highs i a (b ∷ rest) = joins lows highs a b i || usesFrom lows highs i b rest
+
+unfoldable pub uses : List ℕ → List ℕ → ℕ → List ℕ → Bool
+uses lows highs i [] = false
+uses lows highs i (a ∷ rest) = usesFrom lows highs i a rest
+
+-- No relay stands twice.
+abbrev pub NoRepeat : List ℕ → Type 0
+NoRepeat [] = Unit {0}
+NoRepeat (r ∷ rest) = (has rest r ≡ false) × NoRepeat rest
+
+-- "A route is as Route's two lists give it": the relay list cut up by the counts.
+unfoldable pub cutUp : List ℕ → List ℕ → List (List ℕ)
+cutUp [] relays = []
+cutUp (size ∷ counts) relays = take size relays ∷ cutUp counts (drop size relays)
+
+-- One route: from `from` to `to`, along kept links, repeating no relay.
+pub record RouteHolds (lows highs marks : List ℕ) (from to : ℕ) (route : List ℕ) : Type 0 where
+  pub long : 2 ≤ length route
+  pub starts : getD route 0 0 ≡ from
+  pub ends : getD route (length route - 1) 0 ≡ to
+  pub along : Along (LinkOf lows highs (Kept marks)) route
+  pub noRepeat : NoRepeat route
+
+-- Two routes: "sharing no link and no relay but the ends".
+pub record Apart (lows highs : List ℕ) (from to : ℕ) (one other : List ℕ) : Type 0 where
+  pub relays : (r : ℕ) → has one r ≡ true → has other r ≡ true → (r ≡ from) ⊎ (r ≡ to)
+  pub links : (i : ℕ) → i < length lows → uses lows highs i one ≡ true → uses lows highs i other ≡ true → ⊥
+
+-- The routes that Route's two lists give, and what it answers: "the sum of the k counts, which is also Route's answer".
+pub record RoutesHold (n : ℕ) (lows highs marks : List ℕ) (k from to : ℕ) (counts relays : List ℕ) : Type 0 where
+  pub each : (i : ℕ) → i < k → RouteHolds lows highs marks from to (getD (cutUp (take k counts) relays) i [])
+  pub apart : (i j : ℕ) → i < k → j < k → i ≢ j
+      → Apart lows highs from to (getD (cutUp (take k counts) relays) i []) (getD (cutUp (take k counts) relays) j [])
+  pub written : total (take k counts) ≤ n - 2 + 2 * k
+
+-- What demand 3 says of two different relays and of lists that are long enough: "Lists are long enough if Route has no
+-- cause for 12." Route gives the k routes if the two are in one tree of forest k, and 13 exactly if they are not.
+pub record RouteDelivers (n : ℕ) (lows highs forests marks : List ℕ) (k from to : ℕ) (counts relays scratch : List ℕ) : Type 0 where
+  pub inOneTree : OneTree lows highs forests k from to
+      → (routeAnswer n lows highs k from to counts relays scratch
+      ≡ done (total (take k (countsAfter n lows highs k from to counts relays scratch)) ∷ []))
+      × RoutesHold n lows highs marks k from to (countsAfter n lows highs k from to counts relays scratch) (routeRelaysAfter n lows highs k from to counts relays scratch)
+  pub thirteen : (routeAnswer n lows highs k from to counts relays scratch ≡ refused 13 0)
+      ↔ (OneTree lows highs forests k from to → ⊥)
+
+-- The order as Order's two lists give it: each turns the other's numbers back, and "for every two vertices v < w, v has at
+-- least as many neighbors in {1, …, v − 1} as w has" (document 002, section 2).
+pub record MaximalOrder (n : ℕ) (lows highs relays places : List ℕ) : Type 0 where
+  pub placed : (r : ℕ) → r < n → (1 ≤ getD places r 0) × (getD places r 0 ≤ n) × (getD relays (getD places r 0 - 1) 0 ≡ r)
+  pub named : (v : ℕ) → v < n → (getD relays v 0 < n) × (getD places (getD relays v 0) 0 ≡ v + 1)
+  pub maximal : (v w : ℕ) → v < w → w < n
+      → count (λ p. linked lows highs p (getD relays w 0)) (take v relays)
+      ≤ count (λ p. linked lows highs p (getD relays v 0)) (take v relays)
+
+-- The results of the four together, for one network, one k, and lists that were lent to Order, Split and Cut.
+pub record Holds (n : ℕ) (lows highs : List ℕ) (k : ℕ) (relays places forests marks : List ℕ) : Type 0 where
+  pub order : MaximalOrder n lows highs relays places
+  -- "whichever fewer than k relays are dead, two live ones are joined through live relays over the kept links exactly when
+  -- they are over all the links"
+  pub survives : (dead : ℕ → Bool) → deadCount n dead < k → (a b : ℕ) → Live n dead a → Live n dead b
+      → Joined (Live n dead) (LinkOf lows highs (Kept marks)) a b ↔ Joined (Live n dead) (LinkOf lows highs AnyLink) a b
+  -- "forest i holds at most n − i links", for every i from 1 to n; and each link is in one of these forests
+  pub bound : (i : ℕ) → 1 ≤ i → i ≤ n → count (eqb i) (take (length lows) forests) ≤ n - i
+  pub inOne : (i : ℕ) → i < length lows → (1 ≤ getD forests i 0) × (getD forests i 0 < n)
+  pub routes : (from to : ℕ) → from < n → to < n → from ≢ to → (counts routeRelays scratch : List ℕ)
+      → tooShort n k counts routeRelays scratch ≡ false
+      → RouteDelivers n lows highs forests marks k from to counts routeRelays scratch
+
+-- Demand 3: for every accepted network, every k from 1 to 32, and every list long enough lent to Order, Split and Cut.
+abbrev pub DemandThree : Type 0
+DemandThree =
+    (n : ℕ) (lows highs : List ℕ) → Accepted n lows highs → (k : ℕ) → 1 ≤ k → k ≤ 32
+    → (relays places forests marks : List ℕ)
+    → n ≤ length relays → n ≤ length places → length lows ≤ length forests → length lows ≤ length marks
+    → Holds n lows highs k
+    (relaysAfter n lows highs relays places)
+    (placesAfter n lows highs relays places)
+    (forestsAfter n lows highs forests)
+    (marksAfter n lows highs k marks)

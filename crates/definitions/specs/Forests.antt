@@ -1,0 +1,81 @@
+-- Document 01, 'The forests' (document 002, section 2): earlier neighbours, left(i, v), forest numbers, trees, the cut.
+-- Over any test `linked` and any order; places are 1 to n, and 0 means none.
+use Prim.Native.Nat.{ℕ, zero, suc, _+_, min, max}
+use mathlib.Core.Bool.{Bool, _||_}
+use mathlib.Core.List.{List, [], _∷_, map}
+use lib.Dec.{eqb, ltb, leb}
+use lib.ListN.{length, getD}
+use Rattle.definitions.specs.Outcome.{pick, Answer, done, refuseIf, andThen, ifDone}
+use Rattle.definitions.specs.Lists.{table, overwrite, outside, rising, position, total, greatest}
+use Rattle.definitions.specs.Network.{linked, tableCheck}
+use Rattle.definitions.specs.Order.{orderOf, placeOf, relayAt}
+
+-- "a relay's earlier neighbours [are] those with a lower place, in rising place": of the relay at place v, as places.
+unfoldable pub earlier : (ℕ → ℕ → Bool) → List ℕ → ℕ → List ℕ
+earlier linked order zero = []
+earlier linked order (suc v) =
+    pick (ltb v (length order)) (rising (λ u. linked (relayAt order u) (relayAt order (suc v))) v) []
+
+-- "left(i, v) is that neighbour of v": the i-th earlier neighbour, i from 1; 0 if there is none.
+unfoldable pub left : (ℕ → ℕ → Bool) → List ℕ → ℕ → ℕ → ℕ
+left linked order zero v = 0
+left linked order (suc i) v = getD (earlier linked order v) i 0
+
+-- "The link to the i-th of them belongs to forest i": the forest of a link between places u and v, u the earlier.
+unfoldable pub forestBetween : (ℕ → ℕ → Bool) → List ℕ → ℕ → ℕ → ℕ
+forestBetween linked order u v = position (earlier linked order v) u
+
+-- The forest of link i of the table.
+unfoldable pub forestOf : (ℕ → ℕ → Bool) → List ℕ → List ℕ → List ℕ → ℕ → ℕ
+forestOf linked order lows highs i =
+    let p = placeOf order (getD lows i 0) in
+    let q = placeOf order (getD highs i 0) in
+    forestBetween linked order (min p q) (max p q)
+
+-- The forest number of each link, in the order of the table.
+unfoldable pub forestsOf : ℕ → List ℕ → List ℕ → List ℕ
+forestsOf n lows highs = table (forestOf (linked lows highs) (orderOf n lows highs) lows highs) 0 (length lows)
+
+-- The first place of the tree of forest i that v is in: in forest i each place has at most one link to an earlier one,
+-- left(i, v), so following these leads there. At most `steps` of them.
+unfoldable pub rootWithin : (ℕ → ℕ → ℕ) → ℕ → ℕ → ℕ → ℕ
+rootWithin left i zero v = v
+rootWithin left i (suc steps) v = pick (eqb (left i v) 0) v (rootWithin left i steps (left i v))
+
+-- "Two relays are in one tree of forest i if they are equal or joined by links of forest i alone": as a test on places.
+unfoldable pub oneTree : (ℕ → ℕ → ℕ) → ℕ → ℕ → ℕ → Bool
+oneTree left i u v = eqb (rootWithin left i u u) (rootWithin left i v v)
+
+-- "Split. Table check, then 12, the list of forest numbers shorter than m. The answer is the highest forest used, 0
+-- without links."
+unfoldable pub splitAnswer : ℕ → List ℕ → List ℕ → List ℕ → Answer
+splitAnswer n lows highs forests =
+    andThen (tableCheck n lows highs) λ _.
+    refuseIf (ltb (length forests) (length lows)) 12 0
+    (done (greatest (forestsOf n lows highs) ∷ []))
+
+-- The list of forest numbers afterwards.
+unfoldable pub forestsAfter : ℕ → List ℕ → List ℕ → List ℕ → List ℕ
+forestsAfter n lows highs forests =
+    ifDone (splitAnswer n lows highs forests) (overwrite (forestsOf n lows highs) forests) forests
+
+-- "Cutting down to k keeps the links of forests 1 to k": the mark of a link of this forest, 1 kept, 0 dropped.
+unfoldable pub markOf : ℕ → ℕ → ℕ
+markOf k forest = pick (leb forest k) 1 0
+
+-- The mark of each link, in the order of the table.
+unfoldable pub marksOf : ℕ → List ℕ → List ℕ → ℕ → List ℕ
+marksOf n lows highs k = map (markOf k) (forestsOf n lows highs)
+
+-- "Cut. Table check; 9, k outside 1 to 32; 12, the list of marks shorter than m. The answer is the count of ones."
+unfoldable pub cutAnswer : ℕ → List ℕ → List ℕ → ℕ → List ℕ → Answer
+cutAnswer n lows highs k marks =
+    andThen (tableCheck n lows highs) λ _.
+    refuseIf (outside 1 32 k) 9 0
+    (refuseIf (ltb (length marks) (length lows)) 12 0
+    (done (total (marksOf n lows highs k) ∷ [])))
+
+-- The list of marks afterwards.
+unfoldable pub marksAfter : ℕ → List ℕ → List ℕ → ℕ → List ℕ → List ℕ
+marksAfter n lows highs k marks =
+    ifDone (cutAnswer n lows highs k marks) (overwrite (marksOf n lows highs k) marks) marks

@@ -1,0 +1,90 @@
+-- The forms of every text that is read or printed: words with numbers between them, as bytes.
+-- Reading goes from left to right and tells the first byte that departs. Assumes nothing.
+use Prim.Native.Nat.{ℕ, zero, suc, _+_, _-_, _*_, _/_, _%_}
+use Prim.Native.Char.{Char, code}
+use Prim.Native.String.{String, [] as noChars, _∷_ as _then_}
+use mathlib.Core.Bool.{Bool, not}
+use mathlib.Core.List.{List, [], _∷_, _++_}
+use lib.Dec.{eqb, ltb}
+use lib.ListN.{getD}
+use Rattle.definitions.specs.Outcome.{pick, Outcome, refused}
+use Rattle.definitions.specs.Lists.{outside}
+
+-- The bytes of a text of plain characters.
+abbrev pub bytes : String → List ℕ
+bytes noChars = []
+bytes (_then_ c rest) = code c ∷ bytes rest
+
+-- A form is a list of items: a word to the letter, or a number.
+pub data Item : Type 0 where
+  word : List ℕ → Item
+  numeral : Item
+
+-- What reading an item or a form gives: the offset of the first byte that departs from it, or the numbers that were
+-- read and the offset behind them.
+pub data Scan : Type 0 where
+  departs : ℕ → Scan
+  reads : List ℕ → ℕ → Scan
+
+-- The byte at an offset; past the end 0, which departs from every form: "the length, if it ends early".
+unfoldable pub byteAt : List ℕ → ℕ → ℕ
+byteAt text p = getD text p 0
+
+unfoldable pub scanWord : List ℕ → List ℕ → ℕ → Scan
+scanWord text [] p = reads [] p
+scanWord text (b ∷ rest) p = pick (eqb (byteAt text p) b) (scanWord text rest (p + 1)) (departs p)
+
+-- Later digits, 0 to 9, at most `more` of them, behind the number x.
+unfoldable pub scanDigits : List ℕ → ℕ → ℕ → ℕ → Scan
+scanDigits text x p zero = reads (x ∷ []) p
+scanDigits text x p (suc more) =
+    pick (outside 48 57 (byteAt text p)) (reads (x ∷ []) p)
+    (scanDigits text (x * 10 + (byteAt text p - 48)) (p + 1) more)
+
+-- "A number is one to four digits, with no zero in front except in `0` itself."
+unfoldable pub scanNumber : List ℕ → ℕ → Scan
+scanNumber text p =
+    pick (eqb (byteAt text p) 48) (reads (0 ∷ []) (p + 1))
+    (pick (outside 49 57 (byteAt text p)) (departs p)
+    (scanDigits text (byteAt text p - 48) (p + 1) 3))
+
+unfoldable pub scanItem : List ℕ → Item → ℕ → Scan
+scanItem text (word w) p = scanWord text w p
+scanItem text numeral p = scanNumber text p
+
+-- The numbers of both, where the second reads on from the first.
+unfoldable pub withFront : List ℕ → Scan → Scan
+withFront front (departs p) = departs p
+withFront front (reads values p) = reads (front ++ values) p
+
+unfoldable pub following : Scan → (ℕ → Scan) → Scan
+following (departs p) next = departs p
+following (reads values p) next = withFront values (next p)
+
+-- A form, from an offset on.
+unfoldable pub scanForm : List ℕ → List Item → ℕ → Scan
+scanForm text [] p = reads [] p
+scanForm text (item ∷ items) p = following (scanItem text item p) (scanForm text items)
+
+-- The refusal `number` at the byte that departs; else the next step, with what was read and the offset behind it.
+unfoldable pub onScan : {A : Type 0} → ℕ → Scan → (List ℕ → ℕ → Outcome A) → Outcome A
+onScan number (departs p) next = refused number p
+onScan number (reads values p) next = next values p
+
+-- A number in base ten, at most `fuel` + 1 digits of it.
+unfoldable pub decimalWithin : ℕ → ℕ → List ℕ
+decimalWithin zero x = (48 + x % 10) ∷ []
+decimalWithin (suc fuel) x =
+    let tens = decimalWithin fuel (x / 10) in
+    pick (ltb x 10) ((48 + x) ∷ []) (tens ++ ((48 + x % 10) ∷ []))
+
+-- "reads numbers in base ten", "with as many digits as it takes".
+unfoldable pub decimal : ℕ → List ℕ
+decimal x = decimalWithin x x
+
+-- A form written with its numbers.
+unfoldable pub writeForm : List Item → List ℕ → List ℕ
+writeForm [] values = []
+writeForm (word w ∷ items) values = w ++ writeForm items values
+writeForm (numeral ∷ items) [] = []
+writeForm (numeral ∷ items) (x ∷ values) = decimal x ++ writeForm items values

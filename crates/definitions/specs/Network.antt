@@ -1,0 +1,64 @@
+-- Document 01, 'The network' and the table check: pair numbers, links, and what makes a table one of a network.
+-- A table is two lists of numbers, lows and highs; n is the number of relays. Assumes nothing.
+use Prim.Native.Nat.{ℕ, zero, suc, _+_, _-_, _*_, _/_}
+use mathlib.Core.Bool.{Bool, _&&_, _||_, not}
+use mathlib.Core.List.{List, [], _∷_}
+use mathlib.Core.Path.{_≡_}
+use lib.Dec.{eqb, ltb, leb}
+use lib.ListN.{length, getD}
+use Rattle.definitions.specs.Outcome.{pick, Outcome, done, Answer, refuseIf}
+use Rattle.definitions.specs.Lists.{outside, someBelow}
+
+-- The first pair number of the links whose high relay is b.
+unfoldable pub rowStart : ℕ → ℕ
+rowStart b = b * (b - 1) / 2
+
+-- "The pair number of a link A B is B × (B − 1) / 2 + A."
+unfoldable pub pairNumber : ℕ → ℕ → ℕ
+pairNumber a b = rowStart b + a
+
+-- "5: a relay number of 1,000 or more. 6: A not below B. The answer is the pair number."
+unfoldable pub pairAnswer : ℕ → ℕ → Answer
+pairAnswer a b =
+    refuseIf (leb 1000 a || leb 1000 b) 5 0
+    (refuseIf (leb b a) 6 0
+    (done (pairNumber a b ∷ [])))
+
+-- "held as its low and its high relay number": link i of the table is the pair a b.
+unfoldable pub isPair : List ℕ → List ℕ → ℕ → ℕ → ℕ → Bool
+isPair lows highs a b i = eqb (getD lows i 0) a && eqb (getD highs i 0) b
+
+-- Link i of the table joins a and b, whichever is the lower.
+unfoldable pub joins : List ℕ → List ℕ → ℕ → ℕ → ℕ → Bool
+joins lows highs a b i = isPair lows highs a b i || isPair lows highs b a i
+
+-- Some link of the table joins a and b.
+unfoldable pub linked : List ℕ → List ℕ → ℕ → ℕ → Bool
+linked lows highs a b = someBelow (joins lows highs a b) (length lows)
+
+-- What is wrong with a link a b that comes after the first i links of the table, or 0:
+-- "5, A or B not below n; 6, A not below B; 7, a pair that an earlier line has".
+unfoldable pub linkFault : ℕ → List ℕ → List ℕ → ℕ → ℕ → ℕ → ℕ
+linkFault n lows highs i a b =
+    pick (leb n a || leb n b) 5
+    (pick (leb b a) 6
+    (pick (someBelow (isPair lows highs a b) i) 7
+    0))
+
+-- "then link by link 5, 6, 7", for `count` links from link i on; the place is the link's index.
+unfoldable pub linksCheck : ℕ → List ℕ → List ℕ → ℕ → ℕ → Answer
+linksCheck n lows highs i zero = done []
+linksCheck n lows highs i (suc count) =
+    let fault = linkFault n lows highs i (getD lows i 0) (getD highs i 0) in
+    refuseIf (ltb 0 fault) fault i (linksCheck n lows highs (i + 1) count)
+
+-- "Table check: 3; then 4, lists of unequal length (m is their length) or over 3,000; then link by link 5, 6, 7."
+unfoldable pub tableCheck : ℕ → List ℕ → List ℕ → Answer
+tableCheck n lows highs =
+    refuseIf (outside 1 1000 n) 3 0
+    (refuseIf (not (eqb (length lows) (length highs)) || ltb 3000 (length lows)) 4 0
+    (linksCheck n lows highs 0 (length lows)))
+
+-- "An accepted network is one that passes the table check."
+abbrev pub Accepted : ℕ → List ℕ → List ℕ → Type 0
+Accepted n lows highs = tableCheck n lows highs ≡ done []

@@ -1,0 +1,97 @@
+-- The networks of document 01, and what an example is: an outcome and lent lists that come out as they are due.
+-- Assumes nothing.
+use Prim.Native.Nat.{ℕ}
+use mathlib.Core.List.{List, [], _∷_}
+use mathlib.Core.Path.{_≡_}
+use lib.ListN.{replicate}
+use Rattle.definitions.specs.Outcome.{Answer}
+use Rattle.definitions.specs.Network.{tableCheck, pairAnswer}
+use Rattle.definitions.specs.Order.{orderAnswer, relaysAfter, placesAfter}
+use Rattle.definitions.specs.Forests.{splitAnswer, forestsAfter, cutAnswer, marksAfter}
+use Rattle.definitions.specs.Route.{routeAnswer, countsAfter, routeRelaysAfter, scratchAfter}
+use Rattle.definitions.specs.Text.{Network}
+
+-- An outcome and the lent lists afterwards.
+pub record Result : Type 0 where
+  pub answer : Answer
+  pub lists : List (List ℕ)
+
+pub record Example : Type 0 where
+  pub found : Result
+  pub due : Result
+
+-- Each example of a list comes out as it is due.
+abbrev pub AllHold : List Example → Type 0
+AllHold [] = Unit {0}
+AllHold (e ∷ examples) = (e .found ≡ e .due) × AllHold examples
+
+-- "Square: links 0 1, 1 2, 2 3, 0 3."
+abbrev pub square : Network
+square = record { relays = 4; lows = 0 ∷ 1 ∷ 2 ∷ 0 ∷ []; highs = 1 ∷ 2 ∷ 3 ∷ 3 ∷ [] }
+
+-- "Full four: all six links of four relays."
+abbrev pub fullFour : Network
+fullFour =
+    record { relays = 4; lows = 0 ∷ 0 ∷ 0 ∷ 1 ∷ 1 ∷ 2 ∷ []; highs = 1 ∷ 2 ∷ 3 ∷ 2 ∷ 3 ∷ 3 ∷ [] }
+
+-- "Mesh, five relays: 0 1, 0 2, 1 2, 1 3, 2 3, 2 4, 3 4."
+abbrev pub mesh : Network
+mesh =
+    record {
+      relays = 5;
+      lows = 0 ∷ 0 ∷ 1 ∷ 1 ∷ 2 ∷ 2 ∷ 3 ∷ [];
+      highs = 1 ∷ 2 ∷ 2 ∷ 3 ∷ 3 ∷ 4 ∷ 4 ∷ [];
+    }
+
+-- So many relays and no link.
+abbrev pub bare : ℕ → Network
+bare n = record { relays = n; lows = []; highs = [] }
+
+-- A lent list of so many entries 7, which no operation writes by chance.
+abbrev pub lent : ℕ → List ℕ
+lent size = replicate size 7
+
+abbrev pub checkOf : Network → Result
+checkOf w = record { answer = tableCheck (w .relays) (w .lows) (w .highs); lists = [] }
+
+abbrev pub pairOf : ℕ → ℕ → Result
+pairOf a b = record { answer = pairAnswer a b; lists = [] }
+
+-- Order with two lists of this length.
+abbrev pub orderWith : ℕ → Network → Result
+orderWith size w =
+    record {
+      answer = orderAnswer (w .relays) (w .lows) (w .highs) (lent size) (lent size);
+      lists =
+          relaysAfter (w .relays) (w .lows) (w .highs) (lent size) (lent size)
+          ∷ placesAfter (w .relays) (w .lows) (w .highs) (lent size) (lent size)
+          ∷ [];
+    }
+
+-- Split with a list of this length.
+abbrev pub splitWith : ℕ → Network → Result
+splitWith size w =
+    record {
+      answer = splitAnswer (w .relays) (w .lows) (w .highs) (lent size);
+      lists = forestsAfter (w .relays) (w .lows) (w .highs) (lent size) ∷ [];
+    }
+
+-- Cut to k with a list of this length.
+abbrev pub cutWith : ℕ → Network → ℕ → Result
+cutWith size w k =
+    record {
+      answer = cutAnswer (w .relays) (w .lows) (w .highs) k (lent size);
+      lists = marksAfter (w .relays) (w .lows) (w .highs) k (lent size) ∷ [];
+    }
+
+-- Route with lists of these lengths: counts, relays, scratch.
+abbrev pub routeWith : ℕ → ℕ → ℕ → Network → ℕ → ℕ → ℕ → Result
+routeWith c r x w from to k =
+    record {
+      answer = routeAnswer (w .relays) (w .lows) (w .highs) k from to (lent c) (lent r) (lent x);
+      lists =
+          countsAfter (w .relays) (w .lows) (w .highs) k from to (lent c) (lent r) (lent x)
+          ∷ routeRelaysAfter (w .relays) (w .lows) (w .highs) k from to (lent c) (lent r) (lent x)
+          ∷ scratchAfter (w .relays) (w .lows) (w .highs) k from to (lent c) (lent r) (lent x)
+          ∷ [];
+    }

@@ -1,0 +1,79 @@
+-- Document 01, 'The planner program': from the bytes of the input to the bytes of the output.
+-- Assumes nothing.
+use Prim.Native.Nat.{ℕ}
+use mathlib.Core.List.{List, [], _∷_, _++_}
+use lib.ListN.{getD, drop, replicate}
+use Rattle.definitions.specs.Outcome.{Outcome, refused, done, andThen}
+use Rattle.definitions.specs.Forests.{cutAnswer}
+use Rattle.definitions.specs.Route.{routesOf, routeAnswer}
+use Rattle.definitions.specs.Form.{bytes, Item, word, numeral, scanForm, onScan, decimal, writeForm}
+use Rattle.definitions.specs.Text.{Network, endForm, readNetwork}
+
+-- "a line `(want FROM TO K)`"
+unfoldable pub wishForm : List Item
+wishForm =
+    word (bytes "(want ") ∷ numeral ∷ word (bytes " ") ∷ numeral ∷ word (bytes " ") ∷ numeral ∷ word (bytes ")\n") ∷ []
+
+unfoldable pub sheetForm : List Item
+sheetForm =
+    word (bytes "(sheet (from ") ∷ numeral ∷ word (bytes ") (to ") ∷ numeral ∷ word (bytes ") (k ") ∷ numeral
+    ∷ word (bytes "))\n") ∷ []
+
+unfoldable pub keptForm : List Item
+keptForm = word (bytes "(kept ") ∷ numeral ∷ word (bytes ")\n") ∷ []
+
+unfoldable pub refusedForm : List Item
+refusedForm = word (bytes "(refused ") ∷ numeral ∷ word (bytes " ") ∷ numeral ∷ word (bytes ")\n") ∷ []
+
+-- A sheet: the wish, the routes, and the count of kept links.
+pub record Sheet : Type 0 where
+  pub from : ℕ
+  pub to : ℕ
+  pub k : ℕ
+  pub routes : List (List ℕ)
+  pub kept : ℕ
+
+-- The program's own lists are zeros, and long enough for every network: 12 and 8 never come up.
+unfoldable pub room : ℕ → List ℕ
+room size = replicate size 0
+
+-- "It reads, cuts and routes, and the first refusal met is the one printed."
+unfoldable pub sheetFor : ℕ → ℕ → ℕ → Network → Outcome Sheet
+sheetFor from to k network =
+    let n = network .relays in
+    let lows = network .lows in
+    let highs = network .highs in
+    andThen (cutAnswer n lows highs k (room 3000)) λ kept.
+    andThen (routeAnswer n lows highs k from to (room 32) (room 1062) (room 32000)) λ _.
+    done (record { from = from; to = to; k = k; routes = routesOf n lows highs k from to; kept = getD kept 0 0 })
+
+-- "1: that line departs from its form, at the byte. Offsets for 2 count from the first byte after that line."
+unfoldable pub planned : List ℕ → Outcome Sheet
+planned input =
+    onScan 1 (scanForm input wishForm 0) λ wish p.
+    andThen (readNetwork (drop p input) 3000 3000) (sheetFor (getD wish 0 0) (getD wish 1 0) (getD wish 2 0))
+
+-- The relays of a route, each behind a space.
+unfoldable pub spaced : List ℕ → List ℕ
+spaced [] = []
+spaced (r ∷ route) = bytes " " ++ (decimal r ++ spaced route)
+
+-- "each `route` lists relay numbers"
+unfoldable pub routeLines : List (List ℕ) → List ℕ
+routeLines [] = []
+routeLines (route ∷ routes) = bytes "(route" ++ (spaced route ++ (bytes ")\n" ++ routeLines routes))
+
+-- "`from`, `to` and `k` repeat the wish, each `route` lists relay numbers, `kept` is the count from the cut."
+unfoldable pub sheetText : Sheet → List ℕ
+sheetText sheet =
+    writeForm sheetForm (sheet .from ∷ sheet .to ∷ sheet .k ∷ []) ++
+    (routeLines (sheet .routes) ++ (writeForm keptForm (sheet .kept ∷ []) ++ writeForm endForm []))
+
+-- "A refusal prints only `(refused NUMBER PLACE)`, PLACE with as many digits as it takes."
+unfoldable pub printed : Outcome Sheet → List ℕ
+printed (refused number place) = writeForm refusedForm (number ∷ place ∷ [])
+printed (done sheet) = sheetText sheet
+
+-- What the program writes for what it reads.
+unfoldable pub planText : List ℕ → List ℕ
+planText input = printed (planned input)

@@ -1,0 +1,1 @@
+// No functions: the meaning of document 01 stands in specs/.

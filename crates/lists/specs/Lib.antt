@@ -1,0 +1,2 @@
+-- Facts on the lists and tests of `definitions`, a module a subject. They know nothing of networks.
+pub mod Tables

@@ -1,0 +1,1 @@
+// No functions: facts on lists and numbers stand in specs/.

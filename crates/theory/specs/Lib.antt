@@ -1,0 +1,2 @@
+-- The theorems about the definitions, a module a subject.
+pub mod LeftLaws

@@ -1,0 +1,1 @@
+// No functions: the theorems about the definitions stand in specs/.
