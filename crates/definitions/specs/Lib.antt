@@ -13,3 +13,5 @@ pub mod Demand
 pub mod Networks
 pub mod Opened
 pub mod Marked
+pub mod Others
+pub mod Astray

@@ -1,0 +1,83 @@
+-- Document 01, 'Where planners have gone astray': for each mistake a network on which it gives another answer.
+-- The networks were found by search; the mistakes that are edits of a definition stand in must-fail/. Assumes nothing.
+use Prim.Native.Nat.{ℕ, zero, suc, _<_, _≤_}
+use mathlib.Core.Bool.{true}
+use mathlib.Core.List.{List, [], _∷_}
+use mathlib.Core.Logic.{inl, inr}
+use mathlib.Core.Path.{_≡_, refl}
+use native.Mathlib.Omega.{arith}
+use Rattle.definitions.specs.Outcome.{refused}
+use Rattle.definitions.specs.Route.{routeAnswer, routesOf}
+use Rattle.definitions.specs.Text.{Network}
+use Rattle.definitions.specs.Demand.{RouteHolds}
+use Rattle.definitions.specs.Networks.{square, mesh, lent}
+use Rattle.definitions.specs.Opened.{opened}
+
+abbrev routes : Network → ℕ → ℕ → ℕ → List (List ℕ)
+routes w from to k = routesOf (w .relays) (w .lows) (w .highs) k from to
+
+-- "Walking each forest's own tree path. In the mesh 4 2 0 1 and 4 3 2 1 share relay 2."
+pub not-tree-paths : routes mesh 4 1 2 ≡ (4 ∷ 3 ∷ 1 ∷ []) ∷ (4 ∷ 2 ∷ 1 ∷ []) ∷ []
+unfolding opened
+not-tree-paths = refl
+
+-- "Taking 13 to mean that no routes exist. P3 has two": Route refuses, and over all the links of the square 0 1 2 and
+-- 0 3 2 are routes that share the ends alone.
+abbrev squareRoute : List ℕ → Type 0
+squareRoute = RouteHolds (square .lows) (square .highs) (1 ∷ 1 ∷ 1 ∷ 1 ∷ []) 0 2
+
+pub thirteen-with-routes :
+    (routeAnswer 4 (square .lows) (square .highs) 2 0 2 (lent 2) (lent 6) (lent 8) ≡ refused 13 0)
+    × squareRoute (0 ∷ 1 ∷ 2 ∷ [])
+    × squareRoute (0 ∷ 3 ∷ 2 ∷ [])
+unfolding opened
+thirteen-with-routes = (
+  refl,
+  record {
+    long = omega arith;
+    starts = refl;
+    ends = refl;
+    along = ((0, omega arith, refl, refl), ((1, omega arith, refl, refl), tt));
+    noRepeat = (refl, (refl, (refl, tt)));
+  },
+  record {
+    long = omega arith;
+    starts = refl;
+    ends = refl;
+    along = ((3, omega arith, refl, refl), ((2, omega arith, refl, refl), tt));
+    noRepeat = (refl, (refl, (refl, tt)));
+  },
+)
+
+-- "Closing an A-path and a B-path of different indices where they meet (document 002, figure 4)." Here the routes would
+-- come out as 5 3 1 and 5 2 4 1, and 5 2 is no link.
+abbrev crossing : Network
+crossing =
+    record {
+      relays = 6;
+      lows = 4 ∷ 2 ∷ 1 ∷ 3 ∷ 0 ∷ 0 ∷ 0 ∷ 2 ∷ 1 ∷ 0 ∷ [];
+      highs = 5 ∷ 4 ∷ 3 ∷ 5 ∷ 2 ∷ 4 ∷ 3 ∷ 3 ∷ 4 ∷ 5 ∷ [];
+    }
+
+pub one-index-for-both : routes crossing 5 1 2 ≡ (5 ∷ 0 ∷ 4 ∷ 1 ∷ []) ∷ (5 ∷ 3 ∷ 1 ∷ []) ∷ []
+unfolding opened
+one-index-for-both = refl
+
+-- "Exchanging before replacing, so that left is looked up under the new index." Here the routes would come out as 3 2 4 1
+-- and 3 2 1, which share relay 2.
+abbrev trading : Network
+trading =
+    record { relays = 5; lows = 0 ∷ 2 ∷ 0 ∷ 0 ∷ 2 ∷ 1 ∷ 1 ∷ []; highs = 3 ∷ 4 ∷ 4 ∷ 2 ∷ 3 ∷ 2 ∷ 4 ∷ [] }
+
+pub replaced-before-exchanged : routes trading 3 1 2 ≡ (3 ∷ 0 ∷ 4 ∷ 1 ∷ []) ∷ (3 ∷ 2 ∷ 1 ∷ []) ∷ []
+unfolding opened
+replaced-before-exchanged = refl
+
+-- "Ranking earlier neighbours by relay number instead of place." Here the order is 0 2 1 3, and the routes would come out
+-- as 1 3 and 2 3.
+abbrev renumbered : Network
+renumbered = record { relays = 4; lows = 1 ∷ 2 ∷ 1 ∷ 0 ∷ []; highs = 2 ∷ 3 ∷ 3 ∷ 2 ∷ [] }
+
+pub ranked-by-place : routes renumbered 1 3 2 ≡ (1 ∷ 2 ∷ 3 ∷ []) ∷ (1 ∷ 3 ∷ []) ∷ []
+unfolding opened
+ranked-by-place = refl
