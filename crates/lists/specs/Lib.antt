@@ -1,2 +1,6 @@
 -- Facts on the lists and tests of `definitions`, a module a subject. They know nothing of networks.
 pub mod Tables
+pub mod Members
+pub mod Distinct
+pub mod Counting
+pub mod Ascending

@@ -1,2 +1,4 @@
 -- The theorems about the definitions, a module a subject.
 pub mod LeftLaws
+pub mod Heaviest
+pub mod Ordering

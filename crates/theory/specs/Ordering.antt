@@ -1,0 +1,277 @@
+-- The ordering over any test `linked`, any candidates without repeats and any first relay among them: it places as many relays
+-- as it takes steps, none twice, and it is maximal. Assumes nothing further of the three.
+use Prim.Native.Nat.{ℕ, zero, suc, _≤_, _<_}
+use mathlib.Core.Bool.{Bool, true, false, not, _&&_, true≢false}
+use mathlib.Core.List.{List, [], _∷_}
+use mathlib.Core.Path.{_≡_, refl, sym, _∙_, ap}
+use native.Mathlib.Omega.{arith}
+use borrow.Author.Tests.{leb-true, leb-false, not-true}
+use lib.Dec.{eqb, leb}
+use lib.ListN.{length, getD, take, length-append}
+use lib.Seq.{take-all, take-append-le, getD-at, getD-take}
+use Rattle.definitions.specs.Lists.{table, has, count}
+use Rattle.definitions.specs.Demand.{NoRepeat}
+use Rattle.definitions.specs.Network.{linked as linkedIn}
+use Rattle.definitions.specs.Order.{weight, unplaced, heaviestOf, nextRelay, placeNext, placedAfter, orderOf}
+use Rattle.lists.specs.Members.{has-at, has-keep, index-of, range-bounds, range-has}
+use Rattle.lists.specs.Distinct.{no-repeat-snoc, distinct, range-no-repeat}
+use Rattle.lists.specs.Counting.{count-has, count-not, count-once, count-present, length-keep, covers}
+use Rattle.lists.specs.Ascending.{Ascending, ascending-keep}
+use Rattle.lists.specs.Tables.{length-table}
+use Rattle.theory.specs.Heaviest.{Chosen, heaviestOf-chosen, chosen-has, chosen-most, chosen-lowest}
+
+and-both : (a b : Bool) → (a && b) ≡ true → (a ≡ true) × (b ≡ true)
+and-both true b e = (refl, e)
+and-both false b e = (e, absurd (true≢false (sym e)))
+
+-- What has no place yet: a candidate that is not placed.
+pub unplaced-has : (placed candidates : List ℕ) (r : ℕ)
+    → has candidates r ≡ true → has placed r ≡ false → has (unplaced placed candidates) r ≡ true
+unfolding unplaced
+unplaced-has placed candidates r c p = has-keep (λ x. not (has placed x)) candidates r ∙ rw (c, p)
+
+pub has-unplaced : (placed candidates : List ℕ) (r : ℕ)
+    → has (unplaced placed candidates) r ≡ true → (has candidates r ≡ true) × (has placed r ≡ false)
+unfolding unplaced
+has-unplaced placed candidates r h =
+    let both = and-both (has candidates r) (not (has placed r)) (sym (has-keep (λ x. not (has placed x)) candidates r) ∙ h) in
+    (both .0, not-true (has placed r) (both .1))
+
+-- While fewer are placed than there are candidates, some have no place.
+pub unplaced-some : (placed candidates : List ℕ) → NoRepeat candidates
+    → length placed < length candidates → 0 < length (unplaced placed candidates)
+unfolding unplaced
+unplaced-some placed candidates unique h =
+    omega (
+      arith,
+      length-keep (λ x. not (has placed x)) candidates,
+      count-not (has placed) candidates,
+      count-has placed candidates unique,
+    )
+
+-- After the first relay the choice is among those that have no place.
+pub next-heaviest : (linked : ℕ → ℕ → Bool) (first : ℕ) (candidates placed : List ℕ) → 0 < length placed
+    → nextRelay linked first candidates placed ≡ heaviestOf (weight linked placed) (unplaced placed candidates)
+unfolding nextRelay
+next-heaviest linked first candidates [] h = absurd (omega arith)
+next-heaviest linked first candidates (p ∷ placed) h = refl
+
+pub placed-length : (linked : ℕ → ℕ → Bool) (first : ℕ) (candidates : List ℕ) (k : ℕ)
+    → length (placedAfter linked first candidates k) ≡ k
+unfolding placedAfter placeNext
+placed-length linked first candidates zero = refl
+placed-length linked first candidates (suc k) =
+    let placed = placedAfter linked first candidates k in
+    omega (
+      arith,
+      length-append placed (nextRelay linked first candidates placed ∷ []),
+      placed-length linked first candidates k,
+    )
+
+-- What is placed keeps its place.
+pub placed-front : (linked : ℕ → ℕ → Bool) (first : ℕ) (candidates : List ℕ) (n k : ℕ) → k ≤ n
+    → placedAfter linked first candidates k ≡ take k (placedAfter linked first candidates n)
+unfolding placedAfter placeNext
+placed-front linked first candidates zero zero h = refl
+placed-front linked first candidates zero (suc k) h = absurd (omega arith)
+placed-front linked first candidates (suc n) k h = go (leb k n) refl (placed-front linked first candidates n k)
+  where
+    go : (b : Bool) → leb k n ≡ b
+        → (k ≤ n → placedAfter linked first candidates k ≡ take k (placedAfter linked first candidates n))
+        → placedAfter linked first candidates k ≡ take k (placedAfter linked first candidates (suc n))
+    go true e rest =
+        let within : k ≤ n = leb-true k n e in
+        let placed = placedAfter linked first candidates n in
+        rest within
+        ∙ sym (take-append-le k placed (nextRelay linked first candidates placed ∷ []) (omega (arith, placed-length linked first candidates n)))
+    go false e rest =
+        let last : k ≡ suc n = omega (arith, leb-false k n e) in
+        let whole = placedAfter linked first candidates (suc n) in
+        ap (placedAfter linked first candidates) last
+        ∙ sym (take-all k whole (omega (arith, placed-length linked first candidates (suc n))))
+
+-- The relay at index k is the one that was chosen when k were placed.
+pub placed-at : (linked : ℕ → ℕ → Bool) (first : ℕ) (candidates : List ℕ) (n k : ℕ) → k < n
+    → getD (placedAfter linked first candidates n) k 0 ≡ nextRelay linked first candidates (placedAfter linked first candidates k)
+unfolding placedAfter placeNext
+placed-at linked first candidates n k h =
+    let placed = placedAfter linked first candidates k in
+    sym (getD-take (suc k) (placedAfter linked first candidates n) k 0 (omega arith))
+    ∙ ap (λ (l : List ℕ). getD l k 0) (sym (placed-front linked first candidates n (suc k) h))
+    ∙ getD-at placed (nextRelay linked first candidates placed) [] 0 k (placed-length linked first candidates k)
+
+module _
+    (linked : ℕ → ℕ → Bool)
+    (first : ℕ)
+    (candidates : List ℕ)
+    (unique : NoRepeat candidates)
+    (firstIn : 0 < length candidates → has candidates first ≡ true)
+  where
+    -- The relay that comes after k: of those without a place the first of the greatest weight.
+    pub next-chosen : (k : ℕ) → 0 < k → k < length candidates
+        → Chosen
+        (weight linked (placedAfter linked first candidates k))
+        (unplaced (placedAfter linked first candidates k) candidates)
+        (nextRelay linked first candidates (placedAfter linked first candidates k))
+    next-chosen k some few =
+        let placed = placedAfter linked first candidates k in
+        let long : length placed ≡ k = placed-length linked first candidates k in
+        rw (next-heaviest linked first candidates placed (omega arith))
+        (heaviestOf-chosen (weight linked placed) (unplaced placed candidates) (unplaced-some placed candidates unique (omega arith)))
+
+    -- Where the candidates rise, the next relay is told by its weight and number: no unplaced one is heavier, and of equals it is
+    -- the lowest.
+    pub next-is : Ascending candidates → (k : ℕ) → 0 < k → k < length candidates → (b : ℕ)
+        → has candidates b ≡ true → has (placedAfter linked first candidates k) b ≡ false
+        → ((y : ℕ) → has candidates y ≡ true → has (placedAfter linked first candidates k) y ≡ false
+        → (weight linked (placedAfter linked first candidates k) y ≤ weight linked (placedAfter linked first candidates k) b)
+        × (weight linked (placedAfter linked first candidates k) y ≡ weight linked (placedAfter linked first candidates k) b → b ≤ y))
+        → nextRelay linked first candidates (placedAfter linked first candidates k) ≡ b
+    unfolding unplaced
+    next-is rise k some few b candidate waits top =
+        let placed = placedAfter linked first candidates k in
+        let w = weight linked placed in
+        let open′ = unplaced placed candidates in
+        let c = nextRelay linked first candidates placed in
+        let chosen : Chosen w open′ c = next-chosen k some few in
+        let cOpen = has-unplaced placed candidates c (chosen-has w open′ c chosen) in
+        let bOpen : has open′ b ≡ true = unplaced-has placed candidates b candidate waits in
+        let up : w b ≤ w c = chosen-most w open′ c chosen b bOpen in
+        let down : (w c ≤ w b) × (w c ≡ w b → b ≤ c) = top c (cOpen .0) (cOpen .1) in
+        let low : b ≤ c = down .1 (omega (arith, down .0)) in
+        let high : b < c → w b < w c =
+        chosen-lowest w open′ c (ascending-keep (λ x. not (has placed x)) candidates rise) chosen b bOpen in
+        let within : ¬ (b < c) = λ h. omega (arith, high h, down .0) in
+        omega arith
+
+    pub next-new : (k : ℕ) → k < length candidates
+        → (has candidates (nextRelay linked first candidates (placedAfter linked first candidates k)) ≡ true)
+        × (has (placedAfter linked first candidates k) (nextRelay linked first candidates (placedAfter linked first candidates k)) ≡ false)
+    unfolding placedAfter nextRelay has
+    next-new zero few = (firstIn few, refl)
+    next-new (suc k) few =
+        let placed = placedAfter linked first candidates (suc k) in
+        let next = nextRelay linked first candidates placed in
+        has-unplaced placed candidates next
+        (chosen-has (weight linked placed) (unplaced placed candidates) next (next-chosen (suc k) (omega arith) few))
+
+    pub placed-no-repeat : (k : ℕ) → k ≤ length candidates → NoRepeat (placedAfter linked first candidates k)
+    unfolding placedAfter placeNext
+    placed-no-repeat zero h = tt
+    placed-no-repeat (suc k) h =
+        let placed = placedAfter linked first candidates k in
+        no-repeat-snoc placed (nextRelay linked first candidates placed) (placed-no-repeat k (omega arith)) (next-new k h .1)
+
+    pub placed-candidates : (k : ℕ) → k ≤ length candidates
+        → (r : ℕ) → has (placedAfter linked first candidates k) r ≡ true → has candidates r ≡ true
+    placed-candidates k h r p =
+        let i = index-of (placedAfter linked first candidates k) r p in
+        let long = placed-length linked first candidates k in
+        let at : i .0 < k = omega (arith, i .1) in
+        let e = sym (placed-at linked first candidates k (i .0) at) ∙ i .2 in
+        rw e at (next-new (i .0) (omega arith) .0)
+
+    -- After as many steps as there are candidates each has its place.
+    pub placed-all : (r : ℕ) → has candidates r ≡ true → has (placedAfter linked first candidates (length candidates)) r ≡ true
+    placed-all =
+        let order = placedAfter linked first candidates (length candidates) in
+        covers candidates order
+        (placed-no-repeat (length candidates) (omega arith))
+        (placed-candidates (length candidates) (omega arith))
+        (omega (arith, placed-length linked first candidates (length candidates)))
+
+    -- A relay that comes at or after index v has no place among the first v.
+    pub later-unplaced : (n v w : ℕ) → n ≤ length candidates → v ≤ w → w < n
+        → has (placedAfter linked first candidates v) (getD (placedAfter linked first candidates n) w 0) ≡ false
+    later-unplaced n v w within h k = go (has placed r) refl
+      where
+        order : List ℕ
+        order = placedAfter linked first candidates n
+
+        placed : List ℕ
+        placed = placedAfter linked first candidates v
+
+        r : ℕ
+        r = getD order w 0
+
+        go : (b : Bool) → has placed r ≡ b → b ≡ false
+        go true e =
+            let i = index-of placed r e in
+            let early : i .0 < v = omega (arith, i .1, placed-length linked first candidates v) in
+            let same : getD order (i .0) 0 ≡ getD order w 0 =
+            sym (getD-take v order (i .0) 0 early)
+            ∙ ap (λ (l : List ℕ). getD l (i .0) 0) (sym (placed-front linked first candidates n v (omega arith)))
+            ∙ i .2 in
+            absurd
+            (distinct order (placed-no-repeat n within) (i .0) w (omega arith) (omega (arith, placed-length linked first candidates n)) same)
+        go false e = refl
+
+    -- Maximal: the relay at index v has at least as many neighbours among the first v as any that comes later.
+    pub placed-maximal : (n v w : ℕ) → n ≤ length candidates → v < w → w < n
+        → count (λ p. linked p (getD (placedAfter linked first candidates n) w 0)) (take v (placedAfter linked first candidates n))
+        ≤ count (λ p. linked p (getD (placedAfter linked first candidates n) v 0)) (take v (placedAfter linked first candidates n))
+    unfolding weight count
+    placed-maximal n zero w within h k = omega arith
+    placed-maximal n (suc v) w within h k =
+        let order = placedAfter linked first candidates n in
+        let placed = placedAfter linked first candidates (suc v) in
+        let r = getD order w 0 in
+        let next = nextRelay linked first candidates placed in
+        let candidate : has candidates r ≡ true =
+        placed-candidates n within r (has-at order w (omega (arith, placed-length linked first candidates n))) in
+        let waits : has (unplaced placed candidates) r ≡ true =
+        unplaced-has placed candidates r candidate (later-unplaced n (suc v) w within (omega arith) k) in
+        let most : weight linked placed r ≤ weight linked placed next =
+        chosen-most (weight linked placed) (unplaced placed candidates) next
+        (next-chosen (suc v) (omega arith) (omega arith)) r waits in
+        rw (placed-at linked first candidates n (suc v) (omega arith), ← placed-front linked first candidates n (suc v) (omega arith)) most
+
+-- The base: all relays from 0 on, relay 0 first.
+module _ (n : ℕ) (lows highs : List ℕ) where
+  pub order-length : length (orderOf n lows highs) ≡ n
+  unfolding orderOf
+  order-length = placed-length (linkedIn lows highs) 0 (table (λ r. r) 0 n) n
+
+  all-long : length (table (λ r. r) 0 n) ≡ n
+  all-long = length-table (λ (r : ℕ). r) 0 n
+
+  zero-first : 0 < length (table (λ r. r) 0 n) → has (table (λ r. r) 0 n) 0 ≡ true
+  zero-first h = range-has 0 n 0 (omega arith) (omega (arith, all-long))
+
+  pub order-no-repeat : NoRepeat (orderOf n lows highs)
+  unfolding orderOf
+  order-no-repeat =
+      placed-no-repeat (linkedIn lows highs) 0 (table (λ r. r) 0 n) (range-no-repeat 0 n) zero-first n (omega (arith, all-long))
+
+  pub order-below : (r : ℕ) → has (orderOf n lows highs) r ≡ true → r < n
+  unfolding orderOf
+  order-below r h =
+      let all = table (λ r. r) 0 n in
+      let candidate =
+      placed-candidates (linkedIn lows highs) 0 all (range-no-repeat 0 n) zero-first n (omega (arith, all-long)) r h in
+      omega (arith, range-bounds 0 n r candidate)
+
+  pub order-has : (r : ℕ) → r < n → has (orderOf n lows highs) r ≡ true
+  unfolding orderOf
+  order-has r h =
+      let all = table (λ r. r) 0 n in
+      let placed =
+      placed-all (linkedIn lows highs) 0 all (range-no-repeat 0 n) zero-first r (range-has 0 n r (omega arith) (omega arith)) in
+      rw all-long at placed
+
+  pub order-once : (r : ℕ) → r < n → count (eqb r) (orderOf n lows highs) ≡ 1
+  order-once r h =
+      let order = orderOf n lows highs in
+      omega (arith, count-once r order order-no-repeat, count-present r order (order-has r h))
+
+  pub order-at : (v : ℕ) → v < n → getD (orderOf n lows highs) v 0 < n
+  order-at v h =
+      let order = orderOf n lows highs in
+      order-below (getD order v 0) (has-at order v (omega (arith, order-length)))
+
+  pub order-maximal : (v w : ℕ) → v < w → w < n
+      → count (λ p. linkedIn lows highs p (getD (orderOf n lows highs) w 0)) (take v (orderOf n lows highs))
+      ≤ count (λ p. linkedIn lows highs p (getD (orderOf n lows highs) v 0)) (take v (orderOf n lows highs))
+  unfolding orderOf
+  order-maximal v w h k =
+      placed-maximal (linkedIn lows highs) 0 (table (λ r. r) 0 n) (range-no-repeat 0 n) zero-first n v w (omega (arith, all-long)) h k
