@@ -1,20 +1,17 @@
 -- Lists whose entries rise strictly.
 use Prim.Native.Nat.{ℕ, zero, suc, _+_, _<_}
-use mathlib.Core.Bool.{Bool, true, false, _&&_}
+use mathlib.Core.Bool.{Bool, true, false}
 use mathlib.Core.List.{List, [], _∷_}
-use mathlib.Core.Path.{_≡_, refl, sym, _∙_}
+use mathlib.Core.Path.{_≡_, sym, _∙_}
 use native.Mathlib.Omega.{arith}
 use lib.ListN.{length, getD}
 use Rattle.definitions.specs.Lists.{table, consIf, keep, has}
+use Rattle.lists.specs.Tests.{and-both}
 use Rattle.lists.specs.Members.{has-at, has-keep, range-bounds}
 
 abbrev pub Ascending : List ℕ → Type 0
 Ascending [] = Unit {0}
 Ascending (x ∷ l) = ((y : ℕ) → has l y ≡ true → x < y) × Ascending l
-
-pub and-left : (a b : Bool) → (a && b) ≡ true → a ≡ true
-and-left true b e = refl
-and-left false b e = e
 
 pub ascending-keep : (test : ℕ → Bool) (l : List ℕ) → Ascending l → Ascending (keep test l)
 unfolding keep consIf
@@ -22,7 +19,7 @@ ascending-keep test [] a = tt
 ascending-keep test (x ∷ l) a = go (test x) (ascending-keep test l (a .1))
   where
     go : (t : Bool) → Ascending (keep test l) → Ascending (consIf t x (keep test l))
-    go true r = (λ y h. a .0 y (and-left (has l y) (test y) (sym (has-keep test l y) ∙ h)), r)
+    go true r = (λ y h. a .0 y (and-both (has l y) (test y) (sym (has-keep test l y) ∙ h) .0), r)
     go false r = r
 
 pub ascending-range : (i n : ℕ) → Ascending (table (λ r. r) i n)

@@ -10,7 +10,7 @@ use lib.ListN.{length}
 use Rattle.definitions.specs.Outcome.{pick}
 use Rattle.definitions.specs.Lists.{consIf, keep, has, count}
 use Rattle.definitions.specs.Demand.{NoRepeat}
-use Rattle.lists.specs.Members.{or-left, or-right, eqb-sym}
+use Rattle.lists.specs.Tests.{or-left, or-right, eqb-sym}
 
 pub count-append : (test : ℕ → Bool) (l k : List ℕ) → count test (l ++ k) ≡ count test l + count test k
 unfolding count

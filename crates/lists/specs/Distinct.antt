@@ -9,7 +9,8 @@ use lib.Dec.{eqb, ltb}
 use lib.ListN.{length, getD}
 use Rattle.definitions.specs.Lists.{table, consIf, keep, has}
 use Rattle.definitions.specs.Demand.{NoRepeat}
-use Rattle.lists.specs.Members.{or-left, or-right, or-false, eqb-sym, has-append, has-at, has-keep, has-map, range-bounds}
+use Rattle.lists.specs.Tests.{or-left, or-right, or-false, eqb-sym}
+use Rattle.lists.specs.Members.{has-append, has-at, has-keep, has-map, range-bounds}
 
 pub no-repeat-snoc : (l : List ℕ) (x : ℕ) → NoRepeat l → has l x ≡ false → NoRepeat (l ++ (x ∷ []))
 unfolding has

@@ -1,5 +1,8 @@
 -- Facts on the lists and tests of `definitions`, a module a subject. They know nothing of networks.
 pub mod Tables
+pub mod Tests
+pub mod Outcomes
+pub mod Below
 pub mod Members
 pub mod Distinct
 pub mod Counting

@@ -2,3 +2,4 @@
 pub mod LeftLaws
 pub mod Heaviest
 pub mod Ordering
+pub mod Accepted

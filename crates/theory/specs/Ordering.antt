@@ -1,7 +1,7 @@
 -- The ordering over any test `linked`, any candidates without repeats and any first relay among them: it places as many relays
 -- as it takes steps, none twice, and it is maximal. Assumes nothing further of the three.
 use Prim.Native.Nat.{ℕ, zero, suc, _≤_, _<_}
-use mathlib.Core.Bool.{Bool, true, false, not, _&&_, true≢false}
+use mathlib.Core.Bool.{Bool, true, false, not}
 use mathlib.Core.List.{List, [], _∷_}
 use mathlib.Core.Path.{_≡_, refl, sym, _∙_, ap}
 use native.Mathlib.Omega.{arith}
@@ -13,16 +13,13 @@ use Rattle.definitions.specs.Lists.{table, has, count}
 use Rattle.definitions.specs.Demand.{NoRepeat}
 use Rattle.definitions.specs.Network.{linked as linkedIn}
 use Rattle.definitions.specs.Order.{weight, unplaced, heaviestOf, nextRelay, placeNext, placedAfter, orderOf}
+use Rattle.lists.specs.Tests.{and-both}
 use Rattle.lists.specs.Members.{has-at, has-keep, index-of, range-bounds, range-has}
 use Rattle.lists.specs.Distinct.{no-repeat-snoc, distinct, range-no-repeat}
 use Rattle.lists.specs.Counting.{count-has, count-not, count-once, count-present, length-keep, covers}
 use Rattle.lists.specs.Ascending.{Ascending, ascending-keep}
 use Rattle.lists.specs.Tables.{length-table}
 use Rattle.theory.specs.Heaviest.{Chosen, heaviestOf-chosen, chosen-has, chosen-most, chosen-lowest}
-
-and-both : (a b : Bool) → (a && b) ≡ true → (a ≡ true) × (b ≡ true)
-and-both true b e = (refl, e)
-and-both false b e = (e, absurd (true≢false (sym e)))
 
 -- What has no place yet: a candidate that is not placed.
 pub unplaced-has : (placed candidates : List ℕ) (r : ℕ)

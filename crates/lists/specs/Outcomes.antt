@@ -1,0 +1,28 @@
+-- Outcomes step by step: which refusals were passed, and what stands after them.
+use Prim.Native.Nat.{ℕ}
+use mathlib.Core.Bool.{Bool, true, false}
+use mathlib.Core.Path.{_≡_, refl}
+use native.Mathlib.Omega.{arith}
+use Rattle.definitions.specs.Outcome.{Outcome, done, refuseIf, andThen, ifDone}
+
+-- A step that refuses is passed only where its test fails.
+pub not-refused : {A : Type 0} (b : Bool) (number place : ℕ) (rest : Outcome A) (value : A)
+    → refuseIf b number place rest ≡ done value → (b ≡ false) × (rest ≡ done value)
+unfolding refuseIf
+not-refused true number place rest value h =
+    let z : _≡_ {A = ℕ} 0 1 = cc in
+    absurd (omega arith)
+not-refused false number place rest value h = (refl, h)
+
+pub refuse-not : {A : Type 0} (b : Bool) (number place : ℕ) (rest : Outcome A) → b ≡ false → refuseIf b number place rest ≡ rest
+unfolding refuseIf
+refuse-not b number place rest e = rw e refl
+
+pub then-done : {A B : Type 0} (outcome : Outcome A) (next : A → Outcome B) (value : A)
+    → outcome ≡ done value → andThen outcome next ≡ next value
+unfolding andThen
+then-done outcome next value e = rw e refl
+
+pub if-done : {A B : Type 0} (outcome : Outcome A) (value : A) (new old : B) → outcome ≡ done value → ifDone outcome new old ≡ new
+unfolding ifDone
+if-done outcome value new old e = rw e refl
