@@ -3,3 +3,4 @@ pub mod LeftLaws
 pub mod Heaviest
 pub mod Ordering
 pub mod Accepted
+pub mod Places
