@@ -1,0 +1,2 @@
+-- The theorems about the network text, a module a subject.
+pub mod Decimal
