@@ -7,3 +7,5 @@ pub mod Members
 pub mod Distinct
 pub mod Counting
 pub mod Ascending
+pub mod Parts
+pub mod Ranges

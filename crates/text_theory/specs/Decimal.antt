@@ -4,8 +4,9 @@ use Prim.Native.Nat.{ℕ, zero, suc, _+_, _*_, _/_, _%_, _^_, _≤_, _<_}
 use mathlib.Core.Bool.{Bool, true, false}
 use mathlib.Core.List.{List, [], _∷_, _++_}
 use mathlib.Core.Path.{_≡_, refl, sym, _∙_, ap}
+use native.Mathlib.Nat.{one-le-pow}
 use native.Mathlib.Omega.{arith}
-use lib.Dec.{ltb}
+use lib.Dec.{ltb, lit<}
 use lib.ListN.{length, getD, length-append, List·getD-append}
 use borrow.Author.Tests.{lt-ltb, le-ltb, ltb-true, ltb-false}
 use Rattle.definitions.specs.Form.{decimalWithin, decimal}
@@ -105,6 +106,20 @@ length-decimal-at-most (suc more) x h = go (ltb x 10) refl (length-decimal-at-mo
     go : (b : Bool) → ltb x 10 ≡ b → length (decimal (x / 10)) ≤ suc more → length (decimal x) ≤ suc (suc more)
     go true e hyp = omega (arith, length-decimal-one x (ltb-true x 10 e))
     go false e hyp = omega (arith, length-decimal-tens x (ltb-false x 10 e))
+
+-- A number of at most `more` + 1 digits is below 10 to that power.
+pub decimal-below : (more x : ℕ) → length (decimal x) ≤ suc more → x < 10 ^ suc more
+decimal-below zero x h = go (ltb x 10) refl
+  where
+    go : (b : Bool) → ltb x 10 ≡ b → x < 10
+    go true e = ltb-true x 10 e
+    go false e =
+        absurd (omega (arith, length-decimal-tens x (ltb-false x 10 e), decimal-not-empty (x / 10)))
+decimal-below (suc more) x h = go (ltb x 10) refl (decimal-below more (x / 10))
+  where
+    go : (b : Bool) → ltb x 10 ≡ b → (length (decimal (x / 10)) ≤ suc more → x / 10 < 10 ^ suc more) → x < 10 ^ suc (suc more)
+    go true e hyp = omega (arith, ltb-true x 10 e, one-le-pow more 10 (lit< tt))
+    go false e hyp = omega (arith, hyp (omega (arith, length-decimal-tens x (ltb-false x 10 e))))
 
 -- Every byte is a digit, 48 to 57.
 abbrev pub Digits : List ℕ → Type 0

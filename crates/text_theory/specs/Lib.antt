@@ -1,2 +1,3 @@
 -- The theorems about the network text, a module a subject.
 pub mod Decimal
+pub mod Numbers
