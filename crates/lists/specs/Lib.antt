@@ -9,3 +9,5 @@ pub mod Counting
 pub mod Ascending
 pub mod Positions
 pub mod Overwritten
+pub mod Parts
+pub mod Ranges

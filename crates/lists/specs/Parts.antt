@@ -1,0 +1,91 @@
+-- Parts of a list by their first index and the index behind them, and how they join.
+-- Assumes nothing.
+use Prim.Native.Nat.{ℕ, _+_, _-_, _≤_, _<_}
+use mathlib.Core.List.{List, [], _∷_, _++_, append-assoc, append-nil}
+use mathlib.Core.Path.{_≡_, refl, sym, _∙_, ap}
+use native.Mathlib.Nat.{add-zero}
+use native.Mathlib.Numerals.{add-one}
+use native.Mathlib.Omega.{arith}
+use lib.ListN.{length, getD, take, drop, length-append}
+use lib.Seq.{drop-cons, drop-drop, getD-drop, take-at, drop-length, drop-append-seam, drop-append-add, getD-append-add}
+
+-- From index p up to, not including, index q the list is `part`.
+pub record Part (list : List ℕ) (p : ℕ) (part : List ℕ) (q : ℕ) : Type 0 where
+  pub follows : drop p list ≡ part ++ drop q list
+  pub reaches : q ≡ p + length part
+  pub within : q ≤ length list
+
+pub part-empty : (list : List ℕ) (p : ℕ) → p ≤ length list → Part list p [] p
+part-empty list p h = record { follows = refl; reaches = sym (add-zero p); within = h }
+
+pub part-cons : (list part : List ℕ) (p q : ℕ) → p < length list → Part list (p + 1) part q → Part list p (getD list p 0 ∷ part) q
+part-cons list part p q h rest =
+    record {
+      follows = drop-cons list p 0 h ∙ rw (← add-one p) (ap (λ (l : List ℕ). getD list p 0 ∷ l) (rest .follows));
+      reaches = omega (arith, rest .reaches);
+      within = rest .within;
+    }
+
+pub part-head : (list part : List ℕ) (b p q : ℕ) → Part list p (b ∷ part) q → getD list p 0 ≡ b
+part-head list part b p q h =
+    ap (λ (i : ℕ). getD list i 0) (sym (add-zero p)) ∙ sym (getD-drop p list 0 0) ∙ ap (λ (l : List ℕ). getD l 0 0) (h .follows)
+
+pub part-tail : (list part : List ℕ) (b p q : ℕ) → Part list p (b ∷ part) q → Part list (p + 1) part q
+part-tail list part b p q h =
+    record {
+      follows = sym (drop-drop 1 p list) ∙ ap (drop 1) (h .follows);
+      reaches = omega (arith, h .reaches);
+      within = h .within;
+    }
+
+pub part-append : (list s t : List ℕ) (p q r : ℕ) → Part list p s q → Part list q t r → Part list p (s ++ t) r
+part-append list s t p q r one other =
+    record {
+      follows = one .follows ∙ ap (λ (l : List ℕ). s ++ l) (other .follows) ∙ sym (append-assoc s t (drop r list));
+      reaches = omega (arith, one .reaches, other .reaches, length-append s t);
+      within = other .within;
+    }
+
+-- The second of two parts that join, and the first.
+pub part-second : (list s t : List ℕ) (p r : ℕ) → Part list p (s ++ t) r → Part list (p + length s) t r
+part-second list s t p r h =
+    record {
+      follows = sym (drop-drop (length s) p list)
+          ∙ ap (drop (length s)) (h .follows ∙ append-assoc s t (drop r list))
+          ∙ drop-append-seam s (t ++ drop r list);
+      reaches = omega (arith, h .reaches, length-append s t);
+      within = h .within;
+    }
+
+pub part-first : (list s t : List ℕ) (p r : ℕ) → Part list p (s ++ t) r → Part list p s (p + length s)
+part-first list s t p r h =
+    record {
+      follows = h .follows ∙ append-assoc s t (drop r list) ∙ ap (λ (l : List ℕ). s ++ l) (sym (part-second list s t p r h .follows));
+      reaches = refl;
+      within = omega (arith, h .reaches, h .within, length-append s t);
+    }
+
+pub part-of-append : (front part rest : List ℕ) → Part (front ++ (part ++ rest)) (length front) part (length front + length part)
+part-of-append front part rest =
+    record {
+      follows = drop-append-seam front (part ++ rest)
+          ∙ ap (λ (l : List ℕ). part ++ l) (sym (drop-append-add front (part ++ rest) (length part) ∙ drop-append-seam part rest));
+      reaches = refl;
+      within = omega (arith, length-append front (part ++ rest), length-append part rest);
+    }
+
+-- The entry behind the part.
+pub part-behind : (front part rest : List ℕ) → getD (front ++ (part ++ rest)) (length front + length part) 0 ≡ getD rest 0 0
+part-behind front part rest =
+    getD-append-add front (part ++ rest) (length part) 0
+    ∙ ap (λ (i : ℕ). getD (part ++ rest) i 0) (sym (add-zero (length part)))
+    ∙ getD-append-add part rest 0 0
+
+-- The part as it is cut out of the list.
+pub part-taken : (list part : List ℕ) (p q : ℕ) → Part list p part q → take (q - p) (drop p list) ≡ part
+part-taken list part p q h =
+    rw (h .follows) (take-at part (drop q list) (q - p) (omega (arith, h .reaches)))
+
+-- The part that is the whole list.
+pub part-whole : (list part : List ℕ) → Part list 0 part (length list) → part ≡ list
+part-whole list part h = sym (append-nil part) ∙ sym (h .follows ∙ ap (λ (l : List ℕ). part ++ l) (drop-length list))

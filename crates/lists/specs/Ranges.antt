@@ -1,0 +1,43 @@
+-- What the test `outside` tells of a number, and its value from what is known of the number.
+-- Assumes nothing.
+use Prim.Native.Nat.{ℕ, _≤_, _<_}
+use mathlib.Core.Bool.{Bool, true, false, _||_}
+use mathlib.Core.Logic.{_⊎_, inl, inr}
+use mathlib.Core.Path.{_≡_, refl}
+use native.Mathlib.Omega.{arith}
+use lib.Dec.{ltb}
+use borrow.Author.Tests.{lt-ltb, le-ltb, ltb-true, ltb-false}
+use Rattle.definitions.specs.Lists.{outside}
+
+-- A test of two parts.
+pub or-false : (a b : Bool) → (a || b) ≡ false → (a ≡ false) × (b ≡ false)
+or-false true b e =
+    let z : _≡_ {A = ℕ} 0 1 = cc in
+    absurd (omega arith)
+or-false false b e = (refl, e)
+
+pub or-true : (a b : Bool) → (a || b) ≡ true → (a ≡ true) ⊎ (b ≡ true)
+or-true true b e = inl refl
+or-true false b e = inr e
+
+pub inside : (low high x : ℕ) → low ≤ x → x ≤ high → outside low high x ≡ false
+unfolding outside
+inside low high x a b = rw (le-ltb x low a, le-ltb high x b)
+
+pub below : (low high x : ℕ) → x < low → outside low high x ≡ true
+unfolding outside
+below low high x a = rw (lt-ltb x low a)
+
+pub inside-range : (low high x : ℕ) → outside low high x ≡ false → (low ≤ x) × (x ≤ high)
+unfolding outside
+inside-range low high x e =
+    let both = or-false (ltb x low) (ltb high x) e in
+    (ltb-false x low (both .0), ltb-false high x (both .1))
+
+pub outside-range : (low high x : ℕ) → outside low high x ≡ true → (x < low) ⊎ (high < x)
+unfolding outside
+outside-range low high x e = go (or-true (ltb x low) (ltb high x) e)
+  where
+    go : (ltb x low ≡ true) ⊎ (ltb high x ≡ true) → (x < low) ⊎ (high < x)
+    go (inl h) = inl (ltb-true x low h)
+    go (inr h) = inr (ltb-true high x h)

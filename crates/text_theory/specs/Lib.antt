@@ -1,0 +1,4 @@
+-- The theorems about the network text, a module a subject.
+pub mod Decimal
+pub mod Numbers
+pub mod Forms

@@ -1,0 +1,1 @@
+// No functions: the theorems about the network text stand in specs/.
