@@ -11,3 +11,5 @@ pub mod Positions
 pub mod Overwritten
 pub mod Parts
 pub mod Ranges
+pub mod SomeBelow
+pub mod Bitmap

@@ -1,0 +1,26 @@
+-- `network::pair_index` meets its contract: pair numbers are below 499,500. Assumes nothing.
+use borrow.Author.Needs.{needs}
+use native.Mathlib.Omega.{arith}
+use Rattle.definitions.specs.Network.{pairNumber}
+use Rattle.network.specs.Pairs.{pair-below}
+use Rattle.network.proofs.pair_index.Statement.{statement}
+use Rattle.network.proofs.pair_index.Tie as tie
+
+row-start-requires : tie.Need-row-start-requires
+row-start-requires c κs = search needs
+
+add-result : tie.Need-add-result
+unfolding pairNumber
+add-result c =
+    omega (
+      arith,
+      c .row-start .ensures,
+      pair-below (c .before .args .a) (c .before .args .b) (c .before .pre .0) (c .before .pre .1),
+    )
+
+returns : tie.Need-returns
+unfolding pairNumber
+returns c = omega (arith, c .row-start .ensures)
+
+pub pair-index-spec : {M : Type 1} → statement M
+pair-index-spec = tie.close (tie.spec row-start-requires add-result returns)

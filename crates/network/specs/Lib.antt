@@ -1,0 +1,4 @@
+-- The words of the contracts and the facts that they rest on, a module a subject.
+pub mod Pairs
+pub mod Marks
+pub mod Seen

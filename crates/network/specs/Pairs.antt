@@ -1,0 +1,63 @@
+-- Pair numbers: different pairs a b, a below b, have different ones, and up to relay 999 they lie below 499,500.
+-- Assumes nothing.
+use Prim.Native.Nat.{ℕ, zero, suc, _+_, _-_, _*_, _/_, _≤_, _<_}
+use mathlib.Core.Bool.{Bool, true, false, _&&_}
+use mathlib.Core.Path.{_≡_, refl, sym, _∙_, ap}
+use native.Mathlib.Decide.{le-ind}
+use native.Mathlib.Nat.{mul-suc, suc-mul, mul-le-mul}
+use native.Mathlib.Omega.{arith}
+use borrow.Author.Tests.{eq-eqb, ne-eqb, eqb-true, eqb-false, ltb-true, ltb-false}
+use lib.Dec.{eqb, ltb}
+use Rattle.definitions.specs.Network.{rowStart, pairNumber}
+
+-- Row b has b pairs.
+next-row : (b : ℕ) → rowStart (suc b) ≡ rowStart b + b
+unfolding rowStart
+next-row zero = refl
+next-row (suc b) =
+    let high : suc (suc b) * (suc (suc b) - 1) ≡ suc (suc b) * suc b = ap (λ (x : ℕ). suc (suc b) * x) (omega arith) in
+    let low : suc b * (suc b - 1) ≡ suc b * b = ap (λ (x : ℕ). suc b * x) (omega arith) in
+    omega (arith, high, low, suc-mul (suc b) (suc b), mul-suc (suc b) b)
+
+rows-rise : (b c : ℕ) → b ≤ c → rowStart b ≤ rowStart c
+rows-rise b = le-ind (λ c. rowStart b ≤ rowStart c) (omega arith) λ c _ h. omega (arith, next-row c)
+
+in-row : (a b : ℕ) → a < b → (rowStart b ≤ pairNumber a b) × (pairNumber a b < rowStart (suc b))
+unfolding pairNumber
+in-row a b h = omega (arith, next-row b)
+
+-- The product that a row start is half of is small.
+pub row-product : (b : ℕ) → b < 1000 → b * (b - 1) ≤ 999 * 998
+row-product b h = mul-le-mul {n₂ = 999} {m₂ = 998} (omega arith) (omega arith)
+
+last-row : rowStart 1000 ≡ 499500
+unfolding rowStart
+last-row = refl
+
+pub pair-below : (a b : ℕ) → a < b → b < 1000 → pairNumber a b < 499500
+pair-below a b h k = omega (arith, in-row a b h, rows-rise (suc b) 1000 k, last-row)
+
+same-row : (a b c d : ℕ) → a < b → c < d → pairNumber a b ≡ pairNumber c d → b < d → ⊥
+same-row a b c d h k e l = omega (arith, in-row a b h, in-row c d k, rows-rise (suc b) d l)
+
+pub pair-high : (a b c d : ℕ) → a < b → c < d → pairNumber a b ≡ pairNumber c d → b ≡ d
+pair-high a b c d h k e = go (ltb b d) (ltb d b) refl refl
+  where
+    go : (less more : Bool) → ltb b d ≡ less → ltb d b ≡ more → b ≡ d
+    go true more p q = absurd (same-row a b c d h k e (ltb-true b d p))
+    go false true p q = absurd (same-row c d a b k h (sym e) (ltb-true d b q))
+    go false false p q = omega (arith, ltb-false b d p, ltb-false d b q)
+
+pub pair-low : (a b c d : ℕ) → a < b → c < d → pairNumber a b ≡ pairNumber c d → a ≡ c
+unfolding pairNumber
+pair-low a b c d h k e = omega (arith, e, ap rowStart (pair-high a b c d h k e))
+
+-- Two pairs are the same exactly if their numbers are.
+pub pair-test : (a b c d : ℕ) → a < b → c < d → eqb (pairNumber a b) (pairNumber c d) ≡ (eqb c a && eqb d b)
+pair-test a b c d h k = go (eqb c a) (eqb d b) refl refl
+  where
+    go : (low high : Bool) → eqb c a ≡ low → eqb d b ≡ high → eqb (pairNumber a b) (pairNumber c d) ≡ (low && high)
+    go true true p q = eq-eqb (pairNumber a b) (pairNumber c d) (cc (eqb-true c a p, eqb-true d b q))
+    go false true p q = ne-eqb (pairNumber a b) (pairNumber c d) (λ e. eqb-false c a p (sym (pair-low a b c d h k e)))
+    go true false p q = ne-eqb (pairNumber a b) (pairNumber c d) (λ e. eqb-false d b q (sym (pair-high a b c d h k e)))
+    go false false p q = ne-eqb (pairNumber a b) (pairNumber c d) (λ e. eqb-false c a p (sym (pair-low a b c d h k e)))
