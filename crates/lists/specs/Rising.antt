@@ -151,3 +151,32 @@ rising-length test (suc v) = go (test (suc v)) (rising-length test v)
     go : (b : Bool) → length (rising test v) ≤ v → length (snocIf b (rising test v) (suc v)) ≤ suc v
     go true h = omega (arith, length-append (rising test v) (suc v ∷ []))
     go false h = omega arith
+
+-- A number that passes stands behind those below it that pass.
+pub rising-at : (test : ℕ → Bool) (v u : ℕ) → suc u ≤ v → test (suc u) ≡ true
+    → (length (rising test u) < length (rising test v)) × (getD (rising test v) (length (rising test u)) 0 ≡ suc u)
+unfolding rising snocIf
+rising-at test zero u h e = absurd (omega arith)
+rising-at test (suc v) u h e = go (eqb u v) refl (test (suc v)) refl (rising-at test v u)
+  where
+    go : (s : Bool) → eqb u v ≡ s → (b : Bool) → test (suc v) ≡ b
+        → (suc u ≤ v → test (suc u) ≡ true
+        → (length (rising test u) < length (rising test v)) × (getD (rising test v) (length (rising test u)) 0 ≡ suc u))
+        → (length (rising test u) < length (snocIf b (rising test v) (suc v)))
+        × (getD (snocIf b (rising test v) (suc v)) (length (rising test u)) 0 ≡ suc u)
+    go true p true q rest =
+        let same : u ≡ v = eqb-true u v p in
+        let behind : length (rising test v) ≡ length (rising test u) = ap (λ (x : ℕ). length (rising test x)) (sym same) in (
+          omega (arith, length-append (rising test v) (suc v ∷ [])),
+          getD-at (rising test v) (suc v) [] 0 (length (rising test u)) behind ∙ ap suc (sym same),
+        )
+    go true p false q rest = absurd (true≢false (sym e ∙ ap (λ (x : ℕ). test (suc x)) (eqb-true u v p) ∙ q))
+    go false p true q rest =
+        let apart : u ≢ v = eqb-false u v p in
+        let r = rest (omega arith) e in (
+          omega (arith, r .0, length-append (rising test v) (suc v ∷ [])),
+          List·getD-append (rising test v) (suc v ∷ []) 0 (length (rising test u)) (r .0) ∙ r .1,
+        )
+    go false p false q rest =
+        let apart : u ≢ v = eqb-false u v p in
+        rest (omega arith) e

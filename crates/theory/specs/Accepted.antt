@@ -133,7 +133,10 @@ accepted-intro n lows highs t =
         go : (b : Bool) → isPair lows highs (getD lows j 0) (getD highs j 0) i ≡ b → b ≡ false
         go true e =
             let both = and-both (eqb (getD lows i 0) (getD lows j 0)) (eqb (getD highs i 0) (getD highs j 0)) e in
-            absurd (t .once i j p q (eqb-true (getD lows i 0) (getD lows j 0) (both .0)) (eqb-true (getD highs i 0) (getD highs j 0) (both .1)))
+            absurd
+            (t .once i j p q
+            (eqb-true (getD lows i 0) (getD lows j 0) (both .0))
+            (eqb-true (getD highs i 0) (getD highs j 0) (both .1)))
         go false e = refl
 
     good : (j : ℕ) → j < length lows → GoodLink n lows highs j (getD lows j 0) (getD highs j 0)

@@ -47,8 +47,10 @@ module _
     in-forest f j h =
         let test : ℕ → Bool = λ x. eqb f (forestOf (linked lows highs) order lows highs x) in
         let all = table (λ r. r) 0 (length lows) in
-        let both = and-both (has all j) (test j) (sym (has-keep test all j) ∙ h) in
-        (omega (arith, range-bounds 0 (length lows) j (both .0)), eqb-true f (forestOf (linked lows highs) order lows highs j) (both .1))
+        let both = and-both (has all j) (test j) (sym (has-keep test all j) ∙ h) in (
+          omega (arith, range-bounds 0 (length lows) j (both .0)),
+          eqb-true f (forestOf (linked lows highs) order lows highs j) (both .1),
+        )
 
     -- The later place tells the link of a forest: left gives the earlier one.
     told-by-place : (f i j : ℕ) → has (linksIn order lows highs f) i ≡ true → has (linksIn order lows highs f) j ≡ true
@@ -70,9 +72,11 @@ module _
         let w = has-map (laterPlace order lows highs) (linksIn order lows highs f) v h in
         let a = in-forest f (w .0) (w .1) in
         let link = each (w .0) (a .0) in
-        let there : 0 < left (linked lows highs) order (forestOf (linked lows highs) order lows highs (w .0)) (laterPlace order lows highs (w .0)) =
+        let number = forestOf (linked lows highs) order lows highs (w .0) in
+        let later = laterPlace order lows highs (w .0) in
+        let there : 0 < left (linked lows highs) order number later =
         omega (arith, link .isLeft, link .some) in
-        let index = left-index (linked lows highs) order (forestOf (linked lows highs) order lows highs (w .0)) (laterPlace order lows highs (w .0)) there in
+        let index = left-index (linked lows highs) order number later there in
         range-has (suc f) (length order - f) v (omega (arith, w .2, a .1)) (omega (arith, w .2, a .1, link .within))
 
     pub forest-size : (f : ℕ) → length (linksIn order lows highs f) ≤ length order - f

@@ -33,7 +33,8 @@ pub record LinkForest (order lows highs : List ℕ) (i : ℕ) : Type 0 where
   pub some : 1 ≤ earlierPlace order lows highs i
   pub under : earlierPlace order lows highs i < laterPlace order lows highs i
   pub within : laterPlace order lows highs i ≤ length order
-  pub ends : joins lows highs (relayAt order (earlierPlace order lows highs i)) (relayAt order (laterPlace order lows highs i)) i ≡ true
+  pub ends : joins lows highs (relayAt order (earlierPlace order lows highs i)) (relayAt order (laterPlace order lows highs i)) i
+      ≡ true
   pub forest : 1 ≤ forestOf (linked lows highs) order lows highs i
   pub small : forestOf (linked lows highs) order lows highs i < length order
   pub isLeft : left (linked lows highs) order (forestOf (linked lows highs) order lows highs i) (laterPlace order lows highs i)
@@ -107,7 +108,9 @@ module _ (order lows highs : List ℕ) where
   left-link unique f v h =
       let w = linked-joined lows highs (relayAt order u) (relayAt order v) (left-linked (linked lows highs) order f v h) in
       let places = go (w .0) (joins-ends lows highs (relayAt order u) (relayAt order v) (w .0) (w .2)) in
-      (w .0, w .1, w .2, places .0, places .1, ap₂ (forestBetween (linked lows highs) order) (places .0) (places .1) ∙ forest-left (linked lows highs) order f v h)
+      let number : forestOf (linked lows highs) order lows highs (w .0) ≡ f =
+      ap₂ (forestBetween (linked lows highs) order) (places .0) (places .1) ∙ forest-left (linked lows highs) order f v h in
+      (w .0, w .1, w .2, places .0, places .1, number)
     where
       u : ℕ
       u = left (linked lows highs) order f v

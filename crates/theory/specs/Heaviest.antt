@@ -1,4 +1,5 @@
--- The choice of the ordering's next relay: the greatest weight, of equals the first in the list, or the lowest number where the list rises.
+-- The choice of the ordering's next relay: the greatest weight, of equals the first in the list; where the list rises, the
+-- lowest number.
 use Prim.Native.Nat.{ℕ, zero, suc, _≤_, _<_}
 use mathlib.Core.Bool.{Bool, true, false}
 use mathlib.Core.List.{List, [], _∷_}

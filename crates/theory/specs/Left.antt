@@ -11,11 +11,12 @@ use lib.ListN.{length, getD, take, List·getD-eq-default}
 use Rattle.definitions.specs.Outcome.{pick}
 use Rattle.definitions.specs.Lists.{rising, has, count}
 use Rattle.definitions.specs.Network.{linked as linkedIn}
-use Rattle.definitions.specs.Order.{orderOf, relayAt}
+use Rattle.definitions.specs.Order.{weight, orderOf, relayAt}
 use Rattle.definitions.specs.Forests.{earlier, left, forestBetween}
 use Rattle.definitions.specs.Route.{leftOf}
 use Rattle.lists.specs.Positions.{position-which, position-at}
-use Rattle.lists.specs.Rising.{rising-entry, rising-has, rising-no-repeat, rising-ascends, rising-front, rising-count, rising-length}
+use Rattle.lists.specs.Rising.{rising-entry, rising-has, rising-no-repeat, rising-ascends, rising-front}
+use Rattle.lists.specs.Rising.{rising-count, rising-length, rising-at}
 use Rattle.theory.specs.LeftLaws.{LeftLaws}
 use Rattle.theory.specs.Ordering.{order-length, order-maximal}
 
@@ -109,6 +110,17 @@ module _ (linked : ℕ → ℕ → Bool) (order : List ℕ) where
       let test : ℕ → Bool = λ x. linked (relayAt order x) (relayAt order v) in
       rw (r .4, earlier-in v (r .1) (r .2))
       (position-at (rising test (pred v)) (rising-no-repeat test (pred v)) (pred i) (r .3) ∙ (omega (arith, r .0)))
+
+  -- The forest of a link is one more than the number of neighbours of its later end before the earlier one.
+  pub forest-weight : (u v : ℕ) → suc u < v → v ≤ length order → linked (relayAt order (suc u)) (relayAt order v) ≡ true
+      → forestBetween linked order (suc u) v ≡ suc (weight linked (take u order) (relayAt order v))
+  unfolding forestBetween weight relayAt
+  forest-weight u v h k e =
+      let test : ℕ → Bool = λ x. linked (relayAt order x) (relayAt order v) in
+      let r = rising-at test (pred v) u (omega arith) e in
+      let number = position-at (rising test (pred v)) (rising-no-repeat test (pred v)) (length (rising test u)) (r .0) in
+      let early = rising-count (λ p. linked p (relayAt order v)) order u (omega arith) in
+      rw (earlier-in v (omega arith) k) ((rw (r .1) at number) ∙ ap suc early)
 
   pub laws-of-left : Maximal linked order → LeftLaws (left linked order)
   unfolding relayAt

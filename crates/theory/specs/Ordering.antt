@@ -80,7 +80,9 @@ placed-front linked first candidates (suc n) k h = go (leb k n) refl (placed-fro
         let within : k ≤ n = leb-true k n e in
         let placed = placedAfter linked first candidates n in
         rest within
-        ∙ sym (take-append-le k placed (nextRelay linked first candidates placed ∷ []) (omega (arith, placed-length linked first candidates n)))
+        ∙ sym
+        (take-append-le k placed (nextRelay linked first candidates placed ∷ [])
+        (omega (arith, placed-length linked first candidates n)))
     go false e rest =
         let last : k ≡ suc n = omega (arith, leb-false k n e) in
         let whole = placedAfter linked first candidates (suc n) in
@@ -200,7 +202,8 @@ module _
             ∙ ap (λ (l : List ℕ). getD l (i .0) 0) (sym (placed-front linked first candidates n v (omega arith)))
             ∙ i .2 in
             absurd
-            (distinct order (placed-no-repeat n within) (i .0) w (omega arith) (omega (arith, placed-length linked first candidates n)) same)
+            (distinct order (placed-no-repeat n within) (i .0) w (omega arith)
+            (omega (arith, placed-length linked first candidates n)) same)
         go false e = refl
 
     -- Maximal: the relay at index v has at least as many neighbours among the first v as any that comes later.
@@ -221,7 +224,11 @@ module _
         let most : weight linked placed r ≤ weight linked placed next =
         chosen-most (weight linked placed) (unplaced placed candidates) next
         (next-chosen (suc v) (omega arith) (omega arith)) r waits in
-        rw (placed-at linked first candidates n (suc v) (omega arith), ← placed-front linked first candidates n (suc v) (omega arith)) most
+        rw (
+          placed-at linked first candidates n (suc v) (omega arith),
+          ← placed-front linked first candidates n (suc v) (omega arith),
+        )
+        most
 
 -- The base: all relays from 0 on, relay 0 first.
 module _ (n : ℕ) (lows highs : List ℕ) where

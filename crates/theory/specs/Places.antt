@@ -48,15 +48,19 @@ module _ (n : ℕ) (lows highs : List ℕ) where
       → (relayAt (orderOf n lows highs) v < n) × (placeOf (orderOf n lows highs) (relayAt (orderOf n lows highs) v) ≡ v)
   unfolding relayAt
   place-named v h k =
-      let order = orderOf n lows highs in
-      (order-at n lows highs (pred v) (omega arith), place-of-relay order (order-no-repeat n lows highs) v h (omega (arith, order-length n lows highs)))
+      let order = orderOf n lows highs in (
+        order-at n lows highs (pred v) (omega arith),
+        place-of-relay order (order-no-repeat n lows highs) v h (omega (arith, order-length n lows highs)),
+      )
 
   order-done : (relays places : List ℕ) → Accepted n lows highs → n ≤ length relays → n ≤ length places
       → orderAnswer n lows highs relays places ≡ done []
   unfolding orderAnswer
   order-done relays places accepted h k =
       let short = ltb (length relays) n || ltb (length places) n in
-      let enough = or-neither (ltb (length relays) n) (ltb (length places) n) (le-ltb (length relays) n h) (le-ltb (length places) n k) in
+      let enough =
+      or-neither (ltb (length relays) n) (ltb (length places) n)
+      (le-ltb (length relays) n h) (le-ltb (length places) n k) in
       then-done (tableCheck n lows highs) (λ _. refuseIf short 12 0 (done [])) [] accepted ∙ refuse-not short 12 0 (done []) enough
 
   pub relays-after : (relays places : List ℕ) → Accepted n lows highs → n ≤ length relays → n ≤ length places
