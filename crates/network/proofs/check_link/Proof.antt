@@ -1,5 +1,5 @@
 -- `network::check_link` meets its contract: proofs/Links.antt has each way through the code. Assumes nothing.
-use Prim.Native.Nat.{ℕ, _<_, _/_}
+use Prim.Native.Nat.{_<_, _/_}
 use borrow.Author.Needs.{needs}
 use native.Mathlib.Omega.{arith}
 use Rattle.network.specs.Pairs.{pair-below}
