@@ -91,10 +91,11 @@ pub fn check_link(n: u16, a: u16, b: u16, seen: &mut [u64; 7805]) -> LinkCheck
     let word = pair / 64;
     let bit = pair % 64;
     let bits = seen[word];
+    let marked = bits | (1u64 << bit);
     if (bits >> bit) % 2 == 1 {
         return LinkCheck::Repeated;
     }
-    seen[word] = bits | (1u64 << bit);
+    seen[word] = marked;
     LinkCheck::Fine
 }
 
