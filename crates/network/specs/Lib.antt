@@ -2,3 +2,4 @@
 pub mod Pairs
 pub mod Marks
 pub mod Seen
+pub mod Answers

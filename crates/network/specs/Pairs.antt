@@ -1,8 +1,8 @@
 -- Pair numbers: different pairs a b, a below b, have different ones, and up to relay 999 they lie below 499,500.
 -- Assumes nothing.
-use Prim.Native.Nat.{ℕ, zero, suc, _+_, _-_, _*_, _/_, _≤_, _<_}
+use Prim.Native.Nat.{ℕ, zero, suc, _+_, _-_, _*_, _≤_, _<_}
 use mathlib.Core.Bool.{Bool, true, false, _&&_}
-use mathlib.Core.Path.{_≡_, refl, sym, _∙_, ap}
+use mathlib.Core.Path.{_≡_, refl, sym, ap}
 use native.Mathlib.Decide.{le-ind}
 use native.Mathlib.Nat.{mul-suc, suc-mul, mul-le-mul}
 use native.Mathlib.Omega.{arith}

@@ -5,7 +5,7 @@ use mathlib.Core.Bool.{Bool, true, false, _||_}
 use mathlib.Core.List.{List, [], _∷_, _++_}
 use mathlib.Core.Path.{_≡_, refl, sym, _∙_, ap}
 use native.Mathlib.Omega.{arith}
-use borrow.Author.Tests.{leb-true, leb-false}
+use borrow.Author.Tests.{leb-false}
 use lib.Dec.{eqb, leb}
 use lib.ListN.{length, getD, replicate, length-replicate, length-append, List·getD-append}
 use lib.Seq.{getD-append-seam}
@@ -46,20 +46,13 @@ pub record Seen (bits lows highs : List ℕ) (i : ℕ) : Type 0 where
 word-within : (p : ℕ) → p < 499500 → p / 64 < 7805
 word-within p h = omega arith
 
-pub seen-none : (lows highs : List ℕ) → Seen (replicate 7805 0) lows highs 0
-seen-none lows highs =
+pub seen-none : (bits lows highs : List ℕ) → bits ≡ replicate 7805 0 → Seen bits lows highs 0
+seen-none bits lows highs e =
     record {
-      long = length-replicate {A = ℕ} 7805 0;
-      marks = marks-none (marked (replicate 7805 0)) lows highs (λ p h. marked-none 7805 p (word-within p h));
+      long = ap length e ∙ length-replicate {A = ℕ} 7805 0;
+      marks = marks-none (marked bits) lows highs
+          (λ p h. ap (λ (l : List ℕ). marked l p) e ∙ marked-none 7805 p (word-within p h));
     }
-
-pub length-after : (n a b : ℕ) (bits : List ℕ) → length (bitsAfter n a b bits) ≡ length bits
-unfolding bitsAfter
-length-after n a b bits = go (eqb (faultAt n (marked bits) a b) 0)
-  where
-    go : (fine : Bool) → length (pick fine (mark bits (pairNumber a b)) bits) ≡ length bits
-    go true = length-mark bits (pairNumber a b)
-    go false = refl
 
 -- The fault by the marks is the fault by the table.
 pub fault-same : (n a b : ℕ) (at : ℕ → Bool) (lows highs : List ℕ) (i : ℕ) → n ≤ 1000 → Marks at lows highs i

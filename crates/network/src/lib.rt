@@ -2,9 +2,10 @@
 // stands for is said in specs/Answers.antt, what the marks of the links seen so far hold in specs/Seen.antt.
 ghost use mathlib.Core.Path.{_≡_};
 ghost use Prim.Native.Nat.{_<_, _≤_};
-ghost use lib.ListN.{replicate};
-ghost use Rattle.definitions.specs.Network.{rowStart, pairNumber};
-ghost use Rattle.network.specs.Seen.{LinkChecked};
+ghost use lib.ListN.{length, replicate};
+ghost use Rattle.definitions.specs.Network.{rowStart, pairNumber, pairAnswer, linksCheck, tableCheck};
+ghost use Rattle.network.specs.Answers.{pairOutcome, checkOutcome};
+ghost use Rattle.network.specs.Seen.{LinkChecked, Seen};
 
 // A relay number, never a place in the order.
 pub struct Relay(pub u16);
@@ -27,6 +28,18 @@ pub enum Refusal {
     SameEnds,
     Room,
     NotOneTree,
+}
+
+// The answer of the pair number.
+pub enum Pair {
+    Number(u32),
+    Refused(Refusal),
+}
+
+// The answer of the table check.
+pub enum Check {
+    Accepted,
+    Refused(Refusal),
 }
 
 // What is wrong with one link after those before it.
@@ -78,9 +91,72 @@ pub fn check_link(n: u16, a: u16, b: u16, seen: &mut [u64; 7805]) -> LinkCheck
     let word = pair / 64;
     let bit = pair % 64;
     let bits = seen[word];
+    let marked = bits | (1u64 << bit);
     if (bits >> bit) % 2 == 1 {
         return LinkCheck::Repeated;
     }
-    seen[word] = bits | (1u64 << bit);
+    seen[word] = marked;
     LinkCheck::Fine
+}
+
+// Checks link by link, where no pair is marked yet.
+fn links_check(n: u16, lows: &[u16], highs: &[u16], seen: &mut [u64; 7805]) -> Check
+    requires { ⌜ (n ≤ 1000) × (length (now lows) ≡ length (now highs)) × Seen (now seen) (now lows) (now highs) 0 ⌝ }
+    ensures { λ r. ⌜ checkOutcome r ≡ linksCheck n (now (lows .entry)) (now (highs .entry)) 0 (length (now (lows .entry))) ⌝ }
+{
+    let mut i = 0;
+    while i < lows.len() {
+        match check_link(n, lows[i], highs[i], seen) {
+            LinkCheck::Fine => {}
+            LinkCheck::RelayRange => {
+                return Check::Refused(Refusal::RelayRange(i));
+            }
+            LinkCheck::NotBelow => {
+                return Check::Refused(Refusal::NotBelow(i));
+            }
+            LinkCheck::Repeated => {
+                return Check::Refused(Refusal::Repeated(i));
+            }
+        }
+        i += 1;
+    }
+    Check::Accepted
+}
+
+// The table check, which every operation on a table makes first.
+pub fn table_check(n: u16, lows: &[u16], highs: &[u16]) -> Check
+    ensures { λ r. ⌜ checkOutcome r ≡ tableCheck n (now (lows .entry)) (now (highs .entry)) ⌝ }
+{
+    if n < 1 {
+        return Check::Refused(Refusal::RelayCount);
+    }
+    if 1000 < n {
+        return Check::Refused(Refusal::RelayCount);
+    }
+    if lows.len() != highs.len() {
+        return Check::Refused(Refusal::LinkCount);
+    }
+    if 3000 < lows.len() {
+        return Check::Refused(Refusal::LinkCount);
+    }
+    let mut seen = no_pairs();
+    links_check(n, lows, highs, &mut seen)
+}
+
+// The pair number of the link a b.
+pub fn pair_number(a: Relay, b: Relay) -> Pair
+    ensures { λ r. ⌜ pairOutcome r ≡ pairAnswer (a .0) (b .0) ⌝ }
+{
+    let low = a.0;
+    let high = b.0;
+    if 1000 <= low {
+        return Pair::Refused(Refusal::RelayRange(0));
+    }
+    if 1000 <= high {
+        return Pair::Refused(Refusal::RelayRange(0));
+    }
+    if high <= low {
+        return Pair::Refused(Refusal::NotBelow(0));
+    }
+    Pair::Number(pair_index(low, high))
 }

@@ -1,5 +1,5 @@
 -- `network::check_link` meets its contract: proofs/Links.antt has each way through the code. Assumes nothing.
-use Prim.Native.Nat.{ℕ, _<_, _/_}
+use Prim.Native.Nat.{_<_, _/_}
 use borrow.Author.Needs.{needs}
 use native.Mathlib.Omega.{arith}
 use Rattle.network.specs.Pairs.{pair-below}
@@ -39,6 +39,9 @@ pair-word c =
 element-copy-out-bits : tie.Need-element-copy-out-bits
 element-copy-out-bits c = pair-word c
 
+shl-marked : tie.Need-shl-marked
+shl-marked c = search needs
+
 shr-if4 : tie.Need-shr-if4
 shr-if4 c = search needs
 
@@ -50,9 +53,6 @@ returns-4 c =
     (c .before .before .pair-index .result)
     (c .before .before .pair-index .ensures)
     (c .if4 .taken)
-
-shl-seen : tie.Need-shl-seen
-shl-seen c = search needs
 
 mul-seen : tie.Need-mul-seen
 mul-seen c = search needs
@@ -80,9 +80,9 @@ check-link-spec =
     cast-pair
     mul-bits
     element-copy-out-bits
+    shl-marked
     shr-if4
     returns-4
-    shl-seen
     mul-seen
     element-write-seen
     returns-5)
