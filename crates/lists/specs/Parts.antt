@@ -74,6 +74,23 @@ part-of-append front part rest =
       within = omega (arith, length-append front (part ++ rest), length-append part rest);
     }
 
+-- The first of two lists that join, and the second.
+pub part-start : (part rest : List ℕ) → Part (part ++ rest) 0 part (length part)
+part-start part rest =
+    record {
+      follows = ap (λ (l : List ℕ). part ++ l) (sym (drop-append-seam part rest));
+      reaches = omega arith;
+      within = omega (arith, length-append part rest);
+    }
+
+pub part-end : (front part : List ℕ) → Part (front ++ part) (length front) part (length (front ++ part))
+part-end front part =
+    record {
+      follows = drop-append-seam front part ∙ sym (ap (λ (l : List ℕ). part ++ l) (drop-length (front ++ part)) ∙ append-nil part);
+      reaches = length-append front part;
+      within = omega arith;
+    }
+
 -- The entry behind the part.
 pub part-behind : (front part rest : List ℕ) → getD (front ++ (part ++ rest)) (length front + length part) 0 ≡ getD rest 0 0
 part-behind front part rest =

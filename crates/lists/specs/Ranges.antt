@@ -1,24 +1,13 @@
 -- What the test `outside` tells of a number, and its value from what is known of the number.
 -- Assumes nothing.
 use Prim.Native.Nat.{ℕ, _≤_, _<_}
-use mathlib.Core.Bool.{Bool, true, false, _||_}
+use mathlib.Core.Bool.{true, false}
 use mathlib.Core.Logic.{_⊎_, inl, inr}
-use mathlib.Core.Path.{_≡_, refl}
-use native.Mathlib.Omega.{arith}
+use mathlib.Core.Path.{_≡_}
 use lib.Dec.{ltb}
 use borrow.Author.Tests.{lt-ltb, le-ltb, ltb-true, ltb-false}
 use Rattle.definitions.specs.Lists.{outside}
-
--- A test of two parts.
-pub or-false : (a b : Bool) → (a || b) ≡ false → (a ≡ false) × (b ≡ false)
-or-false true b e =
-    let z : _≡_ {A = ℕ} 0 1 = cc in
-    absurd (omega arith)
-or-false false b e = (refl, e)
-
-pub or-true : (a b : Bool) → (a || b) ≡ true → (a ≡ true) ⊎ (b ≡ true)
-or-true true b e = inl refl
-or-true false b e = inr e
+use Rattle.lists.specs.Tests.{or-false, or-either}
 
 pub inside : (low high x : ℕ) → low ≤ x → x ≤ high → outside low high x ≡ false
 unfolding outside
@@ -36,7 +25,7 @@ inside-range low high x e =
 
 pub outside-range : (low high x : ℕ) → outside low high x ≡ true → (x < low) ⊎ (high < x)
 unfolding outside
-outside-range low high x e = go (or-true (ltb x low) (ltb high x) e)
+outside-range low high x e = go (or-either (ltb x low) (ltb high x) e)
   where
     go : (ltb x low ≡ true) ⊎ (ltb high x ≡ true) → (x < low) ⊎ (high < x)
     go (inl h) = inl (ltb-true x low h)

@@ -2,3 +2,6 @@
 pub mod Decimal
 pub mod Numbers
 pub mod Forms
+pub mod Lines
+pub mod LinkByLink
+pub mod RoundTrip
