@@ -1,0 +1,2 @@
+-- Laws that the proofs of the crate's functions share.
+pub mod ChainLaws

@@ -1,0 +1,2 @@
+-- What the scan and the operations over it promise, a module a subject.
+pub mod Chains
