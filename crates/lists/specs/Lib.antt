@@ -15,3 +15,5 @@ pub mod SomeBelow
 pub mod Bitmap
 pub mod Rising
 pub mod Totals
+pub mod Greatest
+pub mod Stretches

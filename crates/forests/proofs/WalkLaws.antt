@@ -1,0 +1,289 @@
+-- The laws of the walk over the links of a relay. Assumes nothing.
+use Prim.Native.Nat.{ℕ, zero, suc, _+_, _-_, _≤_, _<_}
+use mathlib.Core.Bool.{Bool, true, false, _&&_, _||_, true≢false}
+use mathlib.Core.List.{List}
+use mathlib.Core.Logic.{_⊎_, inl, inr, ⊎-elim}
+use mathlib.Core.Path.{_≡_, refl, sym, _∙_, ap, ap₂, subst}
+use native.Mathlib.Decide.{ℕ-discrete, decLt}
+use native.Mathlib.Omega.{arith}
+use borrow.Author.Tests.{eqb-true, eqb-false, eq-eqb, ne-eqb, lt-ltb, le-ltb}
+use lib.Dec.{eqb, ltb}
+use lib.ListN.{length, getD, set, length-set}
+use lib.Seq.{getD-set-same, getD-set-other}
+use Rattle.definitions.specs.Outcome.{pick}
+use Rattle.definitions.specs.Lists.{someBelow}
+use Rattle.definitions.specs.Network.{isPair, joins}
+use Rattle.lists.specs.Tests.{or-either, or-neither, and-both, and-false}
+use Rattle.lists.specs.Below.{none-below}
+use Rattle.lists.specs.Stretches.{some-skip, and-skip}
+use Rattle.theory.specs.Accepted.{ProperTable}
+use Rattle.forests.specs.Chains.{touches, nextFrom, ChainedFrom}
+use Rattle.forests.specs.Keys.{raisedKey, numberOf}
+use Rattle.forests.specs.Walk.{otherEnd, farEnd, nextOf, Visitable, Visited, WalkedTo, Walkable}
+use Rattle.forests.proofs.ChainLaws.{next-within, next-touches, next-between}
+
+pub pick-eq : {A : Type 0} (x y : ℕ) (a b : A) → x ≡ y → pick (eqb x y) a b ≡ a
+pick-eq x y a b e = rw (eq-eqb x y e)
+
+pub pick-ne : {A : Type 0} (x y : ℕ) (a b : A) → (x ≡ y → ⊥) → pick (eqb x y) a b ≡ b
+pick-ne x y a b e = rw (ne-eqb x y e)
+
+or-false : (a : Bool) → (a || false) ≡ a
+or-false true = refl
+or-false false = refl
+
+and-true : (a : Bool) → (a && true) ≡ a
+and-true true = refl
+and-true false = refl
+
+-- The two ways in which link j can join a and b.
+Ends : List ℕ → List ℕ → ℕ → ℕ → ℕ → Type 0
+Ends lows highs a b j =
+    ((getD lows j 0 ≡ a) × (getD highs j 0 ≡ b)) ⊎ ((getD lows j 0 ≡ b) × (getD highs j 0 ≡ a))
+
+joins-ends : (lows highs : List ℕ) (a b j : ℕ) → joins lows highs a b j ≡ true → Ends lows highs a b j
+unfolding joins isPair Ends
+joins-ends lows highs a b j h =
+    ⊎-elim
+    (λ p. inl (pair a b p))
+    (λ p. inr (pair b a p))
+    (or-either (isPair lows highs a b j) (isPair lows highs b a j) h)
+  where
+    pair : (c d : ℕ) → isPair lows highs c d j ≡ true → (getD lows j 0 ≡ c) × (getD highs j 0 ≡ d)
+    pair c d p =
+        let both = and-both (eqb (getD lows j 0) c) (eqb (getD highs j 0) d) p in
+        (eqb-true (getD lows j 0) c (both .0), eqb-true (getD highs j 0) d (both .1))
+
+-- No two links join the same relays.
+pub joins-once : {n : ℕ} {lows highs : List ℕ} → ProperTable n lows highs → (a b i j : ℕ) → i < j → j < length lows
+    → joins lows highs a b i ≡ true → joins lows highs a b j ≡ true → ⊥
+unfolding Ends
+joins-once {n} {lows} {highs} t a b i j h k p q =
+    ⊎-elim
+    (λ u. ⊎-elim (λ v. t .once i j h k (u .0 ∙ sym (v .0)) (u .1 ∙ sym (v .1))) (λ v. crossed (u .0) (u .1) (v .0) (v .1)) second)
+    (λ u. ⊎-elim (λ v. crossed (u .0) (u .1) (v .0) (v .1)) (λ v. t .once i j h k (u .0 ∙ sym (v .0)) (u .1 ∙ sym (v .1))) second)
+    (joins-ends lows highs a b i p)
+  where
+    second : Ends lows highs a b j
+    second = joins-ends lows highs a b j q
+
+    crossed : {c d : ℕ} → getD lows i 0 ≡ c → getD highs i 0 ≡ d → getD lows j 0 ≡ d → getD highs j 0 ≡ c → ⊥
+    crossed w x y z = omega (arith, t .ordered i (omega arith), t .ordered j k)
+
+module _ (lows highs : List ℕ) (x : ℕ) where
+  -- A link that joins x and another relay has x as an end.
+  joins-touches : (r j : ℕ) → touches lows highs x j ≡ false → joins lows highs x r j ≡ false
+  unfolding touches joins isPair
+  joins-touches r j h = go (eqb (getD lows j 0) x) (eqb (getD highs j 0) x) h
+    where
+      go : (a b : Bool) → (a || b) ≡ false → ((a && eqb (getD highs j 0) r) || (eqb (getD lows j 0) r && b)) ≡ false
+      go true b e = absurd (true≢false e)
+      go false true e = absurd (true≢false e)
+      go false false e = and-false (eqb (getD lows j 0) r)
+
+  -- A link at x joins x and its far end, and no other relay.
+  joins-far : (r j : ℕ) → touches lows highs x j ≡ true → getD lows j 0 < getD highs j 0
+      → joins lows highs x r j ≡ eqb (farEnd lows highs x j) r
+  unfolding touches joins isPair farEnd otherEnd
+  joins-far r j h rises = go (eqb (getD lows j 0) x) refl (eqb (getD highs j 0) x) refl h
+    where
+      go : (a : Bool) → eqb (getD lows j 0) x ≡ a → (b : Bool) → eqb (getD highs j 0) x ≡ b → (a || b) ≡ true
+          → ((a && eqb (getD highs j 0) r) || (eqb (getD lows j 0) r && b)) ≡ eqb (pick a (getD highs j 0) (getD lows j 0)) r
+      go true p true q e = absurd (omega (arith, eqb-true (getD lows j 0) x p, eqb-true (getD highs j 0) x q))
+      go true p false q e = rw (and-false (eqb (getD lows j 0) r)) (or-false (eqb (getD highs j 0) r))
+      go false p true q e = and-true (eqb (getD lows j 0) r)
+      go false p false q e = absurd (true≢false (sym e))
+
+  far-below : (j : ℕ) → ProperTable 1000 lows highs → j < length lows → farEnd lows highs x j < 1000
+  unfolding farEnd otherEnd
+  far-below j t h = go (eqb (getD lows j 0) x)
+    where
+      go : (b : Bool) → pick b (getD highs j 0) (getD lows j 0) < 1000
+      go true = t .below j h
+      go false = omega (arith, t .below j h, t .ordered j h)
+
+  -- The link behind link j at x.
+  next-behind : {first lownext highnext : List ℕ} (j : ℕ) → ChainedFrom lows highs 0 first lownext highnext
+      → touches lows highs x j ≡ true → j < length lows
+      → nextOf x (getD lows j 0) (getD lownext j 0) (getD highnext j 0) ≡ nextFrom lows highs x (suc j)
+  unfolding touches nextOf
+  next-behind {first} {lownext} {highnext} j c h k =
+      go (eqb (getD lows j 0) x) refl (eqb (getD highs j 0) x) refl h
+    where
+      go : (a : Bool) → eqb (getD lows j 0) x ≡ a → (b : Bool) → eqb (getD highs j 0) x ≡ b → (a || b) ≡ true
+          → pick a (getD lownext j 0) (getD highnext j 0) ≡ nextFrom lows highs x (suc j)
+      go true p b q e =
+          c .low j (omega arith) k ∙ ap (λ r. nextFrom lows highs r (suc j)) (eqb-true (getD lows j 0) x p)
+      go false p true q e =
+          c .high j (omega arith) k ∙ ap (λ r. nextFrom lows highs r (suc j)) (eqb-true (getD highs j 0) x q)
+      go false p false q e = absurd (true≢false (sym e))
+
+  walked-none : (keys forests : List ℕ) → length keys ≡ 1000 → WalkedTo lows highs x 0 keys keys forests forests
+  unfolding someBelow
+  walked-none keys forests room =
+      record {
+        keyRoom = room;
+        long = refl;
+        key = λ r h. refl;
+        forest = λ j. rw (le-ltb j 0 (omega arith));
+      }
+
+  walked-skip : {keys keys′ forests forests′ : List ℕ} (i k : ℕ) → i ≤ k
+      → ((j : ℕ) → i ≤ j → j < k → touches lows highs x j ≡ false)
+      → WalkedTo lows highs x i keys keys′ forests forests′ → WalkedTo lows highs x k keys keys′ forests forests′
+  walked-skip {keys} {keys′} {forests} {forests′} i k h none w =
+      record {
+        keyRoom = w .keyRoom;
+        long = w .long;
+        key = λ r p.
+            rw (some-skip (joins lows highs x r) i k h (λ j a b. joins-touches r j (none j a b))) (w .key r p);
+        forest = λ j. rw (and-skip (touches lows highs x) i k j h none) (w .forest j);
+      }
+
+  -- The far end of the next link has its key from before the walk.
+  far-key : {keys keys′ forests forests′ : List ℕ} (i : ℕ) → ProperTable 1000 lows highs → i < length lows
+      → touches lows highs x i ≡ true → WalkedTo lows highs x i keys keys′ forests forests′
+      → getD keys′ (farEnd lows highs x i) 0 ≡ getD keys (farEnd lows highs x i) 0
+  far-key {keys} {keys′} {forests} {forests′} i t within at w = w .key y (far-below i t within) ∙ rw fresh
+    where
+      y : ℕ
+      y = farEnd lows highs x i
+
+      here : joins lows highs x y i ≡ true
+      here = joins-far y i at (t .ordered i within) ∙ eq-eqb y y refl
+
+      fresh : someBelow (joins lows highs x y) i ≡ false
+      fresh = none-below (joins lows highs x y) i (λ j h. go j h (joins lows highs x y j) refl)
+        where
+          go : (j : ℕ) → j < i → (b : Bool) → joins lows highs x y j ≡ b → b ≡ false
+          go j h true e = absurd (joins-once t x y j i h within e here)
+          go j h false e = refl
+
+  -- Link i is visited: its far end's key rises, and it gets its forest number.
+  walked-one : {keys keys′ forests forests′ : List ℕ} (i : ℕ) → ProperTable 1000 lows highs → i < length lows
+      → length lows ≤ length forests → touches lows highs x i ≡ true
+      → WalkedTo lows highs x i keys keys′ forests forests′
+      → WalkedTo lows highs x (suc i) keys
+      (set keys′ (farEnd lows highs x i) (raisedKey (getD keys′ (farEnd lows highs x i) 0)))
+      forests
+      (set forests′ i (numberOf (getD keys′ (farEnd lows highs x i) 0) (getD forests′ i 0)))
+  unfolding someBelow
+  walked-one {keys} {keys′} {forests} {forests′} i t within room at w =
+      record {
+        keyRoom = simp length-set (w .keyRoom);
+        long = simp length-set (w .long);
+        key = λ r p. key r p (ℕ-discrete r y);
+        forest = λ j. forest j (ℕ-discrete j i);
+      }
+    where
+      y : ℕ
+      y = farEnd lows highs x i
+
+      below : y < 1000
+      below = far-below i t within
+
+      here : joins lows highs x y i ≡ true
+      here = joins-far y i at (t .ordered i within) ∙ eq-eqb y y refl
+
+      old : getD keys′ y 0 ≡ getD keys y 0
+      old = far-key i t within at w
+
+      key : (r : ℕ) → r < 1000 → Dec (r ≡ y)
+          → getD (set keys′ y (raisedKey (getD keys′ y 0))) r 0
+          ≡ pick (joins lows highs x r i || someBelow (joins lows highs x r) i) (raisedKey (getD keys r 0)) (getD keys r 0)
+      key r p (yes e) =
+          rw (e, here) (getD-set-same keys′ y (raisedKey (getD keys′ y 0)) 0 (omega (arith, w .keyRoom)) ∙ ap raisedKey old)
+      key r p (no e) =
+          rw (joins-far r i at (t .ordered i within) ∙ ne-eqb y r (λ z. e (sym z)))
+          (getD-set-other keys′ y r (raisedKey (getD keys′ y 0)) 0 e ∙ w .key r p)
+
+      forest : (j : ℕ) → Dec (j ≡ i)
+          → getD (set forests′ i (numberOf (getD keys′ y 0) (getD forests′ i 0))) j 0
+          ≡ pick (ltb j (suc i) && touches lows highs x j)
+          (numberOf (getD keys (farEnd lows highs x j) 0) (getD forests j 0))
+          (getD forests j 0)
+      forest j (yes e) =
+          rw (e, at, lt-ltb i (suc i) (omega arith))
+          (getD-set-same forests′ i (numberOf (getD keys′ y 0) (getD forests′ i 0)) 0 (omega (arith, w .long))
+          ∙ ap₂ numberOf old (w .forest i ∙ rw (le-ltb i i (omega arith))))
+      forest j (no e) =
+          getD-set-other forests′ i j (numberOf (getD keys′ y 0) (getD forests′ i 0)) 0 e
+          ∙ w .forest j
+          ∙ ap (λ b. pick (b && touches lows highs x j) (numberOf (getD keys (farEnd lows highs x j) 0) (getD forests j 0)) (getD forests j 0)) (same (decLt j i))
+        where
+          same : Dec (j < i) → ltb j i ≡ ltb j (suc i)
+          same (yes p) = lt-ltb j i p ∙ sym (lt-ltb j (suc i) (omega arith))
+          same (no p) = le-ltb j i (omega arith) ∙ sym (le-ltb j (suc i) (omega arith))
+
+-- What a visit did, in the code's terms.
+pub visit-done : (x i : ℕ) (lows highs lownext highnext keys forests : List ℕ) (y key number next : ℕ)
+    → y ≡ farEnd lows highs x i → key ≡ raisedKey (getD keys y 0) → number ≡ numberOf (getD keys y 0) (getD forests i 0)
+    → next ≡ nextOf x (getD lows i 0) (getD lownext i 0) (getD highnext i 0)
+    → Visited x i lows highs lownext highnext keys (set keys y key) forests (set forests i number) next
+visit-done x i lows highs lownext highnext keys forests y key number next e k f n =
+    record {
+      key = ap₂ (set keys) e (k ∙ ap (λ z. raisedKey (getD keys z 0)) e);
+      forest = ap (set forests i) (f ∙ ap (λ z. numberOf (getD keys z 0) (getD forests i 0)) e);
+      onward = n;
+    }
+
+-- The walk stands before link i, the next link at x; below it all is done.
+abbrev pub Walking : List ℕ → List ℕ → ℕ → ℕ → List ℕ → List ℕ → List ℕ → List ℕ → Type 0
+Walking lows highs x i keys keys′ forests forests′ =
+    (i ≤ length lows)
+    × (i < length lows → touches lows highs x i ≡ true)
+    × WalkedTo lows highs x i keys keys′ forests forests′
+
+module _ {x : ℕ} {lows highs first lownext highnext keys forests : List ℕ}
+    (can : Walkable x lows highs first lownext highnext keys forests)
+  where
+    pub walk-starts : (i : ℕ) → i ≡ getD first x 0 → Walking lows highs x i (set keys x 0) (set keys x 0) forests forests
+    walk-starts i e =
+        let head : i ≡ nextFrom lows highs x 0 = e ∙ can .chained .heads x (can .relay) in
+        let start = walked-none lows highs x (set keys x 0) forests (length-set keys x 0 ∙ can .keyRoom) in
+        rw head (
+          next-within lows highs x 0 (omega arith) .1,
+          next-touches lows highs x 0,
+          walked-skip lows highs x 0 (nextFrom lows highs x 0) (omega arith) (next-between lows highs x 0) start,
+        )
+
+    bounded : (r : ℕ) → r < 1000 → getD (set keys x 0) r 0 < 2000000
+    bounded r h = go (ℕ-discrete r x)
+      where
+        go : Dec (r ≡ x) → getD (set keys x 0) r 0 < 2000000
+        go (yes e) = omega (arith, ap (λ z. getD (set keys x 0) z 0) e, getD-set-same keys x 0 0 (omega (arith, can .keyRoom, can .relay)))
+        go (no e) = omega (arith, getD-set-other keys x r 0 0 e, can .bound r h)
+
+    pub walk-visits : {keys′ forests′ : List ℕ} (i : ℕ) → i < length lows
+        → Walking lows highs x i (set keys x 0) keys′ forests forests′
+        → Visitable x i lows highs keys′ forests′
+    walk-visits {keys′} {forests′} i within w =
+        let y = farEnd lows highs x i in
+        let below : y < 1000 = far-below lows highs x i (can .proper) within in
+        record {
+          within = within;
+          same = sym (can .proper .even);
+          short = can .proper .short;
+          room = omega (arith, can .room, w .2 .long);
+          far = below;
+          keyRoom = w .2 .keyRoom;
+          bound = omega (arith, far-key lows highs x i (can .proper) within (w .1 within) (w .2), bounded y below);
+        }
+
+    pub walk-moves : {keys′ keys″ forests′ forests″ : List ℕ} (i next : ℕ) → i < length lows
+        → Walking lows highs x i (set keys x 0) keys′ forests forests′
+        → Visited x i lows highs lownext highnext keys′ keys″ forests′ forests″ next
+        → (i < next) × Walking lows highs x next (set keys x 0) keys″ forests forests″
+    walk-moves {keys′} {keys″} {forests′} {forests″} i next within w v =
+        let e : next ≡ nextFrom lows highs x (suc i) =
+        v .onward ∙ next-behind lows highs x i (can .chained) (w .1 within) within in
+        let one = walked-one lows highs x i (can .proper) within (can .room) (w .1 within) (w .2) in
+        let bounds = next-within lows highs x (suc i) within in
+        rw (e, v .key, v .forest) (
+          bounds .0,
+          (
+            bounds .1,
+            next-touches lows highs x (suc i),
+            walked-skip lows highs x (suc i) (nextFrom lows highs x (suc i)) (bounds .0) (next-between lows highs x (suc i)) one,
+          ),
+        )

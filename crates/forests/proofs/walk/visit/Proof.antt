@@ -1,0 +1,114 @@
+-- One link of the walk: the far end is the one that the contract names. Assumes nothing.
+use native.Mathlib.Omega.{arith}
+use Rattle.forests.specs.Walk.{farEnd}
+use Rattle.forests.proofs.WalkLaws.{visit-done}
+use borrow.Author.Needs.{needs}
+use Rattle.forests.proofs.walk.visit.Statement.{statement}
+use Rattle.forests.proofs.walk.visit.Tie as tie
+
+mul-forests : tie.Need-mul-forests
+mul-forests c = search needs
+
+shared-slice-read-forests : tie.Need-shared-slice-read-forests
+shared-slice-read-forests c = search needs
+
+mul-forests-2 : tie.Need-mul-forests-2
+mul-forests-2 c = search needs
+
+shared-slice-read-forests-2 : tie.Need-shared-slice-read-forests-2
+shared-slice-read-forests-2 c = search needs
+
+other-end-requires : tie.Need-other-end-requires
+other-end-requires c κs = search needs
+
+cast-at : tie.Need-cast-at
+cast-at c = search needs
+
+mul-key : tie.Need-mul-key
+mul-key c = search needs
+
+element-copy-out-key : tie.Need-element-copy-out-key
+unfolding farEnd
+element-copy-out-key c = omega arith
+
+raised-requires : tie.Need-raised-requires
+unfolding farEnd
+raised-requires c κs = rw (c .before .before .other-end .ensures) (c .before .before .before .before .before .before .before .before .pre .bound)
+
+mul-keys : tie.Need-mul-keys
+mul-keys c = search needs
+
+element-write-keys : tie.Need-element-write-keys
+unfolding farEnd
+element-write-keys c = omega arith
+
+mul-number : tie.Need-mul-number
+mul-number c = search needs
+
+slice-read-number : tie.Need-slice-read-number
+slice-read-number c = search needs
+
+number-requires : tie.Need-number-requires
+unfolding farEnd
+number-requires c κs = rw (c .before .before .before .before .other-end .ensures) (c .before .before .before .before .before .before .before .before .before .before .pre .bound)
+
+mul-forests-3 : tie.Need-mul-forests-3
+mul-forests-3 c = search needs
+
+slice-write-forests : tie.Need-slice-write-forests
+slice-write-forests c = search needs
+
+mul-next-of : tie.Need-mul-next-of
+mul-next-of c = search needs
+
+element-copy-out-next-of : tie.Need-element-copy-out-next-of
+element-copy-out-next-of c = search needs
+
+mul-next-of-2 : tie.Need-mul-next-of-2
+mul-next-of-2 c = search needs
+
+element-copy-out-next-of-2 : tie.Need-element-copy-out-next-of-2
+element-copy-out-next-of-2 c = search needs
+
+next-of-requires : tie.Need-next-of-requires
+next-of-requires c κs = search needs
+
+same-length : tie.Need-same-length
+same-length c = search needs
+
+returns : tie.Need-returns
+unfolding farEnd
+returns c =
+    let other = c .before .before .before .before .before .before .before .before in
+    let a = other .before .before .before .before .before .before .args in
+    visit-done (a .x .0) (a .i) (a .lows .now) (a .highs .now) (a .lownext .now) (a .highnext .now) (a .keys .now) (a .forests .now)
+    (other .other-end .result .0) (c .before .before .before .before .before .raised .result) (c .before .before .before .number .result) (c .next-of .result)
+    (other .other-end .ensures) (c .before .before .before .before .before .raised .ensures) (c .before .before .before .number .ensures) (c .next-of .ensures)
+
+pub visit-spec : {M : Type 1} → statement M
+visit-spec =
+    tie.close
+    (tie.spec
+    mul-forests
+    shared-slice-read-forests
+    mul-forests-2
+    shared-slice-read-forests-2
+    other-end-requires
+    cast-at
+    mul-key
+    element-copy-out-key
+    raised-requires
+    mul-keys
+    element-write-keys
+    mul-number
+    slice-read-number
+    number-requires
+    mul-forests-3
+    slice-write-forests
+    mul-next-of
+    element-copy-out-next-of
+    mul-next-of-2
+    element-copy-out-next-of-2
+    next-of-requires
+    same-length
+    returns)

@@ -1,0 +1,4 @@
+-- What the scan and the operations over it promise, a module a subject.
+pub mod Chains
+pub mod Keys
+pub mod Walk

@@ -1,0 +1,79 @@
+// A key for each relay tells who is placed next: the relay with the greatest key. It is greater with each link to a placed
+// relay, of equals it is greatest for the lowest relay number, and a placed relay has key 0.
+use network::Relay;
+ghost use Prim.Native.Nat.{max, _<_, _≤_};
+ghost use mathlib.Core.Path.{_≡_};
+ghost use lib.ListN.{length, replicate, take};
+ghost use Rattle.definitions.specs.Lists.{greatest};
+ghost use Rattle.forests.specs.Keys.{keyOf, relayOf, raisedKey, numberOf, StartKeys};
+
+pub fn no_keys() -> [u32; 1000]
+    ensures { λ r. ⌜ r ≡ replicate 1000 0 ⌝ }
+{
+    [0; 1000]
+}
+
+// The key of a relay that has no link to a placed one yet.
+fn start_key(r: Relay) -> u32
+    requires { ⌜ r .0 < 1000 ⌝ }
+    ensures { λ key. ⌜ key ≡ keyOf 0 (r .0) ⌝ }
+{
+    1024 + (1023 - r.0 as u32)
+}
+
+// Relays 0 to n − 1 wait for their places.
+pub fn start_keys(n: u16, keys: &mut [u32; 1000])
+    requires { ⌜ (n ≤ 1000) × (now keys ≡ replicate 1000 0) ⌝ }
+    ensures { λ _. ⌜ StartKeys n (now (keys .exit)) ⌝ }
+{
+    let mut r = 0;
+    while r < n {
+        let at = r as usize;
+        keys[at] = start_key(Relay(r));
+        r += 1;
+    }
+}
+
+fn larger(a: u32, b: u32) -> u32
+    ensures { λ r. ⌜ r ≡ max a b ⌝ }
+{
+    if a < b { b } else { a }
+}
+
+// The greatest key of the n relays.
+pub fn greatest_key(n: u16, keys: &[u32; 1000]) -> u32
+    requires { ⌜ (n ≤ 1000) × (length (now keys) ≡ 1000) ⌝ }
+    ensures { λ r. ⌜ r ≡ greatest (take n (now (keys .entry))) ⌝ }
+{
+    let end = n as usize;
+    let mut best = 0;
+    let mut r = 0;
+    while r < end {
+        best = larger(best, keys[r]);
+        r += 1;
+    }
+    best
+}
+
+// The relay that has this key.
+pub fn relay_of(key: u32) -> Relay
+    ensures { λ r. ⌜ r .0 ≡ relayOf key ⌝ }
+{
+    Relay((1023 - key % 1024) as u16)
+}
+
+// The key with one more link to a placed relay; a placed relay's key stays.
+pub fn raised(key: u32) -> u32
+    requires { ⌜ key < 2000000 ⌝ }
+    ensures { λ r. ⌜ r ≡ raisedKey key ⌝ }
+{
+    if key == 0 { 0 } else { key + 1024 }
+}
+
+// The forest number of a link to a relay with this key, `old` if that relay is placed.
+pub fn number(key: u32, old: u16) -> u16
+    requires { ⌜ key < 2000000 ⌝ }
+    ensures { λ r. ⌜ r ≡ numberOf key old ⌝ }
+{
+    if key == 0 { old } else { (key / 1024) as u16 }
+}

@@ -1,0 +1,36 @@
+-- The greatest entry of a list: no entry is above it, and some entry is it. Assumes nothing.
+use Prim.Native.Nat.{ℕ, zero, suc, max, _≤_, _<_}
+use mathlib.Core.List.{List, [], _∷_, _++_}
+use mathlib.Core.Path.{_≡_, refl, sym, _∙_, ap}
+use native.Mathlib.Decide.{decLe}
+use native.Mathlib.Omega.{arith}
+use lib.ListN.{length, getD, take}
+use lib.Seq.{take-suc}
+use Rattle.definitions.specs.Lists.{greatest}
+
+greatest-snoc : (l : List ℕ) (x : ℕ) → greatest (l ++ (x ∷ [])) ≡ max (greatest l) x
+unfolding greatest
+greatest-snoc [] x = omega arith
+greatest-snoc (y ∷ l) x = omega (arith, greatest-snoc l x)
+
+-- One entry more.
+pub greatest-next : (l : List ℕ) (i : ℕ) → i < length l
+    → greatest (take (suc i) l) ≡ max (greatest (take i l)) (getD l i 0)
+greatest-next l i h = ap greatest (take-suc l i 0 h) ∙ greatest-snoc (take i l) (getD l i 0)
+
+pub greatest-above : (l : List ℕ) (i : ℕ) → i < length l → getD l i 0 ≤ greatest l
+unfolding greatest
+greatest-above [] i h = absurd (omega arith)
+greatest-above (x ∷ l) zero h = omega arith
+greatest-above (x ∷ l) (suc i) h = omega (arith, greatest-above l i (omega arith))
+
+pub greatest-at : (l : List ℕ) → 0 < length l → (i : ℕ) × (i < length l) × (getD l i 0 ≡ greatest l)
+unfolding greatest
+greatest-at [] h = absurd (omega arith)
+greatest-at (x ∷ []) h = (0, omega arith, omega arith)
+greatest-at (x ∷ y ∷ l) h = go (greatest-at (y ∷ l) (omega arith)) (decLe (greatest (y ∷ l)) x)
+  where
+    go : (i : ℕ) × (i < length (y ∷ l)) × (getD (y ∷ l) i 0 ≡ greatest (y ∷ l)) → Dec (greatest (y ∷ l) ≤ x)
+        → (i : ℕ) × (i < length (x ∷ y ∷ l)) × (getD (x ∷ y ∷ l) i 0 ≡ max x (greatest (y ∷ l)))
+    go t (yes p) = (0, omega arith, omega arith)
+    go t (no p) = (suc (t .0), omega (arith, t .1), t .2 ∙ omega arith)
