@@ -1,0 +1,39 @@
+-- `extend` meets its contract. Assumes nothing.
+use Rattle.routes.specs.Side.{extendPath}
+use borrow.Author.Needs.{needs}
+use Rattle.routes.proofs.side.extend.Statement.{statement}
+use Rattle.routes.proofs.side.extend.Tie as tie
+
+second-of-requires : tie.Need-second-of-requires
+second-of-requires c κs = search needs
+
+add-put : tie.Need-add-put
+add-put c = search needs
+
+put-requires : tie.Need-put-requires
+put-requires c κs = search needs
+
+left-requires : tie.Need-left-requires
+left-requires c κs = search needs
+
+set-path-requires : tie.Need-set-path-requires
+set-path-requires c κs = search needs
+
+same-length : tie.Need-same-length
+same-length c = search needs
+
+returns : tie.Need-returns
+unfolding extendPath
+returns c = cc
+
+pub extend-spec : {M : Type 1} → statement M
+extend-spec =
+    tie.close
+    (tie.spec
+    second-of-requires
+    add-put
+    put-requires
+    left-requires
+    set-path-requires
+    same-length
+    returns)

@@ -1,0 +1,50 @@
+-- `left` meets its contract. Assumes nothing.
+use native.Mathlib.Nat.{mul-le-mul}
+use Rattle.routes.specs.Side.{leftIn}
+use borrow.Author.Tests.{eq-eqb, ne-eqb, lt-ltb, le-ltb}
+use Prim.Native.Nat.{_-_}
+use native.Mathlib.Omega.{arith}
+use borrow.Author.Needs.{needs}
+use Rattle.routes.proofs.side.left.Statement.{statement}
+use Rattle.routes.proofs.side.left.Tie as tie
+
+returns : tie.Need-returns
+unfolding leftIn
+returns c = rw (eq-eqb (c .before .before .args .i) 0 (c .if1 .taken))
+
+returns-2 : tie.Need-returns-2
+unfolding leftIn
+returns-2 c = rw (ne-eqb (c .before .before .before .args .i) 0 (c .before .if1 .left), eq-eqb (c .before .before .before .args .v) 0 (c .if2 .taken))
+
+returns-3 : tie.Need-returns-3
+unfolding leftIn
+returns-3 c =
+    let a = c .before .before .before .before .args in
+    rw (ne-eqb (a .i) 0 (c .before .before .if1 .left), ne-eqb (a .v) 0 (c .before .if2 .left), lt-ltb (a .n) (a .v) (c .if3 .taken))
+
+sub-row : tie.Need-sub-row
+sub-row c = search needs
+
+mul-row : tie.Need-mul-row
+mul-row c = omega (arith, mul-le-mul {n₁ = c .before .before .before .before .args .i - 1} {m₁ = c .before .before .before .before .args .n} {n₂ = 65535} {m₂ = 65535} (omega arith) (omega arith))
+
+sub-get : tie.Need-sub-get
+sub-get c = search needs
+
+add-get : tie.Need-add-get
+add-get c = omega (arith, mul-le-mul {n₁ = c .before .before .before .before .args .i - 1} {m₁ = c .before .before .before .before .args .n} {n₂ = 65535} {m₂ = 65535} (omega arith) (omega arith))
+
+get-requires : tie.Need-get-requires
+get-requires c κs = search needs
+
+returns-4 : tie.Need-returns-4
+unfolding leftIn
+returns-4 c =
+    let a = c .before .before .before .before .before .args in
+    rw (ne-eqb (a .i) 0 (c .before .before .before .if1 .left), ne-eqb (a .v) 0 (c .before .before .if2 .left), le-ltb (a .n) (a .v) (c .before .if3 .left))
+    (c .get .ensures)
+
+pub left-spec : {M : Type 1} → statement M
+left-spec =
+    tie.close
+    (tie.spec returns returns-2 returns-3 sub-row mul-row sub-get add-get get-requires returns-4)

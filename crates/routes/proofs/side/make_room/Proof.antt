@@ -1,0 +1,65 @@
+-- `make_room` meets its contract. The loop's invariant: what is left to do gives what the whole gives. Assumes nothing.
+use Rattle.routes.proofs.Turns.{trade-turn, trade-end}
+use native.Mathlib.Numerals.{sub-one}
+use Rattle.routes.specs.Side.{leftIn, tradeFrom}
+use native.Mathlib.Omega.{arith}
+use lib.ListN.{length}
+use mathlib.Core.Path.{_≡_, refl, sym, _∙_, ap}
+use Prim.Native.Nat.{_-_}
+use Rattle.routes.proofs.side.make_room.Statement.{statement}
+use Rattle.routes.proofs.side.make_room.Tie as tie
+
+abbrev Inv-loop : tie.InvT-loop
+Inv-loop side₀ table n v j i₀ side i = (length side ≡ length side₀) × (tradeFrom (leftIn table n) v j i₀ side₀ ≡ tradeFrom (leftIn table n) v j i side)
+
+abbrev μ-loop : tie.MeasureT-loop
+μ-loop side₀ table n v j i₀ side i = i
+
+sub-i : tie.Need-sub-i Inv-loop μ-loop
+sub-i c = omega arith
+
+loop-holds : tie.Need-loop-holds Inv-loop μ-loop
+loop-holds c = (refl, refl)
+
+exchange-at-requires : tie.Need-exchange-at-requires Inv-loop μ-loop
+exchange-at-requires c κs = tt
+
+sub-i-2 : tie.Need-sub-i-2 Inv-loop μ-loop
+sub-i-2 c = omega arith
+
+loop-less : tie.Need-loop-less Inv-loop μ-loop
+loop-less c = omega arith
+
+loop-again : tie.Need-loop-again Inv-loop μ-loop
+loop-again c =
+    let a = c .before .before .before .before .before .before .before .before .args in
+    let L = leftIn (a .table .now) (a .n) in (
+      c .before .before .exchange-at .kept .0 ∙ c .before .before .before .before .before .loop .inv .0,
+      c .before .before .before .before .before .loop .inv .1
+          ∙ trade-turn L (a .v) (a .j) (c .before .before .before .before .before .loop .i) (c .before .before .before .before .before .loop .side) (omega arith)
+          ∙ ap (tradeFrom L (a .v) (a .j) (c .before .before .before .before .before .loop .i - 1)) (sym (c .before .before .exchange-at .ensures)),
+    )
+
+same-length : tie.Need-same-length Inv-loop μ-loop
+same-length c = c .before .loop .inv .0
+
+returns : tie.Need-returns Inv-loop μ-loop
+returns c =
+    let a = c .before .before .before .before .args in
+    let L = leftIn (a .table .now) (a .n) in
+    sym (rw (← sub-one (a .j)) (c .before .loop .inv .1 ∙ trade-end L (a .v) (a .j) (c .before .loop .i) (c .before .loop .side) (omega arith)))
+
+pub make-room-spec : {M : Type 1} → statement M
+make-room-spec =
+    tie.close
+    (tie.spec
+    Inv-loop
+    μ-loop
+    sub-i
+    loop-holds
+    exchange-at-requires
+    sub-i-2
+    loop-less
+    loop-again
+    same-length
+    returns)

@@ -1,0 +1,18 @@
+-- `prior_of` meets its contract. Assumes nothing.
+use Rattle.routes.specs.Side.{priorIn}
+use borrow.Author.Needs.{needs}
+use Rattle.routes.proofs.side.prior_of.Statement.{statement}
+use Rattle.routes.proofs.side.prior_of.Tie as tie
+
+add-get : tie.Need-add-get
+add-get c = search needs
+
+get-requires : tie.Need-get-requires
+get-requires c κs = search needs
+
+returns : tie.Need-returns
+unfolding priorIn
+returns c = c .get .ensures
+
+pub prior-of-spec : {M : Type 1} → statement M
+prior-of-spec = tie.close (tie.spec add-get get-requires returns)

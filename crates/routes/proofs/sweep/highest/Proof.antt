@@ -1,0 +1,94 @@
+-- `highest` meets its contract. The loop's invariant: what is left to do gives what the whole gives. Assumes nothing.
+use Rattle.routes.proofs.Turns.{highest-found, highest-turn, highest-end}
+use Rattle.routes.specs.Sides.{highestIn}
+use Rattle.routes.specs.Side.{endIn}
+use native.Mathlib.Omega.{arith}
+use borrow.Author.Tests.{eq-eqb, ne-eqb}
+use lib.Dec.{eqb}
+use mathlib.Core.Path.{_≡_, refl, sym, _∙_}
+use mathlib.Core.List.{List}
+use mathlib.Core.Bool.{Bool, true, false, _||_, or-true}
+use Prim.Native.Nat.{ℕ}
+use Rattle.routes.proofs.sweep.highest.Statement.{statement}
+use Rattle.routes.proofs.sweep.highest.Tie as tie
+
+-- Path i of one of the sides ends at v.
+abbrev ends : List ℕ → List ℕ → ℕ → ℕ → Bool
+ends a b v i = eqb (endIn a i) v || eqb (endIn b i) v
+
+first-ends : (a b : List ℕ) (v i : ℕ) → endIn a i ≡ v → ends a b v i ≡ true
+first-ends a b v i e = rw (eq-eqb (endIn a i) v e)
+
+second-ends : (a b : List ℕ) (v i : ℕ) → endIn b i ≡ v → ends a b v i ≡ true
+second-ends a b v i e = rw (eq-eqb (endIn b i) v e) (or-true (eqb (endIn a i) v))
+
+none-ends : (a b : List ℕ) (v i : ℕ) → (endIn a i ≡ v → ⊥) → (endIn b i ≡ v → ⊥) → ends a b v i ≡ false
+none-ends a b v i p q = rw (ne-eqb (endIn a i) v p, ne-eqb (endIn b i) v q)
+
+abbrev Inv-loop : tie.InvT-loop
+Inv-loop a b k v i₀ i = highestIn k v a b ≡ highestIn i v a b
+
+abbrev μ-loop : tie.MeasureT-loop
+μ-loop a b k v i₀ i = i
+
+loop-holds : tie.Need-loop-holds Inv-loop μ-loop
+loop-holds c = refl
+
+end-of-requires : tie.Need-end-of-requires Inv-loop μ-loop
+end-of-requires c κs = tt
+
+returns : tie.Need-returns Inv-loop μ-loop
+unfolding highestIn
+returns c =
+    let a = c .before .before .before .before .before .before .args in
+    let i = c .before .before .before .loop .i in
+    sym (c .before .before .before .loop .inv ∙ highest-found (ends (a .a .now) (a .b .now) (a .v)) i (omega arith)
+    (first-ends (a .a .now) (a .b .now) (a .v) i (sym (c .before .end-of .ensures) ∙ c .if1 .taken)))
+
+end-of-requires-2 : tie.Need-end-of-requires-2 Inv-loop μ-loop
+end-of-requires-2 c κs = tt
+
+returns-2 : tie.Need-returns-2 Inv-loop μ-loop
+unfolding highestIn
+returns-2 c =
+    let a = c .before .before .before .before .before .before .before .before .args in
+    let i = c .before .before .before .before .before .loop .i in
+    sym (c .before .before .before .before .before .loop .inv ∙ highest-found (ends (a .a .now) (a .b .now) (a .v)) i (omega arith)
+    (second-ends (a .a .now) (a .b .now) (a .v) i (sym (c .before .end-of2 .ensures) ∙ c .if2 .taken)))
+
+sub-i : tie.Need-sub-i Inv-loop μ-loop
+sub-i c = omega arith
+
+loop-less : tie.Need-loop-less Inv-loop μ-loop
+loop-less c = omega arith
+
+loop-again : tie.Need-loop-again Inv-loop μ-loop
+unfolding highestIn
+loop-again c =
+    let a = c .before .before .before .before .before .before .before .before .args in
+    let i = c .before .before .before .before .before .loop .i in
+    c .before .before .before .before .before .loop .inv ∙ highest-turn (ends (a .a .now) (a .b .now) (a .v)) i (omega arith)
+    (none-ends (a .a .now) (a .b .now) (a .v) i
+    (λ e. c .before .before .if1 .left (c .before .before .before .end-of .ensures ∙ e)) (λ e. c .if2 .left (c .before .end-of2 .ensures ∙ e)))
+
+returns-3 : tie.Need-returns-3 Inv-loop μ-loop
+unfolding highestIn
+returns-3 c =
+    let a = c .before .before .before .before .args in
+    sym (c .before .loop .inv ∙ highest-end (ends (a .a .now) (a .b .now) (a .v)) (c .before .loop .i) (omega arith))
+
+pub highest-spec : {M : Type 1} → statement M
+highest-spec =
+    tie.close
+    (tie.spec
+    Inv-loop
+    μ-loop
+    loop-holds
+    end-of-requires
+    returns
+    end-of-requires-2
+    returns-2
+    sub-i
+    loop-less
+    loop-again
+    returns-3)

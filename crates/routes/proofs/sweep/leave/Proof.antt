@@ -1,0 +1,61 @@
+-- `leave` meets its contract. The loop's invariant: what is left to do gives what the whole gives. Assumes nothing.
+use Rattle.routes.proofs.Turns.{leave-turn, leave-end}
+use Rattle.routes.specs.Sides.{leaveFrom}
+use Rattle.routes.specs.Side.{leftIn}
+use native.Mathlib.Omega.{arith}
+use lib.ListN.{length}
+use mathlib.Core.Path.{_≡_, refl, sym, _∙_, ap}
+use Prim.Native.Nat.{_-_}
+use Rattle.routes.proofs.sweep.leave.Statement.{statement}
+use Rattle.routes.proofs.sweep.leave.Tie as tie
+
+abbrev Inv-loop : tie.InvT-loop
+Inv-loop b₀ a table n k t i₀ b i = (length b ≡ length b₀) × (leaveFrom (leftIn table n) t a i₀ b₀ ≡ leaveFrom (leftIn table n) t a i b)
+
+abbrev μ-loop : tie.MeasureT-loop
+μ-loop b₀ a table n k t i₀ b i = i
+
+loop-holds : tie.Need-loop-holds Inv-loop μ-loop
+loop-holds c = (refl, refl)
+
+leave-at-requires : tie.Need-leave-at-requires Inv-loop μ-loop
+leave-at-requires c κs = tt
+
+sub-i : tie.Need-sub-i Inv-loop μ-loop
+sub-i c = omega arith
+
+loop-less : tie.Need-loop-less Inv-loop μ-loop
+loop-less c = omega arith
+
+loop-again : tie.Need-loop-again Inv-loop μ-loop
+loop-again c =
+    let a = c .before .before .before .before .before .before .before .before .before .args in
+    let L = leftIn (a .table .now) (a .n) in (
+      c .before .before .leave-at .kept .0 ∙ c .before .before .before .before .before .loop .inv .0,
+      c .before .before .before .before .before .loop .inv .1
+          ∙ leave-turn L (a .t) (a .a .now) (c .before .before .before .before .before .loop .i) (c .before .before .before .before .before .loop .b) (omega arith)
+          ∙ ap (leaveFrom L (a .t) (a .a .now) (c .before .before .before .before .before .loop .i - 1)) (sym (c .before .before .leave-at .ensures)),
+    )
+
+same-length : tie.Need-same-length Inv-loop μ-loop
+same-length c = c .before .loop .inv .0
+
+returns : tie.Need-returns Inv-loop μ-loop
+returns c =
+    let a = c .before .before .before .before .before .args in
+    let L = leftIn (a .table .now) (a .n) in
+    sym (c .before .loop .inv .1 ∙ leave-end L (a .t) (a .a .now) (c .before .loop .i) (c .before .loop .b) (omega arith))
+
+pub leave-spec : {M : Type 1} → statement M
+leave-spec =
+    tie.close
+    (tie.spec
+    Inv-loop
+    μ-loop
+    loop-holds
+    leave-at-requires
+    sub-i
+    loop-less
+    loop-again
+    same-length
+    returns)

@@ -1,0 +1,38 @@
+-- `leave_at` meets its contract. Assumes nothing.
+use mathlib.Core.Path.{sym, _∙_}
+use borrow.Author.Tests.{eq-eqb, ne-eqb}
+use Rattle.routes.specs.Sides.{leaveAt}
+use Rattle.routes.specs.Side.{endIn}
+use borrow.Author.Needs.{needs}
+use Rattle.routes.proofs.sweep.leave_at.Statement.{statement}
+use Rattle.routes.proofs.sweep.leave_at.Tie as tie
+
+end-of-requires : tie.Need-end-of-requires
+end-of-requires c κs = search needs
+
+left-requires : tie.Need-left-requires
+left-requires c κs = search needs
+
+set-path-requires : tie.Need-set-path-requires
+set-path-requires c κs = search needs
+
+same-length : tie.Need-same-length
+same-length c = search needs
+
+returns : tie.Need-returns
+unfolding leaveAt
+returns c =
+    let a = c .before .before .before .before .before .before .before .before .before .before .args in
+    rw (ne-eqb (endIn (a .a .now) (a .i)) (a .t) (λ e. c .before .before .before .before .before .if1 .taken (c .before .before .before .before .before .before .end-of .ensures ∙ e)), ← c .before .before .before .before .left .ensures)
+    (c .before .before .set-path .ensures)
+
+returns-2 : tie.Need-returns-2
+unfolding leaveAt
+returns-2 c =
+    let a = c .before .before .before .before .before .args in
+    rw (eq-eqb (endIn (a .a .now) (a .i)) (a .t) (sym (c .before .end-of .ensures) ∙ c .if1 .left))
+
+pub leave-at-spec : {M : Type 1} → statement M
+leave-at-spec =
+    tie.close
+    (tie.spec end-of-requires left-requires set-path-requires same-length returns returns-2)

@@ -1,0 +1,51 @@
+-- `pass` meets its contract. Assumes nothing.
+use Rattle.routes.proofs.Turns.{passed}
+use Rattle.routes.specs.Side.{leftIn}
+use borrow.Author.Needs.{needs}
+use Rattle.routes.proofs.sweep.pass.Statement.{statement}
+use Rattle.routes.proofs.sweep.pass.Tie as tie
+
+make-room-requires : tie.Need-make-room-requires
+make-room-requires c κs = search needs
+
+make-room-requires-2 : tie.Need-make-room-requires-2
+make-room-requires-2 c κs = search needs
+
+end-of-requires : tie.Need-end-of-requires
+end-of-requires c κs = search needs
+
+end-of-requires-2 : tie.Need-end-of-requires-2
+end-of-requires-2 c κs = search needs
+
+go-on-requires : tie.Need-go-on-requires
+go-on-requires c κs = search needs
+
+go-on-requires-2 : tie.Need-go-on-requires-2
+go-on-requires-2 c κs = search needs
+
+same-length : tie.Need-same-length
+same-length c = search needs
+
+same-length-2 : tie.Need-same-length-2
+same-length-2 c = search needs
+
+returns : tie.Need-returns
+returns c =
+    let a = c .before .before .before .before .before .before .before .before .before .before .before .before .before .before .before .before .before .before .before .before .before .before .before .args in
+    passed (leftIn (a .table .now) (a .n)) (a .v) (a .j) (a .a .now) (a .b .now) _ _ _ _ _ _
+    (c .before .before .before .before .before .before .before .before .before .before .before .before .before .before .before .before .before .before .make-room .ensures) (c .before .before .before .before .before .before .before .before .before .before .before .before .before .before .make-room2 .ensures) (c .before .before .before .before .before .before .before .before .before .before .end-of .ensures) (c .before .before .before .before .before .before .before .before .end-of2 .ensures)
+    (c .before .before .before .before .before .before .go-on .ensures) (c .before .before .go-on2 .ensures)
+
+pub pass-spec : {M : Type 1} → statement M
+pass-spec =
+    tie.close
+    (tie.spec
+    make-room-requires
+    make-room-requires-2
+    end-of-requires
+    end-of-requires-2
+    go-on-requires
+    go-on-requires-2
+    same-length
+    same-length-2
+    returns)

@@ -1,0 +1,67 @@
+-- `start_a` meets its contract. The loop's invariant: what is left to do gives what the whole gives. Assumes nothing.
+use Rattle.routes.proofs.Turns.{start-a-turn, start-a-end}
+use Rattle.routes.specs.Sides.{startA}
+use Rattle.routes.specs.Side.{leftIn, setPath}
+use native.Mathlib.Omega.{arith}
+use lib.ListN.{length}
+use mathlib.Core.Path.{_≡_, refl, sym, _∙_, ap}
+use Prim.Native.Nat.{_-_}
+use Rattle.routes.proofs.sweep.start_a.Statement.{statement}
+use Rattle.routes.proofs.sweep.start_a.Tie as tie
+
+abbrev Inv-loop : tie.InvT-loop
+Inv-loop a₀ table n k s i₀ a i = (length a ≡ length a₀) × (startA (leftIn table n) s i₀ a₀ ≡ startA (leftIn table n) s i a)
+
+abbrev μ-loop : tie.MeasureT-loop
+μ-loop a₀ table n k s i₀ a i = i
+
+loop-holds : tie.Need-loop-holds Inv-loop μ-loop
+loop-holds c = (refl, refl)
+
+left-requires : tie.Need-left-requires Inv-loop μ-loop
+left-requires c κs = tt
+
+set-path-requires : tie.Need-set-path-requires Inv-loop μ-loop
+set-path-requires c κs = tt
+
+sub-i : tie.Need-sub-i Inv-loop μ-loop
+sub-i c = omega arith
+
+loop-less : tie.Need-loop-less Inv-loop μ-loop
+loop-less c = omega arith
+
+loop-again : tie.Need-loop-again Inv-loop μ-loop
+loop-again c =
+    let a = c .before .before .before .before .before .before .before .before .before .args in
+    let L = leftIn (a .table .now) (a .n) in
+    let i = c .before .before .before .before .before .before .loop .i in (
+      c .before .before .set-path .kept .0 ∙ c .before .before .before .before .before .before .loop .inv .0,
+      c .before .before .before .before .before .before .loop .inv .1
+          ∙ start-a-turn L (a .s) i (c .before .before .before .before .before .before .loop .a) (omega arith)
+          ∙ ap (startA L (a .s) (i - 1))
+          (ap (λ x. setPath (c .before .before .before .before .before .before .loop .a) i x (a .s)) (sym (c .before .before .before .before .left .ensures)) ∙ sym (c .before .before .set-path .ensures)),
+    )
+
+same-length : tie.Need-same-length Inv-loop μ-loop
+same-length c = c .before .loop .inv .0
+
+returns : tie.Need-returns Inv-loop μ-loop
+returns c =
+    let a = c .before .before .before .before .args in
+    let L = leftIn (a .table .now) (a .n) in
+    sym (c .before .loop .inv .1 ∙ start-a-end L (a .s) (c .before .loop .i) (c .before .loop .a) (omega arith))
+
+pub start-a-spec : {M : Type 1} → statement M
+start-a-spec =
+    tie.close
+    (tie.spec
+    Inv-loop
+    μ-loop
+    loop-holds
+    left-requires
+    set-path-requires
+    sub-i
+    loop-less
+    loop-again
+    same-length
+    returns)

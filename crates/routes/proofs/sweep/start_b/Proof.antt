@@ -1,0 +1,58 @@
+-- `start_b` meets its contract. The loop's invariant: what is left to do gives what the whole gives. Assumes nothing.
+use Rattle.routes.proofs.Turns.{start-b-turn, start-b-end}
+use Rattle.routes.specs.Sides.{startB}
+use native.Mathlib.Omega.{arith}
+use lib.ListN.{length}
+use mathlib.Core.Path.{_≡_, refl, sym, _∙_, ap}
+use Prim.Native.Nat.{_-_}
+use Rattle.routes.proofs.sweep.start_b.Statement.{statement}
+use Rattle.routes.proofs.sweep.start_b.Tie as tie
+
+abbrev Inv-loop : tie.InvT-loop
+Inv-loop b₀ k t i₀ b i = (length b ≡ length b₀) × (startB t i₀ b₀ ≡ startB t i b)
+
+abbrev μ-loop : tie.MeasureT-loop
+μ-loop b₀ k t i₀ b i = i
+
+loop-holds : tie.Need-loop-holds Inv-loop μ-loop
+loop-holds c = (refl, refl)
+
+set-path-requires : tie.Need-set-path-requires Inv-loop μ-loop
+set-path-requires c κs = tt
+
+sub-i : tie.Need-sub-i Inv-loop μ-loop
+sub-i c = omega arith
+
+loop-less : tie.Need-loop-less Inv-loop μ-loop
+loop-less c = omega arith
+
+loop-again : tie.Need-loop-again Inv-loop μ-loop
+loop-again c =
+    let a = c .before .before .before .before .before .before .before .args in (
+      c .before .before .set-path .kept .0 ∙ c .before .before .before .before .before .loop .inv .0,
+      c .before .before .before .before .before .loop .inv .1
+          ∙ start-b-turn (a .t) (c .before .before .before .before .before .loop .i) (c .before .before .before .before .before .loop .b) (omega arith)
+          ∙ ap (startB (a .t) (c .before .before .before .before .before .loop .i - 1)) (sym (c .before .before .set-path .ensures)),
+    )
+
+same-length : tie.Need-same-length Inv-loop μ-loop
+same-length c = c .before .loop .inv .0
+
+returns : tie.Need-returns Inv-loop μ-loop
+returns c =
+    let a = c .before .before .before .args in
+    sym (c .before .loop .inv .1 ∙ start-b-end (a .t) (c .before .loop .i) (c .before .loop .b) (omega arith))
+
+pub start-b-spec : {M : Type 1} → statement M
+start-b-spec =
+    tie.close
+    (tie.spec
+    Inv-loop
+    μ-loop
+    loop-holds
+    set-path-requires
+    sub-i
+    loop-less
+    loop-again
+    same-length
+    returns)

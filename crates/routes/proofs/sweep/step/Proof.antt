@@ -1,0 +1,69 @@
+-- `step` meets its contract. Assumes nothing.
+use Rattle.routes.proofs.Turns.{stepped-at, stepped-none, stepped-pass}
+use Rattle.routes.specs.Side.{leftIn}
+use borrow.Author.Needs.{needs}
+use Rattle.routes.proofs.sweep.step.Statement.{statement}
+use Rattle.routes.proofs.sweep.step.Tie as tie
+
+leave-requires : tie.Need-leave-requires
+leave-requires c κs = search needs
+
+same-length : tie.Need-same-length
+same-length c = search needs
+
+same-length-2 : tie.Need-same-length-2
+same-length-2 c = search needs
+
+returns : tie.Need-returns
+returns c =
+    let a = c .before .before .before .before .before .before .before .before .before .args in
+    stepped-at (leftIn (a .table .now) (a .n)) (a .k) (a .t) (a .v) (a .a .now) (a .b .now) (c .before .before .leave .last .0)
+    (c .before .before .before .before .before .if1 .taken) (c .before .before .leave .ensures)
+
+highest-requires : tie.Need-highest-requires
+highest-requires c κs = search needs
+
+same-length-3 : tie.Need-same-length-3
+same-length-3 c = search needs
+
+same-length-4 : tie.Need-same-length-4
+same-length-4 c = search needs
+
+returns-2 : tie.Need-returns-2
+returns-2 c =
+    let a = c .before .before .before .before .before .before .before .before .args in
+    stepped-none (leftIn (a .table .now) (a .n)) (a .k) (a .t) (a .v) (c .before .highest .result) (a .a .now) (a .b .now)
+    (c .before .before .before .before .if1 .left) (c .before .highest .ensures) (c .if2 .taken)
+
+pass-requires : tie.Need-pass-requires
+pass-requires c κs = search needs
+
+same-length-5 : tie.Need-same-length-5
+same-length-5 c = search needs
+
+same-length-6 : tie.Need-same-length-6
+same-length-6 c = search needs
+
+returns-3 : tie.Need-returns-3
+returns-3 c =
+    let a = c .before .before .before .before .before .before .before .before .before .before .before .before .before .before .before .args in
+    stepped-pass (leftIn (a .table .now) (a .n)) (a .k) (a .t) (a .v) (c .before .before .before .before .before .before .before .before .highest .result) (a .a .now) (a .b .now)
+    (c .before .before .before .before .pass .last .0) (c .before .before .before .before .pass .last .1 .0)
+    (c .before .before .before .before .before .before .before .before .before .before .before .if1 .left) (c .before .before .before .before .before .before .before .before .highest .ensures) (c .before .before .before .before .before .before .before .if2 .left) (c .before .before .before .before .pass .ensures)
+
+pub step-spec : {M : Type 1} → statement M
+step-spec =
+    tie.close
+    (tie.spec
+    leave-requires
+    same-length
+    same-length-2
+    returns
+    highest-requires
+    same-length-3
+    same-length-4
+    returns-2
+    pass-requires
+    same-length-5
+    same-length-6
+    returns-3)

@@ -1,0 +1,42 @@
+-- `sweep` meets its contract. Assumes nothing.
+use Rattle.routes.proofs.Turns.{swept}
+use Rattle.routes.specs.Side.{leftIn}
+use borrow.Author.Needs.{needs}
+use Rattle.routes.proofs.sweep.sweep.Statement.{statement}
+use Rattle.routes.proofs.sweep.sweep.Tie as tie
+
+start-a-requires : tie.Need-start-a-requires
+start-a-requires c κs = search needs
+
+start-b-requires : tie.Need-start-b-requires
+start-b-requires c κs = search needs
+
+sub-steps : tie.Need-sub-steps
+sub-steps c = search needs
+
+steps-requires : tie.Need-steps-requires
+steps-requires c κs = search needs
+
+same-length : tie.Need-same-length
+same-length c = search needs
+
+same-length-2 : tie.Need-same-length-2
+same-length-2 c = search needs
+
+returns : tie.Need-returns
+returns c =
+    let a = c .before .before .before .before .before .before .before .before .before .before .before .before .before .before .before .before .before .before .args in
+    swept (leftIn (a .table .now) (a .n)) (a .k) (a .s) (a .t) (a .a .now) (a .b .now) _ _ _ _
+    (c .before .before .before .before .before .before .before .before .before .before .before .before .before .start-a .ensures) (c .before .before .before .before .before .before .before .before .before .start-b .ensures) (c .before .before .before .before .steps .ensures)
+
+pub sweep-spec : {M : Type 1} → statement M
+sweep-spec =
+    tie.close
+    (tie.spec
+    start-a-requires
+    start-b-requires
+    sub-steps
+    steps-requires
+    same-length
+    same-length-2
+    returns)

@@ -1,0 +1,3 @@
+-- What the functions of this crate compute, on lists, as their loops run.
+pub mod Side
+pub mod Sides

@@ -1,0 +1,48 @@
+-- The paths of one side of the sweep, A or B, in one list: entry i is the end of path i, entry 33 + i its last but one, and
+-- entry 66 + x the relay before x on its path; 0 means none. What the functions on a side do to it. Assumes nothing.
+use Prim.Native.Nat.{ℕ, zero, suc, _+_, _-_, _*_}
+use mathlib.Core.List.{List}
+use lib.Dec.{eqb, ltb}
+use lib.ListN.{getD, set}
+use Rattle.definitions.specs.Outcome.{pick}
+
+-- Entry (i − 1) × n + (v − 1) of a left table, i and v from 1, v up to n; 0 for any other.
+unfoldable pub leftIn : List ℕ → ℕ → ℕ → ℕ → ℕ
+leftIn table n i v =
+    pick (eqb i 0) 0 (pick (eqb v 0) 0 (pick (ltb n v) 0 (getD table ((i - 1) * n + (v - 1)) 0)))
+
+-- The end of path i, its last but one, and the relay before x.
+unfoldable pub endIn : List ℕ → ℕ → ℕ
+endIn side i = getD side i 0
+
+unfoldable pub secondIn : List ℕ → ℕ → ℕ
+secondIn side i = getD side (33 + i) 0
+
+unfoldable pub priorIn : List ℕ → ℕ → ℕ
+priorIn side x = getD side (66 + x) 0
+
+-- The side after a new end and last but one for path i.
+unfoldable pub setPath : List ℕ → ℕ → ℕ → ℕ → List ℕ
+setPath side i end second = set (set side i end) (33 + i) second
+
+-- Path j goes on from its end v to left(j, v).
+unfoldable pub extendPath : (ℕ → ℕ → ℕ) → ℕ → ℕ → List ℕ → List ℕ
+extendPath left v j side = setPath (set side (66 + v) (secondIn side j)) j (left j v) v
+
+-- The same where path j ends at v and the other side's path j, which ends at `other`, does not.
+unfoldable pub advance : (ℕ → ℕ → ℕ) → ℕ → ℕ → ℕ → List ℕ → List ℕ
+advance left v j other side = pick (eqb (endIn side j) v) (pick (eqb other v) side (extendPath left v j side)) side
+
+-- Index i gets the path of index j with left(i, its last but one) as its end, and j gets the path of i.
+unfoldable pub trade : (ℕ → ℕ → ℕ) → ℕ → ℕ → List ℕ → List ℕ
+trade left j i side =
+    setPath (setPath side j (endIn side i) (secondIn side i)) i (left i (secondIn side j)) (secondIn side j)
+
+-- The same where path i ends at v.
+unfoldable pub tradeAt : (ℕ → ℕ → ℕ) → ℕ → ℕ → ℕ → List ℕ → List ℕ
+tradeAt left v j i side = pick (eqb (endIn side i) v) (trade left j i side) side
+
+-- The same for the indices i, …, 1, one after another.
+unfoldable pub tradeFrom : (ℕ → ℕ → ℕ) → ℕ → ℕ → ℕ → List ℕ → List ℕ
+tradeFrom left v j zero side = side
+tradeFrom left v j (suc i) side = tradeFrom left v j i (tradeAt left v j (suc i) side)

@@ -1,0 +1,3 @@
+// Route of document 01: the sweep over a left table, and the routes written out.
+mod side;
+mod sweep;

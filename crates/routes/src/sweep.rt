@@ -1,0 +1,120 @@
+// The sweep over a left table, on the lists of the two sides (`side`): A starts at s, the later place, B at t.
+ghost use mathlib.Core.Path.{_≡_};
+ghost use Prim.Native.Nat.{_<_};
+ghost use Rattle.routes.specs.Side.{leftIn};
+ghost use Rattle.routes.specs.Sides.{sides, highestIn, startA, startB, leaveAt, leaveFrom, passAt, stepIn, sweepIn, sweptIn};
+use crate::side::end_of;
+use crate::side::go_on;
+use crate::side::left;
+use crate::side::make_room;
+use crate::side::set_path;
+
+// The largest index up to k whose A-path or B-path ends at v, or 0.
+fn highest(a: &[u16], b: &[u16], k: u16, v: u16) -> u16
+    ensures { λ r. ⌜ r ≡ highestIn k v (now (a .entry)) (now (b .entry)) ⌝ }
+{
+    let mut i = k;
+    while 0 < i {
+        if end_of(a, i) == v {
+            return i;
+        }
+        if end_of(b, i) == v {
+            return i;
+        }
+        i -= 1;
+    }
+    0
+}
+
+// Path i of side A starts as s, left(i, s).
+fn start_a(a: &mut [u16], table: &[u16], n: u16, k: u16, s: u16)
+    ensures { λ _. ⌜ now (a .exit) ≡ startA (leftIn (now (table .entry)) n) s k (now (a .entry)) ⌝ }
+{
+    let mut i = k;
+    while 0 < i {
+        let next = left(table, n, i, s);
+        set_path(a, i, next, s);
+        i -= 1;
+    }
+}
+
+// Path i of side B starts as t alone.
+fn start_b(b: &mut [u16], k: u16, t: u16)
+    ensures { λ _. ⌜ now (b .exit) ≡ startB t k (now (b .entry)) ⌝ }
+{
+    let mut i = k;
+    while 0 < i {
+        set_path(b, i, t, 0);
+        i -= 1;
+    }
+}
+
+// At t: B-path i goes on to left(i, t), unless A-path i ends there.
+fn leave_at(b: &mut [u16], a: &[u16], table: &[u16], n: u16, t: u16, i: u16)
+    ensures { λ _. ⌜ now (b .exit) ≡ leaveAt (leftIn (now (table .entry)) n) t (now (a .entry)) i (now (b .entry)) ⌝ }
+{
+    let end = end_of(a, i);
+    if end != t {
+        let next = left(table, n, i, t);
+        set_path(b, i, next, t);
+    }
+}
+
+fn leave(b: &mut [u16], a: &[u16], table: &[u16], n: u16, k: u16, t: u16)
+    ensures { λ _. ⌜ now (b .exit) ≡ leaveFrom (leftIn (now (table .entry)) n) t (now (a .entry)) k (now (b .entry)) ⌝ }
+{
+    let mut i = k;
+    while 0 < i {
+        leave_at(b, a, table, n, t, i);
+        i -= 1;
+    }
+}
+
+// At another place v, where j is the highest index that ends there: both sides make room for j, and its paths meet or one
+// of them goes on.
+fn pass(a: &mut [u16], b: &mut [u16], table: &[u16], n: u16, v: u16, j: u16)
+    requires { ⌜ 0 < j ⌝ }
+    ensures { λ _. ⌜ sides (now (a .exit)) (now (b .exit)) ≡ passAt (leftIn (now (table .entry)) n) v j (now (a .entry)) (now (b .entry)) ⌝ }
+{
+    make_room(a, table, n, v, j);
+    make_room(b, table, n, v, j);
+    let end_a = end_of(a, j);
+    let end_b = end_of(b, j);
+    go_on(a, table, n, v, j, end_b);
+    go_on(b, table, n, v, j, end_a);
+}
+
+fn step(a: &mut [u16], b: &mut [u16], table: &[u16], n: u16, k: u16, t: u16, v: u16)
+    ensures { λ _. ⌜ sides (now (a .exit)) (now (b .exit)) ≡ stepIn (leftIn (now (table .entry)) n) k t v (now (a .entry)) (now (b .entry)) ⌝ }
+{
+    if v == t {
+        leave(b, a, table, n, k, t);
+        return;
+    }
+    let j = highest(a, b, k, v);
+    if j == 0 {
+        return;
+    }
+    pass(a, b, table, n, v, j);
+}
+
+// The steps at v, ..., 1, where v is `from`.
+fn steps(a: &mut [u16], b: &mut [u16], table: &[u16], n: u16, k: u16, t: u16, from: u16)
+    ensures { λ _. ⌜ sides (now (a .exit)) (now (b .exit)) ≡ sweepIn (leftIn (now (table .entry)) n) k t from (now (a .entry)) (now (b .entry)) ⌝ }
+{
+    let mut v = from;
+    while 0 < v {
+        step(a, b, table, n, k, t, v);
+        v -= 1;
+    }
+}
+
+// The whole sweep: from the start through the steps at s - 1, ..., 1.
+pub(crate) fn sweep(a: &mut [u16], b: &mut [u16], table: &[u16], n: u16, k: u16, s: u16, t: u16)
+    requires { ⌜ 0 < s ⌝ }
+    ensures { λ _. ⌜ sides (now (a .exit)) (now (b .exit)) ≡ sweptIn (leftIn (now (table .entry)) n) k s t (now (a .entry)) (now (b .entry)) ⌝ }
+{
+    start_a(a, table, n, k, s);
+    start_b(b, k, t);
+    steps(a, b, table, n, k, t, s - 1);
+}
