@@ -1,2 +1,3 @@
 -- Facts on the lists and tests of `definitions`, a module a subject. They know nothing of networks.
+pub mod Joins
 pub mod Tables

@@ -1,2 +1,3 @@
 -- The theorems about the definitions, a module a subject.
 pub mod LeftLaws
+pub mod Trees
