@@ -1,3 +1,4 @@
 -- The theorems about the definitions, a module a subject.
 pub mod LeftLaws
 pub mod Trees
+pub mod SweepShift
