@@ -2,3 +2,5 @@
 pub mod LeftLaws
 pub mod Trees
 pub mod SweepShift
+pub mod SweepPaths
+pub mod SweepSide

@@ -36,7 +36,7 @@ pub data Came (left : ℕ → ℕ → ℕ) (j : ℕ) (ends : ℕ → Bool) (path
   moves : ends i ≡ true → (ends n ≡ true) ⊎ (n ≡ j) → i < n → n ≤ j
       → result ≡ left i (beforeEnd (paths n)) ∷ tail (paths n) → Came left j ends paths i n result
   -- The highest gets the path of the lowest, which keeps its end v.
-  takes : i ≡ j → ends n ≡ true → n ≤ j → result ≡ paths n → Came left j ends paths i n result
+  takes : i ≡ j → ends n ≡ true → 1 ≤ n → n ≤ j → result ≡ paths n → Came left j ends paths i n result
 
 pub together-cases : (ends : ℕ → Bool) (j i : ℕ) → together ends j i ≡ true → (ends i ≡ true) ⊎ (i ≡ j)
 unfolding together
@@ -134,7 +134,7 @@ module _ (left : ℕ → ℕ → ℕ) (k j : ℕ) (ends : ℕ → Bool) (paths :
           → Came left j ends paths i (pick c (firstFrom set 1 k) (firstFrom set (suc i) k))
           (replaceEnds left set paths (pick c (firstFrom set 1 k) (firstFrom set (suc i) k)))
       inside true e into =
-          takes (eqb-true i j e) (lowest-ends some) (lowest .upto)
+          takes (eqb-true i j e) (lowest-ends some) (lowest .from) (lowest .upto)
           (replace-first left set paths (firstFrom set 1 k) (previous-first set j (firstFrom set 1 k) lowest))
       inside false e into = lower (together-cases ends j i into) (eqb-false i j e) into
 
