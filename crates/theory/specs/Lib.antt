@@ -4,3 +4,5 @@ pub mod Trees
 pub mod SweepShift
 pub mod SweepPaths
 pub mod SweepSide
+pub mod SweepInvariant
+pub mod SweepSettle

@@ -60,7 +60,7 @@ moved-shape : {left : ℕ → ℕ → ℕ} {k s c n v : ℕ} {path : List ℕ} (
 unfolding beforeEnd
 moved-shape {left} o i = ap (λ (p : List ℕ). left i (beforeEnd p) ∷ tail p) (o .shape)
 
-end-alone : (c : ℕ) (path : List ℕ) → path ≡ c ∷ [] → endOf path ≡ c
+pub end-alone : (c : ℕ) (path : List ℕ) → path ≡ c ∷ [] → endOf path ≡ c
 unfolding endOf
 end-alone c path e = rw e
 
