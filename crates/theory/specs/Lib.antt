@@ -6,3 +6,4 @@ pub mod SweepPaths
 pub mod SweepSide
 pub mod SweepInvariant
 pub mod SweepSettle
+pub mod SweepPassed
