@@ -1,9 +1,12 @@
 -- Facts on the lists and tests of `definitions`, a module a subject. They know nothing of networks.
+pub mod Joins
+pub mod Members
+pub mod Cases
+pub mod Searches
 pub mod Tables
 pub mod Tests
 pub mod Outcomes
 pub mod Below
-pub mod Members
 pub mod Distinct
 pub mod Counting
 pub mod Ascending

@@ -8,3 +8,10 @@ pub mod Left
 pub mod Links
 pub mod ForestNumbers
 pub mod ForestBound
+pub mod Trees
+pub mod SweepShift
+pub mod SweepPaths
+pub mod SweepSide
+pub mod SweepInvariant
+pub mod SweepSettle
+pub mod SweepPassed
