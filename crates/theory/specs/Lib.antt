@@ -4,3 +4,4 @@ pub mod Heaviest
 pub mod Ordering
 pub mod Accepted
 pub mod Places
+pub mod Left

@@ -1,0 +1,164 @@
+-- left(i, v), over any test `linked` and any order: it is an earlier neighbour, each earlier neighbour is one, and where the order
+-- is maximal it has the three laws. Then for the base.
+use Prim.Native.Nat.{ℕ, zero, suc, _≤_, _<_, pred}
+use mathlib.Core.Bool.{Bool, true, false}
+use mathlib.Core.List.{List, []}
+use mathlib.Core.Path.{_≡_, refl, _∙_, ap}
+use native.Mathlib.Omega.{arith}
+use borrow.Author.Tests.{ltb-true, ltb-false, lt-ltb}
+use lib.Dec.{ltb}
+use lib.ListN.{length, getD, take, List·getD-eq-default}
+use Rattle.definitions.specs.Outcome.{pick}
+use Rattle.definitions.specs.Lists.{rising, has, count}
+use Rattle.definitions.specs.Network.{linked as linkedIn}
+use Rattle.definitions.specs.Order.{orderOf, relayAt}
+use Rattle.definitions.specs.Forests.{earlier, left, forestBetween}
+use Rattle.definitions.specs.Route.{leftOf}
+use Rattle.lists.specs.Positions.{position-which, position-at}
+use Rattle.lists.specs.Rising.{rising-entry, rising-has, rising-no-repeat, rising-ascends, rising-front, rising-count, rising-length}
+use Rattle.theory.specs.LeftLaws.{LeftLaws}
+use Rattle.theory.specs.Ordering.{order-length, order-maximal}
+
+-- For every two places v < w, v has at least as many neighbours before v as w has; by index, from 0.
+abbrev pub Maximal : (ℕ → ℕ → Bool) → List ℕ → Type 0
+Maximal linked order =
+    (v w : ℕ) → v < w → w < length order
+    → count (λ p. linked p (getD order w 0)) (take v order) ≤ count (λ p. linked p (getD order v 0)) (take v order)
+
+module _ (linked : ℕ → ℕ → Bool) (order : List ℕ) where
+  -- The earlier neighbours of a place of the order.
+  pub earlier-in : (v : ℕ) → 1 ≤ v → v ≤ length order
+      → earlier linked order v ≡ rising (λ u. linked (relayAt order u) (relayAt order v)) (pred v)
+  unfolding earlier
+  earlier-in zero h k = absurd (omega arith)
+  earlier-in (suc v) h k = rw (lt-ltb v (length order) k) refl
+
+  -- A place with earlier neighbours is a place of the order.
+  earlier-some : (v : ℕ) → 0 < length (earlier linked order v) → (1 ≤ v) × (v ≤ length order)
+  unfolding earlier
+  earlier-some zero h = absurd (omega arith)
+  earlier-some (suc v) h = go (ltb v (length order)) refl h
+    where
+      go : (b : Bool) → ltb v (length order) ≡ b
+          → 0 < length (pick b (rising (λ u. linked (relayAt order u) (relayAt order (suc v))) v) [])
+          → (1 ≤ suc v) × (suc v ≤ length order)
+      go true e k = omega (arith, ltb-true v (length order) e)
+      go false e k = absurd (omega arith)
+
+  -- Where left(i, v) is, the place v and the index i are in range.
+  pub left-range : (i v : ℕ) → 0 < left linked order i v
+      → (1 ≤ i) × (1 ≤ v) × (v ≤ length order)
+      × (pred i < length (rising (λ u. linked (relayAt order u) (relayAt order v)) (pred v)))
+      × (left linked order i v ≡ getD (rising (λ u. linked (relayAt order u) (relayAt order v)) (pred v)) (pred i) 0)
+  unfolding left
+  left-range zero v h = absurd (omega arith)
+  left-range (suc i) v h = go (ltb i (length (earlier linked order v))) refl
+    where
+      go : (b : Bool) → ltb i (length (earlier linked order v)) ≡ b
+          → (1 ≤ suc i) × (1 ≤ v) × (v ≤ length order)
+          × (i < length (rising (λ u. linked (relayAt order u) (relayAt order v)) (pred v)))
+          × (getD (earlier linked order v) i 0 ≡ getD (rising (λ u. linked (relayAt order u) (relayAt order v)) (pred v)) i 0)
+      go true e =
+          let k : i < length (earlier linked order v) = ltb-true i (length (earlier linked order v)) e in
+          let at = earlier-some v (omega arith) in
+          let same = earlier-in v (at .0) (at .1) in
+          (omega arith, at .0, at .1, rw same at k, ap (λ (l : List ℕ). getD l i 0) same)
+      go false e =
+          absurd (omega (arith, List·getD-eq-default (earlier linked order v) 0 (ltb-false i (length (earlier linked order v)) e)))
+
+  -- And where they are in range, left(i, v) is.
+  left-some : (i v : ℕ) → 1 ≤ i → 1 ≤ v → v ≤ length order
+      → pred i < length (rising (λ u. linked (relayAt order u) (relayAt order v)) (pred v)) → 0 < left linked order i v
+  unfolding left
+  left-some zero v h k q p = absurd (omega arith)
+  left-some (suc i) v h k q p =
+      rw (earlier-in v k q) (rising-entry (λ u. linked (relayAt order u) (relayAt order v)) (pred v) i p .0)
+
+  pub left-linked : (i v : ℕ) → 0 < left linked order i v → linked (relayAt order (left linked order i v)) (relayAt order v) ≡ true
+  left-linked i v h =
+      let r = left-range i v h in
+      rw (r .4) (rising-entry (λ u. linked (relayAt order u) (relayAt order v)) (pred v) (pred i) (r .3) .2)
+
+  pub left-below : (i v : ℕ) → 0 < left linked order i v → left linked order i v < v
+  left-below i v h =
+      let r = left-range i v h in
+      omega (arith, r .1, r .4, rising-entry (λ u. linked (relayAt order u) (relayAt order v)) (pred v) (pred i) (r .3) .1)
+
+  -- An index is below its place.
+  pub left-index : (i v : ℕ) → 0 < left linked order i v → i < v
+  left-index i v h =
+      let r = left-range i v h in
+      omega (arith, r .0, r .1, r .3, rising-length (λ u. linked (relayAt order u) (relayAt order v)) (pred v))
+
+  -- The link between linked places u and v is in a forest, and there left is u.
+  pub left-forest : (u v : ℕ) → 1 ≤ u → u < v → v ≤ length order → linked (relayAt order u) (relayAt order v) ≡ true
+      → (1 ≤ forestBetween linked order u v) × (left linked order (forestBetween linked order u v) v ≡ u)
+  unfolding forestBetween left
+  left-forest u v h k q e =
+      let test : ℕ → Bool = λ x. linked (relayAt order x) (relayAt order v) in
+      let there : has (earlier linked order v) u ≡ true =
+      rw (earlier-in v (omega arith) q) (rising-has test (pred v) u h (omega arith) e) in
+      let w = position-which (earlier linked order v) u there in
+      rw (w .2) (omega arith, w .3)
+
+  -- No other index of v leads to the same place.
+  pub forest-left : (i v : ℕ) → 0 < left linked order i v → forestBetween linked order (left linked order i v) v ≡ i
+  unfolding forestBetween
+  forest-left i v h =
+      let r = left-range i v h in
+      let test : ℕ → Bool = λ x. linked (relayAt order x) (relayAt order v) in
+      rw (r .4, earlier-in v (r .1) (r .2))
+      (position-at (rising test (pred v)) (rising-no-repeat test (pred v)) (pred i) (r .3) ∙ (omega (arith, r .0)))
+
+  pub laws-of-left : Maximal linked order → LeftLaws (left linked order)
+  unfolding relayAt
+  laws-of-left maximal =
+      record {
+        below = left-below;
+        rises = λ h i v some under p.
+            let r = left-range i v p in
+            let test : ℕ → Bool = λ x. linked (relayAt order x) (relayAt order v) in
+            let early : pred h < length (rising test (pred v)) = omega (arith, r .3) in
+            let q : 0 < left linked order h v = left-some h v some (r .1) (r .2) early in
+            (q, omega (arith, r .4, left-range h v q .4, rising-ascends test (pred v) (pred h) (pred i) (omega arith) (r .3)));
+        maximal = λ i v w h p q.
+            let r = left-range i w p in
+            let testV : ℕ → Bool = λ x. linked (relayAt order x) (relayAt order v) in
+            let testW : ℕ → Bool = λ x. linked (relayAt order x) (relayAt order w) in
+            let early : pred i < length (rising testW (pred v)) =
+            rising-front testW (pred w) (pred v) (pred i) (omega arith) (r .3) (omega (arith, r .4)) in
+            let within : pred v ≤ length order = omega (arith, r .2) in
+            let countW = rising-count (λ x. linked x (getD order (pred w) 0)) order (pred v) within in
+            let countV = rising-count (λ x. linked x (getD order (pred v) 0)) order (pred v) within in
+            let more = maximal (pred v) (pred w) (omega arith) (omega (arith, r .2)) in
+            left-some i v (r .0) (omega arith) (omega (arith, r .2)) (omega arith);
+      }
+
+-- The base.
+module _ (n : ℕ) (lows highs : List ℕ) where
+  base-maximal : Maximal (linkedIn lows highs) (orderOf n lows highs)
+  base-maximal v w h k = order-maximal n lows highs v w h (omega (arith, order-length n lows highs))
+
+  pub left-laws : LeftLaws (leftOf n lows highs)
+  unfolding leftOf
+  left-laws = laws-of-left (linkedIn lows highs) (orderOf n lows highs) base-maximal
+
+  pub leftOf-range : (i v : ℕ) → 0 < leftOf n lows highs i v → (1 ≤ i) × (v ≤ n)
+  unfolding leftOf
+  leftOf-range i v h =
+      let r = left-range (linkedIn lows highs) (orderOf n lows highs) i v h in
+      (r .0, omega (arith, r .2, order-length n lows highs))
+
+  pub leftOf-linked : (i v : ℕ) → 0 < leftOf n lows highs i v
+      → linkedIn lows highs (relayAt (orderOf n lows highs) (leftOf n lows highs i v)) (relayAt (orderOf n lows highs) v) ≡ true
+  unfolding leftOf
+  leftOf-linked = left-linked (linkedIn lows highs) (orderOf n lows highs)
+
+  pub linked-leftOf : (u v : ℕ) → 1 ≤ u → u < v → v ≤ n
+      → linkedIn lows highs (relayAt (orderOf n lows highs) u) (relayAt (orderOf n lows highs) v) ≡ true
+      → (i : ℕ) × (1 ≤ i) × (leftOf n lows highs i v ≡ u)
+  unfolding leftOf
+  linked-leftOf u v h k q e =
+      let order = orderOf n lows highs in
+      let f = left-forest (linkedIn lows highs) order u v h k (omega (arith, order-length n lows highs)) e in
+      (forestBetween (linkedIn lows highs) order u v, f .0, f .1)
