@@ -14,3 +14,4 @@ pub mod Ranges
 pub mod SomeBelow
 pub mod Bitmap
 pub mod Rising
+pub mod Totals

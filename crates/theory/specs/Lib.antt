@@ -5,3 +5,5 @@ pub mod Ordering
 pub mod Accepted
 pub mod Places
 pub mod Left
+pub mod Links
+pub mod ForestNumbers

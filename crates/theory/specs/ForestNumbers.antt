@@ -1,0 +1,157 @@
+-- The forest number of a link: left of its later place under that number is its earlier place, and each left entry is a link.
+-- Over any order; then for the base and an accepted table.
+use Prim.Native.Nat.{ℕ, _≤_, _<_, min, max}
+use mathlib.Core.Bool.{Bool, true, false}
+use mathlib.Core.List.{List}
+use mathlib.Core.Logic.{_≢_, _⊎_, inl, inr}
+use mathlib.Core.Path.{_≡_, refl, sym, _∙_, ap, ap₂}
+use native.Mathlib.Omega.{arith}
+use borrow.Author.Tests.{ltb-true, ltb-false}
+use lib.Dec.{ltb}
+use lib.ListN.{length, getD}
+use Rattle.definitions.specs.Lists.{has}
+use Rattle.definitions.specs.Network.{joins, linked, Accepted}
+use Rattle.definitions.specs.Demand.{NoRepeat}
+use Rattle.definitions.specs.Order.{orderOf, placeOf, relayAt}
+use Rattle.definitions.specs.Forests.{left, forestBetween, forestOf}
+use Rattle.definitions.specs.Route.{leftOf}
+use Rattle.theory.specs.Accepted.{accepted}
+use Rattle.theory.specs.Links.{joins-ends, joins-low-high, joins-high-low, joined-linked, linked-joined}
+use Rattle.theory.specs.Ordering.{order-no-repeat, order-has}
+use Rattle.theory.specs.Places.{relay-of-place, place-of-relay}
+use Rattle.theory.specs.Left.{left-range, left-below, left-index, left-linked, left-forest, forest-left}
+
+-- The earlier and the later place of link i.
+abbrev pub earlierPlace : List ℕ → List ℕ → List ℕ → ℕ → ℕ
+earlierPlace order lows highs i = min (placeOf order (getD lows i 0)) (placeOf order (getD highs i 0))
+
+abbrev pub laterPlace : List ℕ → List ℕ → List ℕ → ℕ → ℕ
+laterPlace order lows highs i = max (placeOf order (getD lows i 0)) (placeOf order (getD highs i 0))
+
+-- Link i in an order: its places, its forest, and that left gives the earlier place.
+pub record LinkForest (order lows highs : List ℕ) (i : ℕ) : Type 0 where
+  pub some : 1 ≤ earlierPlace order lows highs i
+  pub under : earlierPlace order lows highs i < laterPlace order lows highs i
+  pub within : laterPlace order lows highs i ≤ length order
+  pub ends : joins lows highs (relayAt order (earlierPlace order lows highs i)) (relayAt order (laterPlace order lows highs i)) i ≡ true
+  pub forest : 1 ≤ forestOf (linked lows highs) order lows highs i
+  pub small : forestOf (linked lows highs) order lows highs i < length order
+  pub isLeft : left (linked lows highs) order (forestOf (linked lows highs) order lows highs i) (laterPlace order lows highs i)
+      ≡ earlierPlace order lows highs i
+
+module _ (order lows highs : List ℕ) where
+  forest-facts : (i : ℕ) → i < length lows → 1 ≤ earlierPlace order lows highs i
+      → earlierPlace order lows highs i < laterPlace order lows highs i
+      → laterPlace order lows highs i ≤ length order
+      → joins lows highs (relayAt order (earlierPlace order lows highs i)) (relayAt order (laterPlace order lows highs i)) i ≡ true
+      → LinkForest order lows highs i
+  unfolding forestOf
+  forest-facts i h some under within ends =
+      let u = earlierPlace order lows highs i in
+      let v = laterPlace order lows highs i in
+      let f = left-forest (linked lows highs) order u v some under within
+      (joined-linked lows highs (relayAt order u) (relayAt order v) i h ends) in
+      let there : 0 < left (linked lows highs) order (forestOf (linked lows highs) order lows highs i) v = omega (arith, f .1) in
+      record {
+        some = some;
+        under = under;
+        within = within;
+        ends = ends;
+        forest = f .0;
+        small = omega (arith, left-index (linked lows highs) order (forestOf (linked lows highs) order lows highs i) v there);
+        isLeft = f .1;
+      }
+
+  pub link-forest : (i : ℕ) → i < length lows
+      → has order (getD lows i 0) ≡ true → has order (getD highs i 0) ≡ true → getD lows i 0 ≢ getD highs i 0
+      → LinkForest order lows highs i
+  link-forest i h lowIn highIn apart = go (ltb p q) refl (ltb q p) refl
+    where
+      p : ℕ
+      p = placeOf order (getD lows i 0)
+
+      q : ℕ
+      q = placeOf order (getD highs i 0)
+
+      low : (1 ≤ p) × (p ≤ length order) × (relayAt order p ≡ getD lows i 0)
+      low = relay-of-place order (getD lows i 0) lowIn
+
+      high : (1 ≤ q) × (q ≤ length order) × (relayAt order q ≡ getD highs i 0)
+      high = relay-of-place order (getD highs i 0) highIn
+
+      go : (s : Bool) → ltb p q ≡ s → (t : Bool) → ltb q p ≡ t → LinkForest order lows highs i
+      go true e t f =
+          let less : p < q = ltb-true p q e in
+          let least : min p q ≡ p = omega arith in
+          let most : max p q ≡ q = omega arith in
+          forest-facts i h (omega (arith, low .0)) (omega arith) (omega (arith, high .1))
+          (rw (least, most) (joins-low-high lows highs (relayAt order p) (relayAt order q) i (sym (low .2)) (sym (high .2))))
+      go false e true f =
+          let less : q < p = ltb-true q p f in
+          let least : min p q ≡ q = omega arith in
+          let most : max p q ≡ p = omega arith in
+          forest-facts i h (omega (arith, high .0)) (omega arith) (omega (arith, low .1))
+          (rw (least, most) (joins-high-low lows highs (relayAt order q) (relayAt order p) i (sym (low .2)) (sym (high .2))))
+      go false e false f =
+          let same : p ≡ q = omega (arith, ltb-false p q e, ltb-false q p f) in
+          absurd (apart (sym (low .2) ∙ ap (relayAt order) same ∙ high .2))
+
+  -- A left entry is a link of that forest.
+  pub left-link : NoRepeat order → (f v : ℕ) → 0 < left (linked lows highs) order f v
+      → (i : ℕ) × (i < length lows)
+      × (joins lows highs (relayAt order (left (linked lows highs) order f v)) (relayAt order v) i ≡ true)
+      × (earlierPlace order lows highs i ≡ left (linked lows highs) order f v)
+      × (laterPlace order lows highs i ≡ v)
+      × (forestOf (linked lows highs) order lows highs i ≡ f)
+  unfolding forestOf
+  left-link unique f v h =
+      let w = linked-joined lows highs (relayAt order u) (relayAt order v) (left-linked (linked lows highs) order f v h) in
+      let places = go (w .0) (joins-ends lows highs (relayAt order u) (relayAt order v) (w .0) (w .2)) in
+      (w .0, w .1, w .2, places .0, places .1, ap₂ (forestBetween (linked lows highs) order) (places .0) (places .1) ∙ forest-left (linked lows highs) order f v h)
+    where
+      u : ℕ
+      u = left (linked lows highs) order f v
+
+      below : u < v
+      below = left-below (linked lows highs) order f v h
+
+      range : v ≤ length order
+      range = left-range (linked lows highs) order f v h .2
+
+      backU : placeOf order (relayAt order u) ≡ u
+      backU = place-of-relay order unique u h (omega (arith, below, range))
+
+      backV : placeOf order (relayAt order v) ≡ v
+      backV = place-of-relay order unique v (omega (arith, below)) range
+
+      go : (i : ℕ) → ((getD lows i 0 ≡ relayAt order u) × (getD highs i 0 ≡ relayAt order v))
+          ⊎ ((getD lows i 0 ≡ relayAt order v) × (getD highs i 0 ≡ relayAt order u))
+          → (earlierPlace order lows highs i ≡ u) × (laterPlace order lows highs i ≡ v)
+      go i (inl e) =
+          let a = ap (placeOf order) (e .0) ∙ backU in
+          let b = ap (placeOf order) (e .1) ∙ backV in
+          omega (arith, below)
+      go i (inr e) =
+          let a = ap (placeOf order) (e .0) ∙ backV in
+          let b = ap (placeOf order) (e .1) ∙ backU in
+          omega (arith, below)
+
+-- The base: each link of an accepted table is in a forest from 1 to n − 1.
+module _ (n : ℕ) (lows highs : List ℕ) where
+  pub forest-of-link : Accepted n lows highs → (i : ℕ) → i < length lows → LinkForest (orderOf n lows highs) lows highs i
+  forest-of-link ok i h =
+      let t = accepted n lows highs ok in
+      let less = t .ordered i h in
+      link-forest (orderOf n lows highs) lows highs i h
+      (order-has n lows highs (getD lows i 0) (omega (arith, t .below i h)))
+      (order-has n lows highs (getD highs i 0) (t .below i h))
+      (omega arith)
+
+  pub link-of-left : (f v : ℕ) → 0 < leftOf n lows highs f v
+      → (i : ℕ) × (i < length lows)
+      × (joins lows highs (relayAt (orderOf n lows highs) (leftOf n lows highs f v)) (relayAt (orderOf n lows highs) v) i ≡ true)
+      × (earlierPlace (orderOf n lows highs) lows highs i ≡ leftOf n lows highs f v)
+      × (laterPlace (orderOf n lows highs) lows highs i ≡ v)
+      × (forestOf (linked lows highs) (orderOf n lows highs) lows highs i ≡ f)
+  unfolding leftOf
+  link-of-left = left-link (orderOf n lows highs) lows highs (order-no-repeat n lows highs)
