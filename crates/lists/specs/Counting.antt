@@ -1,5 +1,5 @@
 -- How many entries of a list pass a test; and that a list without repeats is no longer than a list that has its entries.
-use Prim.Native.Nat.{ℕ, suc, _+_, _≤_}
+use Prim.Native.Nat.{ℕ, zero, suc, _+_, _≤_}
 use mathlib.Core.Bool.{Bool, true, false, _||_, not, true≢false, false≢true}
 use mathlib.Core.List.{List, [], _∷_, _++_}
 use mathlib.Core.Path.{_≡_, refl, sym, _∙_, ap}
@@ -8,7 +8,7 @@ use borrow.Author.Tests.{eqb-true, eq-eqb}
 use lib.Dec.{eqb}
 use lib.ListN.{length}
 use Rattle.definitions.specs.Outcome.{pick}
-use Rattle.definitions.specs.Lists.{consIf, keep, has, count}
+use Rattle.definitions.specs.Lists.{table, consIf, keep, has, count}
 use Rattle.definitions.specs.Demand.{NoRepeat}
 use Rattle.lists.specs.Tests.{or-left, or-right, eqb-sym}
 
@@ -79,6 +79,12 @@ count-not test (x ∷ l) = go (test x) (count-not test l)
         → pick b 1 0 + count test l + (pick (not b) 1 0 + count (λ y. not (test y)) l) ≡ suc (length l)
     go true h = omega arith
     go false h = omega arith
+
+pub count-table : (test : ℕ → Bool) (f : ℕ → ℕ) (i n : ℕ)
+    → count test (table f i n) ≡ count (λ j. test (f j)) (table (λ r. r) i n)
+unfolding count table
+count-table test f i zero = refl
+count-table test f i (suc n) = ap (λ (k : ℕ). pick (test (f i)) 1 0 + k) (count-table test f (i + 1) n)
 
 pub length-keep : (test : ℕ → Bool) (l : List ℕ) → length (keep test l) ≡ count test l
 unfolding count keep consIf

@@ -7,3 +7,4 @@ pub mod Places
 pub mod Left
 pub mod Links
 pub mod ForestNumbers
+pub mod ForestBound
