@@ -1,4 +1,5 @@
 -- Facts on the lists and tests of `definitions`, a module a subject. They know nothing of networks.
+pub mod Joins
 pub mod Tables
 pub mod Tests
 pub mod Outcomes

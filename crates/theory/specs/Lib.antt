@@ -8,3 +8,4 @@ pub mod Left
 pub mod Links
 pub mod ForestNumbers
 pub mod ForestBound
+pub mod Trees
