@@ -16,3 +16,8 @@ pub mod SomeBelow
 pub mod Bitmap
 pub mod Rising
 pub mod Totals
+pub mod Maps
+pub mod Cuts
+pub mod Pigeonhole
+pub mod Chains
+pub mod Ends
