@@ -9,3 +9,7 @@ pub mod Links
 pub mod ForestNumbers
 pub mod ForestBound
 pub mod Trees
+pub mod Columns
+pub mod TableLinks
+pub mod RelayTrees
+pub mod SharedLinks
