@@ -20,3 +20,8 @@ pub mod Rising
 pub mod Totals
 pub mod Greatest
 pub mod Stretches
+pub mod Maps
+pub mod Cuts
+pub mod Pigeonhole
+pub mod Chains
+pub mod Ends
