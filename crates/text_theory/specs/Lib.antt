@@ -3,5 +3,7 @@ pub mod Decimal
 pub mod Numbers
 pub mod Forms
 pub mod Lines
+pub mod Looks
+pub mod Departs
 pub mod LinkByLink
 pub mod RoundTrip
