@@ -7,3 +7,4 @@ pub mod Looks
 pub mod Departs
 pub mod LinkByLink
 pub mod RoundTrip
+pub mod Refusals

@@ -155,7 +155,7 @@ accepted-faultless n lows highs check =
     let second = not-refused uneven 4 0 links [] (first .1) in
     check-faultless n lows highs [] [] refl (table .even) (second .1)
 
-faultless-accepted : (n : ℕ) (lows highs : List ℕ) → outside 1 1000 n ≡ false → length lows ≡ length highs → length lows ≤ 3000
+pub faultless-accepted : (n : ℕ) (lows highs : List ℕ) → outside 1 1000 n ≡ false → length lows ≡ length highs → length lows ≤ 3000
     → Faultless n [] [] lows highs → Accepted n lows highs
 unfolding tableCheck
 faultless-accepted n lows highs size even few good =
