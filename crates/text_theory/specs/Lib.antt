@@ -8,3 +8,4 @@ pub mod Departs
 pub mod LinkByLink
 pub mod RoundTrip
 pub mod Refusals
+pub mod Longest
