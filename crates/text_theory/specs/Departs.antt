@@ -1,12 +1,12 @@
--- What it means that a text departs from a form at a byte: up to it the text can be gone on with to the whole form, and
--- with it, not. For well-formed forms.
+-- What it means that a text departs from a form at a byte: up to it the text is the begin of the form, and with it, not.
+-- For well-formed forms.
 use Prim.Native.Nat.{ℕ, zero, suc, _+_, _-_, _*_, _≤_, _<_}
 use mathlib.Core.Bool.{Bool, true, false, not, and-eq-true-iff}
 use mathlib.Core.List.{List, [], _∷_, _++_, append-assoc}
 use mathlib.Core.Path.{_≡_, refl, sym, _∙_, ap}
 use native.Mathlib.Omega.{arith}
 use lib.Dec.{eqb, ltb}
-use lib.ListN.{length, take, drop, List·getD-append, List·getD-eq-default}
+use lib.ListN.{length, take, drop, length-append, List·getD-append, List·getD-eq-default}
 use lib.Seq.{length-take-le, getD-take, take-add}
 use borrow.Author.Tests.{eqb-true, ltb-true}
 use Rattle.definitions.specs.Outcome.{pick}
@@ -30,6 +30,7 @@ use Rattle.definitions.specs.Form.{
   writeForm,
 }
 use Rattle.lists.specs.Parts.{Part, part-empty, part-cons, part-append, part-taken, part-end}
+use Rattle.text_theory.specs.Decimal.{decimal-not-empty}
 use Rattle.text_theory.specs.Numbers.{read-number, byte-within}
 use Rattle.text_theory.specs.Forms.{
   noZero,
@@ -44,11 +45,12 @@ use Rattle.text_theory.specs.Forms.{
 use Rattle.text_theory.specs.Looks.{Alike, form-looks}
 
 -- The text departs from the form, which is due from byte p on, at byte q. The bytes from p up to q begin the form with some
--- numbers; where q is not the end of the text, the bytes from p up to and with q begin it with no numbers.
+-- numbers and are not the whole of it; where q is not the end of the text, the bytes up to and with q begin it with none.
 pub record DepartsAt (text : List ℕ) (items : List Item) (p q : ℕ) : Type 0 where
   pub behind : p ≤ q
   pub within : q ≤ length text
-  pub begins : (values rest : List ℕ) × Fits items values × (take (q - p) (drop p text) ++ rest ≡ writeForm items values)
+  pub begins : (values rest : List ℕ) × Fits items values × (0 < length rest)
+      × (take (q - p) (drop p text) ++ rest ≡ writeForm items values)
   pub breaks : q < length text → (values rest : List ℕ) → Fits items values
       → take (q + 1 - p) (drop p text) ++ rest ≡ writeForm items values → ⊥
 
@@ -57,6 +59,7 @@ record Begun (text : List ℕ) (p q : ℕ) (whole : List ℕ) : Type 0 where
   part : List ℕ
   rest : List ℕ
   stands : Part text p part q
+  missing : 0 < length rest
   joined : part ++ rest ≡ whole
 
 word-begun : (text w : List ℕ) (p q : ℕ) → noZero w ≡ true → p ≤ length text → scanWord text w p ≡ departs q → Begun text p q w
@@ -77,12 +80,13 @@ word-begun text (b ∷ w) p q good within e =
           part = byteAt text p ∷ after .part;
           rest = after .rest;
           stands = part-cons text (after .part) p q before (after .stands);
+          missing = after .missing;
           joined =
               ap (λ (c : ℕ). c ∷ (after .part ++ after .rest)) same ∙ ap (λ (l : List ℕ). b ∷ l) (after .joined);
         }
     go false test e hyp =
         let same : p ≡ q = cc in
-        record { part = []; rest = b ∷ w; stands = rw (← same) (part-empty text p within); joined = refl }
+        record { part = []; rest = b ∷ w; stands = rw (← same) (part-empty text p within); missing = omega arith; joined = refl }
 
 digits-never-depart : (text : List ℕ) (x p more q : ℕ) → scanDigits text x p more ≡ departs q → ⊥
 unfolding scanDigits
@@ -131,6 +135,7 @@ begun-first text p q whole more begun =
       part = begun .part;
       rest = begun .rest ++ more;
       stands = begun .stands;
+      missing = omega (arith, begun .missing, length-append (begun .rest) more);
       joined = sym (append-assoc (begun .part) (begun .rest) more) ∙ ap (λ (l : List ℕ). l ++ more) (begun .joined);
     }
 
@@ -141,6 +146,7 @@ begun-later text p at q first whole stands begun =
       part = first ++ begun .part;
       rest = begun .rest;
       stands = part-append text first (begun .part) p at q stands (begun .stands);
+      missing = begun .missing;
       joined = append-assoc first (begun .part) (begun .rest) ∙ ap (λ (l : List ℕ). first ++ l) (begun .joined);
     }
 
@@ -192,6 +198,7 @@ form-begun (numeral ∷ items) behind text p q good within e = go (scanNumber te
             part = [];
             rest = decimal 0 ++ writeForm items (zeros items);
             stands = rw (← same) (part-empty text p within);
+            missing = omega (arith, decimal-not-empty 0, length-append (decimal 0) (writeForm items (zeros items)));
             joined = refl;
           };
         }
@@ -251,6 +258,6 @@ departs-at items text p q good within e =
     record {
       behind = behind;
       within = begun .stands .within;
-      begins = (form .values, begun .rest, form .fits, rw (part-taken text (begun .part) p q (begun .stands)) (begun .joined));
+      begins = (form .values, begun .rest, form .fits, begun .missing, rw (part-taken text (begun .part) p q (begun .stands)) (begun .joined));
       breaks = λ inside. breaks-there items text p q good behind inside e;
     }

@@ -5,6 +5,7 @@ pub mod Forms
 pub mod Lines
 pub mod Looks
 pub mod Departs
+pub mod FirstDeparture
 pub mod LinkByLink
 pub mod RoundTrip
 pub mod Refusals
