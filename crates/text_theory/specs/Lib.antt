@@ -7,6 +7,7 @@ pub mod Looks
 pub mod Departs
 pub mod FirstDeparture
 pub mod LinkByLink
+pub mod Onward
 pub mod RoundTrip
 pub mod Refusals
 pub mod Longest

@@ -3,22 +3,25 @@
 use Prim.Native.Nat.{ℕ, zero, suc, _+_, _≤_, _<_}
 use mathlib.Core.Bool.{Bool, true, false, _||_}
 use mathlib.Core.List.{List, [], _∷_, _++_}
+use mathlib.Core.Logic.{_↔_}
 use mathlib.Core.Path.{_≡_, refl, sym, _∙_, ap}
 use native.Mathlib.Omega.{arith}
 use lib.Dec.{ltb, leb}
 use lib.ListN.{length, getD}
-use borrow.Author.Tests.{ltb-true, ltb-false}
+use borrow.Author.Tests.{ltb-true, ltb-false, lt-ltb}
 use Rattle.definitions.specs.Outcome.{pick, Outcome, refused, done, refuseIf}
 use Rattle.definitions.specs.Lists.{outside, someBelow}
 use Rattle.definitions.specs.Network.{isPair, linkFault, Accepted}
 use Rattle.definitions.specs.Form.{Scan, departs, reads, scanForm, onScan, writeForm}
 use Rattle.definitions.specs.Text.{headerForm, linkForm, endForm, Network, readEnd, readLinks, readNetwork, linkLines}
-use Rattle.lists.specs.Parts.{Part, part-empty, part-append}
+use Rattle.lists.specs.Parts.{Part, part-empty, part-append, part-first, part-second}
+use Rattle.theory.specs.Accepted.{accepted}
 use Rattle.text_theory.specs.Forms.{header-line, link-line, end-line}
 use Rattle.text_theory.specs.Lines.{read-line, link-numbers, header-numbers, end-numbers}
-use Rattle.text_theory.specs.LinkByLink.{lines, Faultless, linkLines-lines}
-use Rattle.text_theory.specs.RoundTrip.{faultless-accepted}
+use Rattle.text_theory.specs.LinkByLink.{lines, Faultless, linkLines-lines, accepted-faultless, faultless-accepted}
+use Rattle.text_theory.specs.Onward.{header-onward, links-onward, end-onward}
 use Rattle.text_theory.specs.Departs.{DepartsAt, departs-at}
+use Rattle.text_theory.specs.FirstDeparture.{departs-exactly}
 
 -- What is due at byte `at` with `left` link lines to come, and how the text departs from it at byte q: a link line; the end
 -- line; or, the end line being there, nothing.
@@ -27,11 +30,11 @@ pub data Due (text : List ℕ) (left at q : ℕ) : Type 0 where
   endDue : left ≡ 0 → DepartsAt text endForm at q → Due text left at q
   nothingDue : left ≡ 0 → Part text at (writeForm endForm []) q → q < length text → Due text left at q
 
--- Where a text departs: in its header line; or behind that line and the lines of an accepted table, of which `left` are
--- still to come.
+-- Where a text departs: in its header line; or behind that line and the lines of an accepted table, up to byte `at`, where
+-- `left` of the link lines that the header announces are still to come.
 pub data Departure (text : List ℕ) (q : ℕ) : Type 0 where
   headerDue : DepartsAt text headerForm 0 q → Departure text q
-  linesDue : (n : ℕ) (lows highs : List ℕ) (left at : ℕ) → Accepted n lows highs
+  linesDue : (n : ℕ) (lows highs : List ℕ) (left at : ℕ) → Accepted n lows highs → length lows + left ≤ 3000
       → Part text 0 (writeForm headerForm (n ∷ (length lows + left) ∷ []) ++ linkLines lows highs 0 (length lows)) at
       → Due text left at q → Departure text q
 
@@ -99,6 +102,7 @@ behind-header text n m p q header size few links =
     header (links .part) in
     linesDue n (links .ls) (links .hs) (links .left) (links .at)
     (faultless-accepted n (links .ls) (links .hs) size (links .even) short (links .good))
+    (omega (arith, links .many))
     (rw (links .many, ← written) before)
     (links .due)
 
@@ -170,8 +174,9 @@ links-depart (suc count) text n lows highs p q within e =
         one-more text n lows highs a b p at count q (omega (arith, ltb-false 0 fault (over .0))) here
         (hyp a b at (line .1 .within) (over .1))
 
--- Refusal 2 is at the first byte that departs from the form due.
-pub refused-two : (text : List ℕ) (roomLows roomHighs q : ℕ) → readNetwork text roomLows roomHighs ≡ refused 2 q → Departure text q
+-- Refusal 2 is at the first byte that departs from the form due, whatever room there is.
+pub refused-two : (text : List ℕ) (roomLows roomHighs q : ℕ) → readNetwork text roomLows roomHighs ≡ refused 2 q
+    → Departure text q
 unfolding readNetwork onScan
 refused-two text roomLows roomHighs q e = go (scanForm text headerForm 0) refl e
   where
@@ -197,3 +202,41 @@ refused-two text roomLows roomHighs q e = go (scanForm text headerForm 0) refl e
         let room = refused-later (ltb roomLows m || ltb roomHighs m) 8 0 links 2 q (many .1) (λ x. omega arith) in
         behind-header text n m p q here (size .0) (ltb-false 3000 m (many .0))
         (links-depart m text n [] [] p q (line .1 .within) (room .1))
+
+-- What is due decides the reader's answer from there on.
+due-refused : (text : List ℕ) (n : ℕ) (lows highs : List ℕ) (left at q : ℕ) → at ≤ length text → Due text left at q
+    → readLinks text n lows highs at left ≡ refused 2 q
+unfolding readLinks readEnd onScan refuseIf
+due-refused text n lows highs zero at q within (linkDue more here) = absurd (omega arith)
+due-refused text n lows highs (suc left) at q within (linkDue more here) =
+    rw (departs-exactly linkForm text at q link-line within .1 here)
+due-refused text n lows highs zero at q within (endDue none here) =
+    rw (departs-exactly endForm text at q end-line within .1 here)
+due-refused text n lows highs (suc left) at q within (endDue none here) = absurd (omega arith)
+due-refused text n lows highs zero at q within (nothingDue none here before) =
+    end-onward text n lows highs at q here ∙ rw (lt-ltb q (length text) before)
+due-refused text n lows highs (suc left) at q within (nothingDue none here before) = absurd (omega arith)
+
+departure-refused : (text : List ℕ) (roomLows roomHighs q : ℕ) → 3000 ≤ roomLows → 3000 ≤ roomHighs → Departure text q
+    → readNetwork text roomLows roomHighs ≡ refused 2 q
+unfolding readNetwork onScan
+departure-refused text roomLows roomHighs q inLows inHighs (headerDue here) =
+    rw (departs-exactly headerForm text 0 q header-line (omega arith) .1 here)
+departure-refused text roomLows roomHighs q inLows inHighs (linesDue n lows highs left at check few before due) =
+    let table = accepted n lows highs check in
+    let m = length lows + left in
+    let header = writeForm headerForm (n ∷ m ∷ []) in
+    let p = 0 + length header in
+    let both : Part text 0 (header ++ lines lows highs) at =
+    rw (linkLines-lines lows highs [] [] refl (table .even)) at before in
+    header-onward text n m p roomLows roomHighs (table .some) (table .few) few (omega arith) (omega arith)
+    (part-first text header (lines lows highs) 0 at both)
+    ∙ links-onward text n lows highs [] [] p at left (table .few) (table .even) (accepted-faultless n lows highs check)
+    (part-second text header (lines lows highs) 0 at both)
+    ∙ due-refused text n lows highs left at q (before .within) due
+
+-- With room for 3,000 links each, the reader refuses with 2 at q exactly if the text departs at q.
+pub refused-two-exactly : (text : List ℕ) (roomLows roomHighs q : ℕ) → 3000 ≤ roomLows → 3000 ≤ roomHighs
+    → (readNetwork text roomLows roomHighs ≡ refused 2 q) ↔ Departure text q
+refused-two-exactly text roomLows roomHighs q inLows inHighs =
+    (refused-two text roomLows roomHighs q, departure-refused text roomLows roomHighs q inLows inHighs)
