@@ -9,5 +9,5 @@ pub mod FirstDeparture
 pub mod LinkByLink
 pub mod Onward
 pub mod RoundTrip
-pub mod Refusals
+pub mod Departure
 pub mod Longest

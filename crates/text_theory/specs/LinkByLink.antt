@@ -1,7 +1,7 @@
 -- Link lines and the check of a table, link by link over what was read so far, as the reader goes through them.
 -- `lows` and `highs` are what was read so far, `ls` and `hs` what is to come. Assumes nothing.
-use Prim.Native.Nat.{ℕ, zero, suc, _+_, _≤_, _<_}
-use mathlib.Core.Bool.{Bool, false, _||_, not}
+use Prim.Native.Nat.{ℕ, suc, _+_, _≤_}
+use mathlib.Core.Bool.{false, _||_, not}
 use mathlib.Core.List.{List, [], _∷_, _++_}
 use mathlib.Core.Path.{_≡_, refl, sym, _∙_}
 use native.Mathlib.Omega.{arith}
@@ -10,11 +10,12 @@ use lib.ListN.{length, length-append, List·getD-append}
 use lib.Seq.{append-snoc, getD-append-seam, getD-at}
 use borrow.Author.Tests.{ltb-false, le-ltb, eq-eqb}
 use Rattle.definitions.specs.Outcome.{done, refuseIf}
-use Rattle.definitions.specs.Lists.{outside, someBelow}
+use Rattle.definitions.specs.Lists.{outside}
 use Rattle.definitions.specs.Network.{isPair, linkFault, linksCheck, tableCheck, Accepted}
 use Rattle.definitions.specs.Form.{writeForm}
 use Rattle.definitions.specs.Text.{linkForm, linkLines}
 use Rattle.lists.specs.Outcomes.{not-refused, refuse-not}
+use Rattle.lists.specs.SomeBelow.{some-same}
 use Rattle.theory.specs.Accepted.{accepted}
 
 -- The lines of these links.
@@ -46,18 +47,12 @@ linkLines-lines (a ∷ ls) (b ∷ hs) lows highs even rest =
     rw (append-snoc lows a ls, append-snoc highs b hs, length-append lows (a ∷ [])) at hyp in
     rw (getD-append-seam lows a ls 0, getD-at highs b hs 0 (length lows) (sym even), after)
 
--- The test of the links below i looks at those links alone.
-same-below : (f g : ℕ → Bool) (i : ℕ) → ((j : ℕ) → j < i → f j ≡ g j) → someBelow f i ≡ someBelow g i
-unfolding someBelow
-same-below f g zero same = refl
-same-below f g (suc i) same = rw (same i (omega arith), same-below f g i (λ j h. same j (omega arith)))
-
 -- A link's fault is the same whatever comes behind it.
 fault-front : (n : ℕ) (lows highs ls hs : List ℕ) (a b : ℕ) → length lows ≡ length highs
     → linkFault n (lows ++ ls) (highs ++ hs) (length lows) a b ≡ linkFault n lows highs (length lows) a b
 unfolding linkFault isPair
 fault-front n lows highs ls hs a b even =
-    rw (same-below (isPair (lows ++ ls) (highs ++ hs) a b) (isPair lows highs a b) (length lows)
+    rw (some-same (isPair (lows ++ ls) (highs ++ hs) a b) (isPair lows highs a b) (length lows)
     (λ j h. rw (List·getD-append lows ls 0 j h, List·getD-append highs hs 0 j (omega arith))))
 
 -- One link of the check.

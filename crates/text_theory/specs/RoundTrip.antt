@@ -38,7 +38,7 @@ abbrev body : List ℕ → List ℕ → List ℕ
 body ls hs = lines ls hs ++ writeForm endForm []
 
 -- What a reading that was done had behind it.
-on-scan-done : {A : Type 0} (number : ℕ) (scan : Scan) (next : List ℕ → ℕ → Outcome A) (value : A)
+pub on-scan-done : {A : Type 0} (number : ℕ) (scan : Scan) (next : List ℕ → ℕ → Outcome A) (value : A)
     → onScan number scan next ≡ done value
     → (values : List ℕ) × (q : ℕ) × (scan ≡ reads values q) × (next values q ≡ done value)
 unfolding onScan
