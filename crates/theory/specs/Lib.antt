@@ -24,3 +24,4 @@ pub mod SweepStep
 pub mod SweepHolds
 pub mod PlaceRoutes
 pub mod SweepRoutes
+pub mod RelayRoutes
