@@ -25,3 +25,4 @@ pub mod SweepHolds
 pub mod PlaceRoutes
 pub mod SweepRoutes
 pub mod RelayRoutes
+pub mod RouteAnswer
