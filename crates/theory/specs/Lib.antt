@@ -26,3 +26,5 @@ pub mod PlaceRoutes
 pub mod SweepRoutes
 pub mod RelayRoutes
 pub mod RouteAnswer
+pub mod Certificate
+pub mod DemandThree
