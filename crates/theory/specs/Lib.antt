@@ -19,3 +19,5 @@ pub mod Columns
 pub mod TableLinks
 pub mod RelayTrees
 pub mod SharedLinks
+pub mod SweepReady
+pub mod SweepStep
