@@ -21,3 +21,4 @@ pub mod RelayTrees
 pub mod SharedLinks
 pub mod SweepReady
 pub mod SweepStep
+pub mod SweepHolds
