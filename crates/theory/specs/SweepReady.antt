@@ -11,23 +11,12 @@ use lib.Dec.{eqb, ltb}
 use borrow.Author.Tests.{eqb-true, eq-eqb, lt-ltb}
 use Rattle.definitions.specs.Lists.{has, largest}
 use Rattle.definitions.specs.Sweep.{Slot, endOf, endsA, endsB, highestAt}
+use Rattle.lists.specs.Tests.{and-both, or-either, or-false}
 use Rattle.lists.specs.Searches.{clash, largest-bound, largest-passes, largest-above, largest-none}
 use Rattle.theory.specs.LeftLaws.{LeftLaws}
 use Rattle.theory.specs.SweepPaths.{trail-from}
 use Rattle.theory.specs.SweepSide.{Standing, waits, stands, Ready, Highest, end-alone}
 use Rattle.theory.specs.SweepInvariant.{OpenSlot, ClosedSlot, Sweeping}
-
-and-true : (a b : Bool) → (a && b) ≡ true → (a ≡ true) × (b ≡ true)
-and-true true b e = (refl, e)
-and-true false b e = absurd (clash e refl)
-
-or-cases : (a b : Bool) → (a || b) ≡ true → (a ≡ true) ⊎ (b ≡ true)
-or-cases true b e = inl refl
-or-cases false b e = inr e
-
-or-false : (a b : Bool) → (a || b) ≡ false → (a ≡ false) × (b ≡ false)
-or-false true b e = absurd (clash refl e)
-or-false false b e = (refl, e)
 
 module _ (left : ℕ → ℕ → ℕ) (laws : LeftLaws left) (k s t : ℕ) where
   module _ (v : ℕ) (slots : ℕ → Slot) (inv : Sweeping left k s t v slots) where
@@ -40,8 +29,8 @@ module _ (left : ℕ → ℕ → ℕ) (laws : LeftLaws left) (k s t : ℕ) where
               let c : ClosedSlot left k s t v i (slots i) = inv .closed i one le shut in
               let g : has (c .meet ∷ c .before ∷ c .restA) w ≡ true = subst (λ (p : List ℕ). has p w ≡ true) (c .shapeA) h in
               omega (arith, c .above, trail-from left laws k s (c .meet) (c .before ∷ c .restA) (c .trailA) w g);
-          endsOpen = λ i one le e. and-true (slots i .isOpen) (eqb (endOf (slots i .pathA)) v) e .0;
-          endsAt = λ i one le e. eqb-true (endOf (slots i .pathA)) v (and-true (slots i .isOpen) (eqb (endOf (slots i .pathA)) v) e .1);
+          endsOpen = λ i one le e. and-both (slots i .isOpen) (eqb (endOf (slots i .pathA)) v) e .0;
+          endsAt = λ i one le e. eqb-true (endOf (slots i .pathA)) v (and-both (slots i .isOpen) (eqb (endOf (slots i .pathA)) v) e .1);
           endsNot = λ i one le opn off e.
               let on : (slots i .isOpen && eqb (endOf (slots i .pathA)) v) ≡ true = rw (opn, eq-eqb (endOf (slots i .pathA)) v e) in
               clash on off;
@@ -63,10 +52,10 @@ module _ (left : ℕ → ℕ → ℕ) (laws : LeftLaws left) (k s t : ℕ) where
                 let c : ClosedSlot left k s t v i (slots i) = inv .closed i one le shut in
                 let g : has (c .meet ∷ c .restB) w ≡ true = subst (λ (p : List ℕ). has p w ≡ true) (c .shapeB) h in
                 omega (arith, c .above, trail-from left laws k t (c .meet) (c .restB) (c .trailB) w g);
-            endsOpen = λ i one le e. and-true (slots i .isOpen) (ltb v t && eqb (endOf (slots i .pathB)) v) e .0;
+            endsOpen = λ i one le e. and-both (slots i .isOpen) (ltb v t && eqb (endOf (slots i .pathB)) v) e .0;
             endsAt = λ i one le e.
-                let later : (ltb v t && eqb (endOf (slots i .pathB)) v) ≡ true = and-true (slots i .isOpen) (ltb v t && eqb (endOf (slots i .pathB)) v) e .1 in
-                eqb-true (endOf (slots i .pathB)) v (and-true (ltb v t) (eqb (endOf (slots i .pathB)) v) later .1);
+                let later : (ltb v t && eqb (endOf (slots i .pathB)) v) ≡ true = and-both (slots i .isOpen) (ltb v t && eqb (endOf (slots i .pathB)) v) e .1 in
+                eqb-true (endOf (slots i .pathB)) v (and-both (ltb v t) (eqb (endOf (slots i .pathB)) v) later .1);
             endsNot = λ i one le opn off e.
                 by-cases (decLt v t)
                 (λ before.
@@ -85,11 +74,11 @@ module _ (k t v : ℕ) (slots : ℕ → Slot) where
   unfolding highestAt endsA endsB
   highest-open some =
       let j : ℕ = largest (λ i. endsA v (slots i) || endsB t v (slots i)) k in
-      go j (or-cases (endsA v (slots j)) (endsB t v (slots j)) (largest-passes (λ i. endsA v (slots i) || endsB t v (slots i)) k some))
+      go j (or-either (endsA v (slots j)) (endsB t v (slots j)) (largest-passes (λ i. endsA v (slots i) || endsB t v (slots i)) k some))
     where
       go : (j : ℕ) → (endsA v (slots j) ≡ true) ⊎ (endsB t v (slots j) ≡ true) → slots j .isOpen ≡ true
-      go j (inl e) = and-true (slots j .isOpen) (eqb (endOf (slots j .pathA)) v) e .0
-      go j (inr e) = and-true (slots j .isOpen) (ltb v t && eqb (endOf (slots j .pathB)) v) e .0
+      go j (inl e) = and-both (slots j .isOpen) (eqb (endOf (slots j .pathA)) v) e .0
+      go j (inr e) = and-both (slots j .isOpen) (ltb v t && eqb (endOf (slots j .pathB)) v) e .0
 
   pub highestA : 0 < highestAt k t v slots → Highest k (highestAt k t v slots) (λ i. slots i .isOpen) (λ i. endsA v (slots i))
   unfolding highestAt

@@ -13,7 +13,7 @@ use Rattle.definitions.specs.Outcome.{pick}
 use Rattle.definitions.specs.Lists.{has}
 use Rattle.definitions.specs.Sweep.{Slot, endOf, extend, slotAtT, endsA, endsB, downshift, settle, highestAt, shiftedSlot, slotElsewhere, slotAfter}
 use Rattle.lists.specs.Searches.{clash}
-use Rattle.lists.specs.Members.{has-nil, has-cases}
+use Rattle.lists.specs.Cases.{has-nil, has-cases}
 use Rattle.theory.specs.LeftLaws.{LeftLaws}
 use Rattle.theory.specs.Trees.{Alive}
 use Rattle.theory.specs.SweepPaths.{OpenPath, open-end, open-above, open-past, open-longer, trail-start}
