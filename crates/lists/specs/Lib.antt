@@ -25,3 +25,5 @@ pub mod Cuts
 pub mod Pigeonhole
 pub mod Chains
 pub mod Ends
+pub mod Reversed
+pub mod Concat

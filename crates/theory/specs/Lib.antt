@@ -22,3 +22,5 @@ pub mod SharedLinks
 pub mod SweepReady
 pub mod SweepStep
 pub mod SweepHolds
+pub mod PlaceRoutes
+pub mod SweepRoutes
