@@ -1,13 +1,13 @@
 -- Lists written one behind the other (`joinAll`): members, repeats, and lengths up to some entries of each. Assumes nothing.
 use Prim.Native.Nat.{ℕ, zero, suc, _+_, _*_, _≤_, _<_}
 use native.Mathlib.Omega.{arith}
-use mathlib.Core.Bool.{Bool, true, false, _||_, not}
-use mathlib.Core.List.{List, [], _∷_, _++_, map}
+use mathlib.Core.Bool.{Bool, true, _||_, not}
+use mathlib.Core.List.{List, [], _∷_, map}
 use mathlib.Core.Logic.{_⊎_, inl, inr, _≢_}
-use mathlib.Core.Path.{_≡_, refl, sym, _∙_, ap}
+use mathlib.Core.Path.{_≡_}
 use lib.Dec.{eqb}
 use lib.ListN.{length, getD, length-append}
-use Rattle.definitions.specs.Lists.{has, keep, count, joinAll}
+use Rattle.definitions.specs.Lists.{has, keep, joinAll}
 use Rattle.definitions.specs.Demand.{NoRepeat}
 use Rattle.lists.specs.Searches.{clash}
 use Rattle.lists.specs.Cases.{has-nil, has-either, Disjoint, noRepeat-append}

@@ -1,8 +1,8 @@
 -- k routes between two places over links of the forests 1 to k that share only their ends: what that means, that such
 -- routes can be turned round, and how many places they have together. Over any `left`.
-use Prim.Native.Nat.{ℕ, zero, suc, _+_, _-_, _*_, _≤_, _<_}
+use Prim.Native.Nat.{ℕ, _+_, _-_, _*_, _≤_, _<_}
 use native.Mathlib.Omega.{arith}
-use mathlib.Core.Bool.{Bool, true, false, _&&_, not}
+use mathlib.Core.Bool.{true, not}
 use mathlib.Core.List.{List, [], _∷_, map, reverse, reverse-reverse}
 use mathlib.Core.Logic.{_⊎_, inl, inr, ⊎-swap, _≢_}
 use mathlib.Core.Path.{_≡_, refl, sym, _∙_, ap, subst}
@@ -54,10 +54,6 @@ PlaceRoute left k s t route = RouteWithin left k s s t route
 abbrev pub PlaceRoutes : (ℕ → ℕ → ℕ) → ℕ → ℕ → ℕ → List (List ℕ) → Type 0
 PlaceRoutes left k s t routes = RoutesWithin left k s s t routes
 
--- Entry i of a list of mapped lists.
-getD-lists : (f : List ℕ → List ℕ) (lists : List (List ℕ)) (i : ℕ) → f [] ≡ [] → getD (map f lists) i [] ≡ f (getD lists i [])
-getD-lists f lists i none = ap (getD (map f lists) i) (sym none) ∙ List·getD-map f lists i []
-
 -- The routes together have no place but their ends more than once.
 pub written-within : (left : ℕ → ℕ → ℕ) (k top p q : ℕ) (routes : List (List ℕ)) → 1 ≤ p → p ≤ top → 1 ≤ q → q ≤ top → p ≢ q
     → length routes ≡ k
@@ -81,7 +77,7 @@ written-within left k top p q routes one upto one′ upto′ other number each a
     size = length-map routes (inner p q) ∙ number
 
     same : (i : ℕ) → getD (map (inner p q) routes) i [] ≡ inner p q (getD routes i [])
-    same i = getD-lists (inner p q) routes i refl
+    same i = List·getD-map (inner p q) routes i []
 
     member : (list : List ℕ) (w : ℕ) → has (inner p q list) w ≡ true → (has list w ≡ true) × (not (isEither p q w) ≡ true)
     member list w h = and-both (has list w) (not (isEither p q w)) (sym (has-keep (λ x. not (isEither p q x)) list w) ∙ h)
@@ -158,7 +154,7 @@ routes-reverse {left} {k} {top} {p} {q} routes one upto one′ upto′ other r =
     size = length-map routes reverse ∙ r .number
 
     same : (i : ℕ) → getD (map reverse routes) i [] ≡ reverse (getD routes i [])
-    same i = getD-lists reverse routes i refl
+    same i = List·getD-map reverse routes i []
 
     each : (i : ℕ) → i < k → RouteWithin left k top q p (getD (map reverse routes) i [])
     each i less =

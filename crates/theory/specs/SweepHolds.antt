@@ -2,9 +2,8 @@
 -- Over any `left` with the laws, where t and s are in one tree of forest k.
 use Prim.Native.Nat.{ℕ, zero, suc, _+_, pred, _≤_, _<_}
 use native.Mathlib.Omega.{arith}
-use mathlib.Core.Bool.{true}
-use mathlib.Core.List.{List, [], _∷_}
-use mathlib.Core.Path.{_≡_, refl, sym, _∙_, ap, subst}
+use mathlib.Core.List.{List, []}
+use mathlib.Core.Path.{_≡_, refl, _∙_, ap, subst}
 use Rattle.definitions.specs.Lists.{table}
 use Rattle.definitions.specs.Sweep.{Slot, slotAt, startSlot, slotAfter, slotsAfter, sweepFrom, sweep}
 use Rattle.lists.specs.Searches.{clash}

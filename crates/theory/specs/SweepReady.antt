@@ -1,12 +1,12 @@
 -- The two sides of the sweep before v, from its invariant, and the highest index that ends at v.
 -- Over any `left` with the laws.
-use Prim.Native.Nat.{ℕ, suc, _≤_, _<_}
+use Prim.Native.Nat.{ℕ, _≤_, _<_}
 use native.Mathlib.Decide.{decLt}
 use native.Mathlib.Omega.{arith}
-use mathlib.Core.Bool.{Bool, true, false, _&&_, _||_, or-true}
-use mathlib.Core.List.{List, [], _∷_}
+use mathlib.Core.Bool.{true, false, _&&_, _||_, or-true}
+use mathlib.Core.List.{List, _∷_}
 use mathlib.Core.Logic.{_⊎_, inl, inr, _≢_, by-cases}
-use mathlib.Core.Path.{_≡_, refl, sym, _∙_, ap, subst}
+use mathlib.Core.Path.{_≡_, subst}
 use lib.Dec.{eqb, ltb}
 use borrow.Author.Tests.{eqb-true, eq-eqb, lt-ltb}
 use Rattle.definitions.specs.Lists.{has, largest}
@@ -16,7 +16,7 @@ use Rattle.lists.specs.Searches.{clash, largest-bound, largest-passes, largest-
 use Rattle.theory.specs.LeftLaws.{LeftLaws}
 use Rattle.theory.specs.SweepPaths.{trail-from}
 use Rattle.theory.specs.SweepSide.{Standing, waits, stands, Ready, Highest, end-alone}
-use Rattle.theory.specs.SweepInvariant.{OpenSlot, ClosedSlot, Sweeping}
+use Rattle.theory.specs.SweepInvariant.{ClosedSlot, Sweeping}
 
 module _ (left : ℕ → ℕ → ℕ) (laws : LeftLaws left) (k s t : ℕ) where
   module _ (v : ℕ) (slots : ℕ → Slot) (inv : Sweeping left k s t v slots) where

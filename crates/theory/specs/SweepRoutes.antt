@@ -1,10 +1,10 @@
 -- The end of the sweep: every index is closed, and the routes are k routes from s to t that share only their ends.
 -- Over any `left` with the laws, where t and s are in one tree of forest k.
-use Prim.Native.Nat.{ℕ, zero, suc, _+_, _-_, pred, _≤_, _<_, min, max}
+use Prim.Native.Nat.{ℕ, zero, suc, _+_, pred, _≤_, _<_, min, max}
 use native.Mathlib.Decide.{decLt, ℕ-discrete}
 use native.Mathlib.Omega.{arith}
 use mathlib.Core.Bool.{Bool, true, false}
-use mathlib.Core.List.{List, [], _∷_, _++_, map, reverse, reverseAux, reverseAux-eq, tail}
+use mathlib.Core.List.{List, [], _∷_, map, reverse, reverseAux, reverseAux-eq}
 use mathlib.Core.Logic.{_⊎_, inl, inr, _≢_, by-cases}
 use mathlib.Core.Path.{_≡_, refl, sym, _∙_, ap, subst}
 use lib.Dec.{ltb}
@@ -12,16 +12,15 @@ use borrow.Author.Tests.{ltb-true, ltb-false}
 use lib.ListN.{length, getD, length-map, length-reverseAux, List·getD-map}
 use Rattle.definitions.specs.Outcome.{pick}
 use Rattle.definitions.specs.Lists.{has, table}
-use Rattle.definitions.specs.Demand.{AlongFrom, NoRepeat}
+use Rattle.definitions.specs.Demand.{AlongFrom}
 use Rattle.definitions.specs.Sweep.{Slot, endOf, slotAt, startSlot, slotAfter, slotsAfter, sweepFrom, sweep, slotRoute, sweepRoutes}
 use Rattle.definitions.specs.Route.{routesBetween}
-use Rattle.lists.specs.Searches.{clash}
 use Rattle.lists.specs.Tables.{length-table}
 use Rattle.lists.specs.Cases.{has-there, has-reverseAux, Disjoint, noRepeat-reverseAux}
 use Rattle.lists.specs.Reversed.{first-reverseAux, last-reverseAux, along-reverseAux}
 use Rattle.theory.specs.LeftLaws.{LeftLaws}
 use Rattle.theory.specs.Trees.{Alive}
-use Rattle.theory.specs.PlaceRoutes.{LeftLink, leftLink-sym, RouteWithin, RoutesWithin, PlaceRoute, PlaceRoutes, written-within, routes-reverse}
+use Rattle.theory.specs.PlaceRoutes.{LeftLink, leftLink-sym, RoutesWithin, PlaceRoute, PlaceRoutes, written-within, routes-reverse}
 use Rattle.theory.specs.SweepPaths.{Trail, OpenPath, trail-above, trail-from, trail-upto, trail-noRepeat}
 use Rattle.theory.specs.SweepInvariant.{ClosedSlot, Sweeping}
 use Rattle.theory.specs.SweepHolds.{sweep-ends}

@@ -1,7 +1,7 @@
 -- One step of the sweep keeps its invariant, at t and elsewhere, and no path ever rests: what is appended is a place.
 -- Over any `left` with the laws, where t and s are in one tree of forest k.
 use Prim.Native.Nat.{ℕ, suc, _≤_, _<_}
-use native.Mathlib.Decide.{decLt, ℕ-discrete}
+use native.Mathlib.Decide.{decLt}
 use native.Mathlib.Omega.{arith}
 use mathlib.Core.Bool.{Bool, true, false}
 use mathlib.Core.List.{List, [], _∷_}
@@ -18,7 +18,7 @@ use Rattle.theory.specs.LeftLaws.{LeftLaws}
 use Rattle.theory.specs.Trees.{Alive}
 use Rattle.theory.specs.SweepPaths.{OpenPath, open-end, open-above, open-past, open-longer, trail-start}
 use Rattle.theory.specs.SweepSide.{Passed, none-passes, shift-passes}
-use Rattle.theory.specs.SweepInvariant.{OpenSlot, ClosedSlot, Sweeping, Unended, goes, open-slot}
+use Rattle.theory.specs.SweepInvariant.{OpenSlot, ClosedSlot, Sweeping, goes, open-slot}
 use Rattle.theory.specs.SweepSettle.{SlotState, extend-some, extend-has, unended, goes-on}
 use Rattle.theory.specs.SweepPassed.{withPaths, passed-sweeping}
 use Rattle.theory.specs.SweepReady.{readyA, readyB, highestA, highestB, highest-none}
