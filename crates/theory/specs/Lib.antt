@@ -28,3 +28,4 @@ pub mod RelayRoutes
 pub mod RouteAnswer
 pub mod Certificate
 pub mod DemandThree
+pub mod SweepTrades
