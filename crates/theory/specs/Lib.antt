@@ -29,3 +29,4 @@ pub mod RouteAnswer
 pub mod Certificate
 pub mod DemandThree
 pub mod Mesh
+pub mod SweepTrades

@@ -46,11 +46,11 @@ together-cases ends j i = go (ends i) refl
     go true e h = inl e
     go false e h = inr (eqb-true i j h)
 
-together-ends : (ends : ℕ → Bool) (j i : ℕ) → ends i ≡ true → together ends j i ≡ true
+pub together-ends : (ends : ℕ → Bool) (j i : ℕ) → ends i ≡ true → together ends j i ≡ true
 unfolding together
 together-ends ends j i e = rw e
 
-together-high : (ends : ℕ → Bool) (j : ℕ) → together ends j j ≡ true
+pub together-high : (ends : ℕ → Bool) (j : ℕ) → together ends j j ≡ true
 unfolding together
 together-high ends j = rw (eq-eqb j j refl) (or-true (ends j))
 

@@ -36,13 +36,14 @@ module _ (left : ℕ → ℕ → ℕ) (laws : LeftLaws left) (k s t : ℕ) (less
       abbrev afterB : ℕ → List ℕ
       afterB = downshift left k j (λ i. endsB t (suc v) (slots i)) (λ i. slots i .pathB)
 
-      passA : 0 < j → Passed left k s s j v (λ i. slots i .isOpen) (λ i. slots i .pathA) afterA
-      passA some =
+      -- What the two sides have after the shift.
+      pub passedA : 0 < j → Passed left k s s j v (λ i. slots i .isOpen) (λ i. slots i .pathA) afterA
+      passedA some =
           shift-passes left laws k s s j v (λ i. slots i .isOpen) (λ i. endsA (suc v) (slots i)) (λ i. slots i .pathA)
           (readyA left laws k s t (suc v) slots inv) (highestA k t (suc v) slots some)
 
-      passB : 0 < j → Passed left k s t j v (λ i. slots i .isOpen) (λ i. slots i .pathB) afterB
-      passB some =
+      pub passedB : 0 < j → Passed left k s t j v (λ i. slots i .isOpen) (λ i. slots i .pathB) afterB
+      passedB some =
           shift-passes left laws k s t j v (λ i. slots i .isOpen) (λ i. endsB t (suc v) (slots i)) (λ i. slots i .pathB)
           (readyB left laws k s t (suc v) slots inv other) (highestB k t (suc v) slots some)
 
@@ -52,7 +53,7 @@ module _ (left : ℕ → ℕ → ℕ) (laws : LeftLaws left) (k s t : ℕ) (less
           by-cases (decLt 0 j)
           (λ some.
           passed-sweeping left laws k s t less alive v j slots (slotElsewhere left k t (suc v) slots) inv other afterA afterB
-          (passA some) (passB some)
+          (passedA some) (passedB some)
           (λ i one le same. subst (λ (h : ℕ). slots h .isOpen ≡ true) (sym same) (highestA k t (suc v) slots some .isOpen))
           (λ i one le differ. rw (ne-eqb j 0 (omega arith), ne-eqb i j differ))
           (λ i one le same. rw (ne-eqb j 0 (omega arith), eq-eqb i j same) (ap (λ (h : ℕ). settle left (suc v) h (withPaths slots afterA afterB i)) (sym same))))
@@ -76,12 +77,12 @@ module _ (left : ℕ → ℕ → ℕ) (laws : LeftLaws left) (k s t : ℕ) (less
           let opn : slots j .isOpen ≡ true = highestA k t (suc v) slots some .isOpen in
           let le : j ≤ k = highestA k t (suc v) slots some .bound in
           goes-on left laws k s t s v j (afterA j) alive (omega arith) (omega (arith, inv .below)) some le
-          (unended left laws k s s j v j (afterA j) (passA some .shifted j some le opn) off) .0
+          (unended left laws k s s j v j (afterA j) (passedA some .shifted j some le opn) off) .0
       never-rests some (inr off) =
           let opn : slots j .isOpen ≡ true = highestA k t (suc v) slots some .isOpen in
           let le : j ≤ k = highestA k t (suc v) slots some .bound in
           goes-on left laws k s t t v j (afterB j) alive (omega arith) (omega (arith, inv .below)) some le
-          (unended left laws k s t j v j (afterB j) (passB some .shifted j some le opn) off) .0
+          (unended left laws k s t j v j (afterB j) (passedB some .shifted j some le opn) off) .0
 
     -- Where v + 1 is t.
     module _ (at : suc v ≡ t) where
