@@ -13,3 +13,5 @@ pub mod Parts
 pub mod Ranges
 pub mod SomeBelow
 pub mod Bitmap
+pub mod Parts
+pub mod Ranges
