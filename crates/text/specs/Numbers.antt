@@ -6,19 +6,8 @@ use mathlib.Core.Path.{_≡_, refl}
 use native.Mathlib.Omega.{arith}
 use borrow.Author.Tests.{lt-ltb, le-ltb, eq-eqb, ne-eqb}
 use Rattle.definitions.specs.Lists.{outside}
+use Rattle.lists.specs.Ranges.{inside}
 use Rattle.definitions.specs.Form.{departs, reads, byteAt, scanDigits, scanNumber}
-
-pub below-outside : (low high x : ℕ) → x < low → outside low high x ≡ true
-unfolding outside
-below-outside low high x h = rw (lt-ltb x low h)
-
-pub above-outside : (low high x : ℕ) → low ≤ x → high < x → outside low high x ≡ true
-unfolding outside
-above-outside low high x l h = rw (le-ltb x low l, lt-ltb high x h)
-
-pub between-inside : (low high x : ℕ) → low ≤ x → x ≤ high → outside low high x ≡ false
-unfolding outside
-between-inside low high x l h = rw (le-ltb x low l, le-ltb high x h)
 
 -- A byte that is no digit ends the number.
 pub digits-end : (text : List ℕ) (x p more : ℕ) → outside 48 57 (byteAt text p) ≡ true → scanDigits text x p more ≡ reads (x ∷ []) p
@@ -67,4 +56,4 @@ number-departs text p n e = rw (ne-eqb _ _ n, e)
 pub number-digits : (text : List ℕ) (p : ℕ) → 49 ≤ byteAt text p → byteAt text p ≤ 57
     → scanNumber text p ≡ scanDigits text (byteAt text p - 48) (p + 1) 3
 unfolding scanNumber
-number-digits text p l h = rw (ne-eqb (byteAt text p) 48 (λ e. omega arith), between-inside 49 57 _ l h)
+number-digits text p l h = rw (ne-eqb (byteAt text p) 48 (λ e. omega arith), inside 49 57 _ l h)

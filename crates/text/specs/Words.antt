@@ -1,33 +1,23 @@
 -- How a word is read letter by letter: a step, a departure, the end. Byte 0 stands for the end of the text.
 -- Assumes nothing.
 use Prim.Native.Nat.{ℕ, zero, suc, _+_, _≤_, _<_}
-use mathlib.Core.Bool.{Bool, true, false, not}
+use mathlib.Core.Bool.{true, and-eq-true-iff}
 use mathlib.Core.List.{List, [], _∷_}
-use mathlib.Core.Path.{_≡_, refl}
+use mathlib.Core.Path.{_≡_}
 use native.Mathlib.Numerals.{add-one}
 use native.Mathlib.Omega.{arith}
-use lib.Dec.{ltb, eqb·suc-zero}
-use lib.ListN.{length, getD, drop, drop-of-length-le, List·getD-eq-default}
+use lib.Dec.{ltb}
+use lib.ListN.{length, getD, drop, drop-of-length-le}
 use lib.Seq.{drop-cons}
-use borrow.Author.Tests.{ltb-true, ltb-false, eq-eqb, ne-eqb}
+use borrow.Author.Tests.{ltb-true, eq-eqb, ne-eqb}
 use Rattle.definitions.specs.Form.{departs, reads, byteAt, scanWord}
-use Rattle.text.specs.Scans.{noZero}
-
--- A byte that is not 0 stands inside the text.
-pub byte-inside : (text : List ℕ) (p : ℕ) → 0 < byteAt text p → p < length text
-unfolding byteAt
-byte-inside text p h = go (ltb p (length text)) refl
-  where
-    go : (b : Bool) → ltb p (length text) ≡ b → p < length text
-    go true e = ltb-true _ _ e
-    go false e = absurd (omega (arith, List·getD-eq-default text 0 {n = p} (ltb-false _ _ e)))
+use Rattle.text_theory.specs.Forms.{noZero}
 
 pub no-zero-at : (w : List ℕ) (i : ℕ) → noZero w ≡ true → i < length w → 0 < getD w i 0
 unfolding noZero
 no-zero-at [] i e h = absurd (omega arith)
-no-zero-at (zero ∷ w) i e h = let z : _≡_ {A = ℕ} 0 1 = cc in absurd (omega arith)
-no-zero-at (suc b ∷ w) zero e h = omega arith
-no-zero-at (suc b ∷ w) (suc i) e h = no-zero-at w i (rw (eqb·suc-zero b) at e) (omega arith)
+no-zero-at (b ∷ w) zero e h = ltb-true 0 b (and-eq-true-iff (ltb 0 b) (noZero w) .0 e .0)
+no-zero-at (b ∷ w) (suc i) e h = no-zero-at w i (and-eq-true-iff (ltb 0 b) (noZero w) .0 e .1) (omega arith)
 
 pub word-step : (text w : List ℕ) (i p : ℕ) → i < length w → byteAt text p ≡ getD w i 0
     → scanWord text (drop i w) p ≡ scanWord text (drop (i + 1) w) (p + 1)

@@ -7,7 +7,8 @@ ghost use Prim.Native.Nat.{_≤_};
 ghost use lib.ListN.{length};
 ghost use Rattle.definitions.specs.Form.{byteAt, word, numeral, scanWord, scanDigits, scanNumber, scanForm};
 ghost use Rattle.definitions.specs.Text.{headerForm, linkForm, endForm};
-ghost use Rattle.text.specs.Scans.{noZero, wordGives, numberGives, pairGives};
+ghost use Rattle.text_theory.specs.Forms.{noZero};
+ghost use Rattle.text.specs.Scans.{wordGives, numberGives, pairGives};
 
 // A word: the offset of the first byte that departs, or the offset behind it.
 pub enum WordScan {

@@ -8,8 +8,9 @@ use lib.ListN.{length}
 use denote.Ref.{now}
 use Rattle.definitions.specs.Lists.{outside}
 use Rattle.definitions.specs.Form.{byteAt, scanDigits}
-use Rattle.text.specs.Words.{byte-inside}
-use Rattle.text.specs.Numbers.{below-outside, above-outside, between-inside, digits-end, digits-step, digits-bound, digits-done, digits-room}
+use Rattle.text_theory.specs.Numbers.{byte-within}
+use Rattle.lists.specs.Ranges.{below, above, inside}
+use Rattle.text.specs.Numbers.{digits-end, digits-step, digits-bound, digits-done, digits-room}
 use Rattle.text.proofs.scan.digits.Statement.{statement}
 use Rattle.text.proofs.scan.digits.Tie as tie
 
@@ -35,7 +36,7 @@ returns c =
     sym
     (l .loop .inv .3
     ∙ digits-end (now (a .text)) (l .loop .x) (l .loop .p) (l .loop .more)
-    (rw (b .ensures) at (below-outside 48 57 (b .result) (c .if1 .taken))))
+    (rw (b .ensures) at (below 48 57 (b .result) (c .if1 .taken))))
 
 returns-2 : tie.Need-returns-2 Inv-loop μ-loop
 returns-2 c =
@@ -45,7 +46,7 @@ returns-2 c =
     sym
     (l .loop .inv .3
     ∙ digits-end (now (a .text)) (l .loop .x) (l .loop .p) (l .loop .more)
-    (rw (b .ensures) at (above-outside 48 57 (b .result) (c .before .if1 .left) (c .if2 .taken))))
+    (rw (b .ensures) at (above 48 57 (b .result) (c .before .if1 .left) (c .if2 .taken))))
 
 cast-digit : tie.Need-cast-digit Inv-loop μ-loop
 cast-digit c = omega arith
@@ -74,9 +75,9 @@ loop-again c =
     let l = c .before .before .before .before in
     let a = l .before .before .args in
     let b = c .before .before .byte in
-    let inside : l .loop .p < length (now (a .text)) = byte-inside (now (a .text)) (l .loop .p) (omega arith) in
+    let within : l .loop .p < length (now (a .text)) = byte-within (now (a .text)) (l .loop .p) (omega arith) in
     let digit : outside 48 57 (byteAt (now (a .text)) (l .loop .p)) ≡ false =
-    rw (b .ensures) at (between-inside 48 57 (b .result) (c .before .if1 .left) (c .if2 .left)) in (
+    rw (b .ensures) at (inside 48 57 (b .result) (c .before .if1 .left) (c .if2 .left)) in (
       omega arith,
       digits-bound (l .loop .more) (l .loop .x) (b .result - 48) (omega arith) (omega arith) (l .loop .inv .1) (omega arith),
       omega arith,

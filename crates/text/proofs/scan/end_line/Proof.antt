@@ -3,7 +3,7 @@ use mathlib.Core.Path.{refl, sym, _∙_}
 use borrow.Author.Needs.{needs}
 use denote.Ref.{now}
 use Rattle.definitions.specs.Text.{endForm}
-use Rattle.text.specs.Scans.{noZero}
+use Rattle.text_theory.specs.Forms.{noZero}
 use Rattle.text.specs.Lines.{form-word}
 use Rattle.text.proofs.scan.end_line.Statement.{statement}
 use Rattle.text.proofs.scan.end_line.Tie as tie

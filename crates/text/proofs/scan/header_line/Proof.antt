@@ -2,7 +2,7 @@
 use mathlib.Core.Path.{refl}
 use borrow.Author.Needs.{needs}
 use Rattle.definitions.specs.Text.{headerForm}
-use Rattle.text.specs.Scans.{noZero}
+use Rattle.text_theory.specs.Forms.{noZero}
 use Rattle.text.proofs.scan.header_line.Statement.{statement}
 use Rattle.text.proofs.scan.header_line.Tie as tie
 

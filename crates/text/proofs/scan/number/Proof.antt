@@ -3,8 +3,9 @@ use mathlib.Core.Path.{refl, sym, _∙_}
 use native.Mathlib.Omega.{arith}
 use borrow.Author.Needs.{needs}
 use denote.Ref.{now}
-use Rattle.text.specs.Words.{byte-inside}
-use Rattle.text.specs.Numbers.{below-outside, above-outside, number-zero, number-departs, number-digits}
+use Rattle.text_theory.specs.Numbers.{byte-within}
+use Rattle.lists.specs.Ranges.{below, above}
+use Rattle.text.specs.Numbers.{number-zero, number-departs, number-digits}
 use Rattle.text.proofs.scan.number.Statement.{statement}
 use Rattle.text.proofs.scan.number.Tie as tie
 
@@ -14,7 +15,7 @@ byte-requires c κs = search needs
 add-t5 : tie.Need-add-t5
 add-t5 c =
     let a = c .before .before .before .args in
-    omega (arith, byte-inside (now (a .text)) (a .at) (omega (arith, c .before .byte .ensures, c .if1 .taken)))
+    omega (arith, byte-within (now (a .text)) (a .at) (omega (arith, c .before .byte .ensures, c .if1 .taken)))
 
 returns : tie.Need-returns
 returns c =
@@ -27,7 +28,7 @@ returns-2 c =
     let b = c .before .before .byte in
     sym
     (number-departs (now (a .text)) (a .at) (λ e. c .before .if1 .left (b .ensures ∙ e))
-    (rw (b .ensures) at (below-outside 49 57 (b .result) (c .if2 .taken))))
+    (rw (b .ensures) at (below 49 57 (b .result) (c .if2 .taken))))
 
 returns-3 : tie.Need-returns-3
 returns-3 c =
@@ -35,7 +36,7 @@ returns-3 c =
     let b = c .before .before .before .byte in
     sym
     (number-departs (now (a .text)) (a .at) (λ e. c .before .before .if1 .left (b .ensures ∙ e))
-    (rw (b .ensures) at (above-outside 49 57 (b .result) (c .before .if2 .left) (c .if3 .taken))))
+    (rw (b .ensures) at (above 49 57 (b .result) (c .before .if2 .left) (c .if3 .taken))))
 
 sub-digits : tie.Need-sub-digits
 sub-digits c = search needs
@@ -46,12 +47,12 @@ cast-digits c = search needs
 add-digits : tie.Need-add-digits
 add-digits c =
     let a = c .before .before .before .before .before .args in
-    omega (arith, byte-inside (now (a .text)) (a .at) (omega (arith, c .before .before .before .byte .ensures)))
+    omega (arith, byte-within (now (a .text)) (a .at) (omega (arith, c .before .before .before .byte .ensures)))
 
 digits-requires : tie.Need-digits-requires
 digits-requires c κs =
     let a = c .before .before .before .before .before .args in
-    (omega arith, omega (arith, byte-inside (now (a .text)) (a .at) (omega (arith, c .before .before .before .byte .ensures))))
+    (omega arith, omega (arith, byte-within (now (a .text)) (a .at) (omega (arith, c .before .before .before .byte .ensures))))
 
 returns-4 : tie.Need-returns-4
 returns-4 c =

@@ -6,7 +6,8 @@ use native.Mathlib.Omega.{arith}
 use lib.ListN.{length, getD, drop}
 use denote.Ref.{now}
 use Rattle.definitions.specs.Form.{byteAt, scanWord}
-use Rattle.text.specs.Words.{byte-inside, no-zero-at, word-step, word-departs, word-ends}
+use Rattle.text_theory.specs.Numbers.{byte-within}
+use Rattle.text.specs.Words.{no-zero-at, word-step, word-departs, word-ends}
 use Rattle.text.proofs.scan.word.Statement.{statement}
 use Rattle.text.proofs.scan.word.Tie as tie
 
@@ -55,7 +56,7 @@ loop-again c =
     sym (c .before .before .byte .ensures) ∙ c .if1 .left in
     let e : a .at + l .loop .i + 1 ≡ a .at + (l .loop .i + 1) = omega arith in
     let lit : 0 < getD (now (a .letters)) (l .loop .i) 0 = no-zero-at (now (a .letters)) (l .loop .i) (l .before .before .before .pre) (omega arith) in
-    let inside : a .at + l .loop .i < length (now (a .text)) = byte-inside (now (a .text)) (a .at + l .loop .i) (omega arith) in
+    let within : a .at + l .loop .i < length (now (a .text)) = byte-within (now (a .text)) (a .at + l .loop .i) (omega arith) in
     (omega arith, omega arith, l .loop .inv .2 ∙ (rw e at (word-step (now (a .text)) (now (a .letters)) (l .loop .i) (a .at + l .loop .i) (omega arith) here)))
 
 add-t11 : tie.Need-add-t11 Inv-loop μ-loop
