@@ -15,3 +15,4 @@ pub mod SomeBelow
 pub mod Bitmap
 pub mod Parts
 pub mod Ranges
+pub mod Stores

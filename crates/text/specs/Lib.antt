@@ -3,3 +3,4 @@ pub mod Scans
 pub mod Words
 pub mod Numbers
 pub mod Lines
+pub mod Put

@@ -1,23 +1,28 @@
--- The answers of the reading functions as the definitions' `Scan`, case by case.
+-- The form of a line of two numbers, and the answers of the reading functions as the definitions' `Scan`, case by case.
 -- Assumes nothing.
-use mathlib.Core.List.{[], _∷_}
-use Rattle.definitions.specs.Form.{Scan, departs, reads}
+use Prim.Native.Nat.{ℕ}
+use mathlib.Core.List.{List, [], _∷_}
+use Rattle.definitions.specs.Form.{Item, word, numeral, Scan, departs, reads}
 use Rattle.text.specs.declared.scan.WordScan.{WordScan}
-use Rattle.text.specs.declared.scan.WordScan.the-variants as word
+use Rattle.text.specs.declared.scan.WordScan.the-variants as words
 use Rattle.text.specs.declared.scan.NumberScan.{NumberScan}
-use Rattle.text.specs.declared.scan.NumberScan.the-variants as number
+use Rattle.text.specs.declared.scan.NumberScan.the-variants as numbers
 use Rattle.text.specs.declared.scan.PairScan.{PairScan}
-use Rattle.text.specs.declared.scan.PairScan.the-variants as pair
+use Rattle.text.specs.declared.scan.PairScan.the-variants as pairs
+
+-- The form of a line of two numbers.
+abbrev pub pairForm : List ℕ → List ℕ → List ℕ → List Item
+pairForm front middle back = word front ∷ numeral ∷ word middle ∷ numeral ∷ word back ∷ []
 
 -- A word gives no number.
 abbrev pub wordGives : WordScan → Scan
-wordGives (word.Departs p) = departs p
-wordGives (word.Reads p) = reads [] p
+wordGives (words.Departs p) = departs p
+wordGives (words.Reads p) = reads [] p
 
 abbrev pub numberGives : NumberScan → Scan
-numberGives (number.Departs p) = departs p
-numberGives (number.Reads x p) = reads (x ∷ []) p
+numberGives (numbers.Departs p) = departs p
+numberGives (numbers.Reads x p) = reads (x ∷ []) p
 
 abbrev pub pairGives : PairScan → Scan
-pairGives (pair.Departs p) = departs p
-pairGives (pair.Reads a b p) = reads (a ∷ b ∷ []) p
+pairGives (pairs.Departs p) = departs p
+pairGives (pairs.Reads a b p) = reads (a ∷ b ∷ []) p

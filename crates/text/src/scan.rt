@@ -8,7 +8,7 @@ ghost use lib.ListN.{length};
 ghost use Rattle.definitions.specs.Form.{byteAt, word, numeral, scanWord, scanDigits, scanNumber, scanForm};
 ghost use Rattle.definitions.specs.Text.{headerForm, linkForm, endForm};
 ghost use Rattle.text_theory.specs.Forms.{noZero};
-ghost use Rattle.text.specs.Scans.{wordGives, numberGives, pairGives};
+ghost use Rattle.text.specs.Scans.{pairForm, wordGives, numberGives, pairGives};
 
 // A word: the offset of the first byte that departs, or the offset behind it.
 pub enum WordScan {
@@ -108,7 +108,7 @@ pub fn pair_line(text: &[u8], front: &[u8], middle: &[u8], back: &[u8], at: usiz
     requires { ⌜ noZero (now front) ≡ true ⌝ }
     requires { ⌜ noZero (now middle) ≡ true ⌝ }
     requires { ⌜ noZero (now back) ≡ true ⌝ }
-    ensures { λ r. ⌜ pairGives r ≡ scanForm (now (text .entry)) (word (now (front .entry)) ∷ numeral ∷ word (now (middle .entry)) ∷ numeral ∷ word (now (back .entry)) ∷ []) at ⌝ }
+    ensures { λ r. ⌜ pairGives r ≡ scanForm (now (text .entry)) (pairForm (now (front .entry)) (now (middle .entry)) (now (back .entry))) at ⌝ }
 {
     match word_number(text, front, at) {
         NumberScan::Departs(p) => PairScan::Departs(p),
