@@ -13,6 +13,4 @@ pub mod Parts
 pub mod Ranges
 pub mod SomeBelow
 pub mod Bitmap
-pub mod Parts
-pub mod Ranges
 pub mod Stores
