@@ -27,3 +27,4 @@ pub mod Chains
 pub mod Ends
 pub mod Reversed
 pub mod Concat
+pub mod Stores
