@@ -17,6 +17,7 @@ pub mod Ranges
 pub mod SomeBelow
 pub mod Bitmap
 pub mod Rising
+pub mod Ranks
 pub mod Totals
 pub mod Greatest
 pub mod Stretches
