@@ -29,3 +29,4 @@ pub mod Ends
 pub mod Reversed
 pub mod Concat
 pub mod Stores
+pub mod Grids
