@@ -1,11 +1,11 @@
 -- A path of the sweep in the list of its side: its end and last but one at its index, and from there each relay's predecessor
 -- up to the start, which has none. What the two stores into a side, a path's end and last but one and a relay's predecessor,
 -- leave as it was. Over sides of 1,067 entries, indices up to 32 and places up to 1,000.
-use Prim.Native.Nat.{ℕ, suc, _+_, _≤_, _<_}
-use mathlib.Core.Bool.{Bool, true, false}
+use Prim.Native.Nat.{ℕ, _+_, _≤_, _<_}
+use mathlib.Core.Bool.{true}
 use mathlib.Core.List.{List, [], _∷_, tail}
 use mathlib.Core.Logic.{_≢_}
-use mathlib.Core.Path.{_≡_, refl, sym, _∙_, ap, subst}
+use mathlib.Core.Path.{_≡_, sym, _∙_, subst}
 use native.Mathlib.Omega.{arith}
 use lib.ListN.{length, getD, set, length-set}
 use lib.Seq.{getD-set-same, getD-set-other}

@@ -1,23 +1,18 @@
 -- The trades of one side at v, going down through the indices below j, give each index the path that the definition's
 -- `downshift` gives it. Over any family of paths and set of indices that end at v, and any j that is at least each of them.
-use Prim.Native.Nat.{ℕ, zero, suc, pred, _≤_, _<_}
+use Prim.Native.Nat.{ℕ, suc, _≤_, _<_}
 use mathlib.Core.Bool.{Bool, true, false, _||_, or-false}
-use mathlib.Core.List.{List, [], _∷_, tail}
-use mathlib.Core.Logic.{_⊎_, inl, inr, _≢_, by-cases}
-use mathlib.Core.Path.{_≡_, refl, sym, _∙_, ap, subst}
-use native.Mathlib.Decide.{decLt, ℕ-discrete}
+use mathlib.Core.List.{List, _∷_, tail}
+use mathlib.Core.Logic.{_≢_, by-cases}
+use mathlib.Core.Path.{_≡_, refl, sym, _∙_, ap}
+use native.Mathlib.Decide.{decLt}
 use native.Mathlib.Omega.{arith}
 use lib.Dec.{eqb}
-use lib.ListN.{length}
-use borrow.Author.Tests.{eqb-true, eqb-false, eq-eqb, ne-eqb}
-use Rattle.definitions.specs.Outcome.{pick}
+use borrow.Author.Tests.{eqb-true, eq-eqb, ne-eqb}
 use Rattle.definitions.specs.Lists.{largest, firstFrom}
-use Rattle.definitions.specs.Sweep.{endOf, beforeEnd, together, downshift}
+use Rattle.definitions.specs.Sweep.{beforeEnd, together, downshift}
 use Rattle.lists.specs.Searches.{clash, largest-above, First, first-holds}
 use Rattle.theory.specs.SweepShift.{Came, stays, moves, takes, came, source}
-use Rattle.routes.specs.Side.{endIn, priorIn, tradeAt, trade, tradeFrom}
-use Rattle.routes.proofs.Held.{HeldPath, SideHeld, held-end, held-same}
-use Rattle.routes.proofs.Trades.{trade-long, trade-prior, trade-lower, trade-higher, trade-other}
 
 -- Two searches for the first number of a range agree.
 first-same : (test : ℕ → Bool) (i x f g : ℕ) → First test i x f → First test i x g → f ≡ g

@@ -4,9 +4,9 @@ use mathlib.Core.List.{List, [], _∷_, tail}
 use mathlib.Core.Logic.{_≢_}
 use mathlib.Core.Path.{_≡_, sym, _∙_, ap, subst}
 use lib.ListN.{length}
-use Rattle.definitions.specs.Sweep.{endOf, beforeEnd}
+use Rattle.definitions.specs.Sweep.{beforeEnd}
 use Rattle.routes.specs.Side.{endIn, secondIn, priorIn, setPath, trade}
-use Rattle.routes.proofs.Held.{Chain, HeldPath, held-end, held-before, held-chain, chain-same, length-setPath, prior-setPath, held-setPath-other, held-setPath}
+use Rattle.routes.proofs.Held.{HeldPath, held-before, held-chain, chain-same, length-setPath, prior-setPath, held-setPath-other, held-setPath}
 
 -- A path with one more relay known of it: its end is its first.
 pub held-whole : (side : List ℕ) (i : ℕ) (path : List ℕ) → HeldPath side i path → endIn side i ∷ tail path ≡ path
