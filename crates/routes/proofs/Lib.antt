@@ -14,3 +14,4 @@ pub mod Swept
 pub mod Stores
 pub mod WrittenOut
 pub mod Routed
+pub mod BetweenTurns
