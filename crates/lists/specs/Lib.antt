@@ -20,3 +20,5 @@ pub mod Rising
 pub mod Totals
 pub mod Greatest
 pub mod Stretches
+pub mod SameOutcomes
+pub mod Front

@@ -5,3 +5,5 @@ pub mod Forms
 pub mod Lines
 pub mod LinkByLink
 pub mod RoundTrip
+pub mod Spans
+pub mod Reach

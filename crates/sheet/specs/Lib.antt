@@ -1,0 +1,2 @@
+-- What the planner prints: how far it looks, how much it writes, and the answers of its functions.
+pub mod Reach
