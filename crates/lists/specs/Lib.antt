@@ -22,3 +22,4 @@ pub mod Greatest
 pub mod Stretches
 pub mod SameOutcomes
 pub mod Front
+pub mod RefusedWithin

@@ -7,3 +7,4 @@ pub mod LinkByLink
 pub mod RoundTrip
 pub mod Spans
 pub mod Reach
+pub mod Refusals
