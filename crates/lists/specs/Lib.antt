@@ -23,3 +23,8 @@ pub mod Stretches
 pub mod SameOutcomes
 pub mod Front
 pub mod RefusedWithin
+pub mod Maps
+pub mod Cuts
+pub mod Pigeonhole
+pub mod Chains
+pub mod Ends

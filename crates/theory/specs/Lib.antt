@@ -15,3 +15,7 @@ pub mod SweepSide
 pub mod SweepInvariant
 pub mod SweepSettle
 pub mod SweepPassed
+pub mod Columns
+pub mod TableLinks
+pub mod RelayTrees
+pub mod SharedLinks
