@@ -1,2 +1,5 @@
 -- What the planner prints: how far it looks, how much it writes, and the answers of its functions.
 pub mod Reach
+pub mod Planned
+pub mod Routes
+pub mod Longest

@@ -1,15 +1,15 @@
 -- How far the reader looks: a longer text cannot change what it gives.
 -- Assumes nothing.
-use Prim.Native.Nat.{ℕ, zero, suc, _+_, _-_, _*_, _≤_, _<_, min}
+use Prim.Native.Nat.{ℕ, zero, suc, _+_, _-_, _*_, _≤_, _<_}
 use mathlib.Core.Bool.{Bool, true, false, _||_}
 use mathlib.Core.List.{List, [], _∷_, _++_}
-use mathlib.Core.Path.{_≡_, refl, sym, _∙_, ap}
+use mathlib.Core.Path.{_≡_, refl, ap}
 use native.Mathlib.Omega.{arith}
 use lib.Dec.{ltb}
 use lib.ListN.{length, getD, take, length-take}
 use lib.Seq.{getD-take}
 use borrow.Author.Tests.{lt-ltb, le-ltb, ltb-true, ltb-false}
-use Rattle.definitions.specs.Outcome.{Outcome, refuseIf}
+use Rattle.definitions.specs.Outcome.{Outcome}
 use Rattle.definitions.specs.Lists.{outside}
 use Rattle.definitions.specs.Network.{linkFault}
 use Rattle.definitions.specs.Form.{
@@ -30,7 +30,7 @@ use Rattle.definitions.specs.Form.{
   onScan,
   writeForm,
 }
-use Rattle.definitions.specs.Text.{Network, headerForm, linkForm, endForm, readEnd, readLinks, readNetwork}
+use Rattle.definitions.specs.Text.{headerForm, linkForm, endForm, readEnd, readLinks, readNetwork}
 use Rattle.lists.specs.Ranges.{inside-range}
 use Rattle.lists.specs.SameOutcomes.{refuse-same}
 use Rattle.theory.specs.Accepted.{fault-none}

@@ -60,7 +60,7 @@ links-read text n (a ∷ ls) (b ∷ hs) lows highs p few rest good part =
     ∙ (rw (append-snoc lows a ls, append-snoc highs b hs) at after))
 
 -- What a reading that was done had behind it.
-on-scan-done : {A : Type 0} (number : ℕ) (scan : Scan) (next : List ℕ → ℕ → Outcome A) (value : A)
+pub on-scan-done : {A : Type 0} (number : ℕ) (scan : Scan) (next : List ℕ → ℕ → Outcome A) (value : A)
     → onScan number scan next ≡ done value
     → (values : List ℕ) × (q : ℕ) × (scan ≡ reads values q) × (next values q ≡ done value)
 unfolding onScan
