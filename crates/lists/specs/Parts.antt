@@ -6,8 +6,8 @@ use mathlib.Core.Path.{_≡_, refl, sym, _∙_, ap}
 use native.Mathlib.Nat.{add-zero}
 use native.Mathlib.Numerals.{add-one}
 use native.Mathlib.Omega.{arith}
-use lib.ListN.{length, getD, take, drop, length-append}
-use lib.Seq.{drop-cons, drop-drop, getD-drop, take-at, drop-length, drop-append-seam, drop-append-add, getD-append-add}
+use lib.ListN.{length, getD, take, drop, length-append, take-append-drop}
+use lib.Seq.{drop-cons, drop-drop, getD-drop, take-at, drop-length, drop-append-seam, drop-append-add, getD-append-add, take-take}
 
 -- From index p up to, not including, index q the list is `part`.
 pub record Part (list : List ℕ) (p : ℕ) (part : List ℕ) (q : ℕ) : Type 0 where
@@ -106,3 +106,10 @@ part-taken list part p q h =
 -- The part that is the whole list.
 pub part-whole : (list part : List ℕ) → Part list 0 part (length list) → part ≡ list
 part-whole list part h = sym (append-nil part) ∙ sym (h .follows ∙ ap (λ (l : List ℕ). part ++ l) (drop-length list))
+
+-- The first i entries, then those up to k, then others.
+pub take-further : (i k : ℕ) (list rest : List ℕ) → i ≤ k → take i list ++ (drop i (take k list) ++ rest) ≡ take k list ++ rest
+take-further i k list rest h =
+    sym (append-assoc (take i list) (drop i (take k list)) rest)
+    ∙ ap (λ (l : List ℕ). l ++ drop i (take k list) ++ rest) (sym (take-take i k list h))
+    ∙ ap (λ (l : List ℕ). l ++ rest) (take-append-drop i (take k list))

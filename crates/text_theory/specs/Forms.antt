@@ -85,7 +85,7 @@ pub wish-line : Line wishForm
 unfolding wellFormed wellFormedBehind goodWord noZero outside endsInNumber wishForm
 wish-line = (refl, refl)
 
-good-no-zero : (behind : Bool) (w : List ℕ) → goodWord behind w ≡ true → noZero w ≡ true
+pub good-no-zero : (behind : Bool) (w : List ℕ) → goodWord behind w ≡ true → noZero w ≡ true
 unfolding goodWord
 good-no-zero behind [] e = absurd (false≢true e)
 good-no-zero behind (b ∷ w) e = and-eq-true-iff (noZero (b ∷ w)) (not behind || outside 48 57 b) .0 e .0
@@ -99,7 +99,7 @@ word-read text [] p q part =
 word-read text (b ∷ w) p q part =
     rw (eq-eqb (getD text p 0) b (part-head text w b p q part)) (word-read text w (p + 1) q (part-tail text w b p q part))
 
-read-word : (text w : List ℕ) (p : ℕ) (values : List ℕ) (q : ℕ) → noZero w ≡ true → p ≤ length text
+pub read-word : (text w : List ℕ) (p : ℕ) (values : List ℕ) (q : ℕ) → noZero w ≡ true → p ≤ length text
     → scanWord text w p ≡ reads values q → (values ≡ []) × Part text p w q
 unfolding scanWord byteAt noZero
 read-word text [] p values q good within e =

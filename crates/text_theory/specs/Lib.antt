@@ -3,8 +3,14 @@ pub mod Decimal
 pub mod Numbers
 pub mod Forms
 pub mod Lines
+pub mod Looks
+pub mod Departs
+pub mod FirstDeparture
 pub mod LinkByLink
+pub mod Onward
 pub mod RoundTrip
 pub mod Spans
 pub mod Reach
 pub mod Refusals
+pub mod Departure
+pub mod Longest

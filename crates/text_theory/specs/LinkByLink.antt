@@ -1,20 +1,22 @@
 -- Link lines and the check of a table, link by link over what was read so far, as the reader goes through them.
 -- `lows` and `highs` are what was read so far, `ls` and `hs` what is to come. Assumes nothing.
-use Prim.Native.Nat.{ℕ, zero, suc, _+_, _<_}
-use mathlib.Core.Bool.{Bool}
+use Prim.Native.Nat.{ℕ, suc, _+_, _≤_}
+use mathlib.Core.Bool.{false, _||_, not}
 use mathlib.Core.List.{List, [], _∷_, _++_}
 use mathlib.Core.Path.{_≡_, refl, sym, _∙_}
 use native.Mathlib.Omega.{arith}
-use lib.Dec.{ltb}
+use lib.Dec.{eqb, ltb}
 use lib.ListN.{length, length-append, List·getD-append}
 use lib.Seq.{append-snoc, getD-append-seam, getD-at}
-use borrow.Author.Tests.{ltb-false, le-ltb}
+use borrow.Author.Tests.{ltb-false, le-ltb, eq-eqb}
 use Rattle.definitions.specs.Outcome.{done, refuseIf}
-use Rattle.definitions.specs.Lists.{someBelow}
-use Rattle.definitions.specs.Network.{isPair, linkFault, linksCheck}
+use Rattle.definitions.specs.Lists.{outside}
+use Rattle.definitions.specs.Network.{isPair, linkFault, linksCheck, tableCheck, Accepted}
 use Rattle.definitions.specs.Form.{writeForm}
 use Rattle.definitions.specs.Text.{linkForm, linkLines}
 use Rattle.lists.specs.Outcomes.{not-refused, refuse-not}
+use Rattle.lists.specs.SomeBelow.{some-same}
+use Rattle.theory.specs.Accepted.{accepted}
 
 -- The lines of these links.
 unfoldable pub lines : List ℕ → List ℕ → List ℕ
@@ -45,18 +47,12 @@ linkLines-lines (a ∷ ls) (b ∷ hs) lows highs even rest =
     rw (append-snoc lows a ls, append-snoc highs b hs, length-append lows (a ∷ [])) at hyp in
     rw (getD-append-seam lows a ls 0, getD-at highs b hs 0 (length lows) (sym even), after)
 
--- The test of the links below i looks at those links alone.
-same-below : (f g : ℕ → Bool) (i : ℕ) → ((j : ℕ) → j < i → f j ≡ g j) → someBelow f i ≡ someBelow g i
-unfolding someBelow
-same-below f g zero same = refl
-same-below f g (suc i) same = rw (same i (omega arith), same-below f g i (λ j h. same j (omega arith)))
-
 -- A link's fault is the same whatever comes behind it.
 fault-front : (n : ℕ) (lows highs ls hs : List ℕ) (a b : ℕ) → length lows ≡ length highs
     → linkFault n (lows ++ ls) (highs ++ hs) (length lows) a b ≡ linkFault n lows highs (length lows) a b
 unfolding linkFault isPair
 fault-front n lows highs ls hs a b even =
-    rw (same-below (isPair (lows ++ ls) (highs ++ hs) a b) (isPair lows highs a b) (length lows)
+    rw (some-same (isPair (lows ++ ls) (highs ++ hs) a b) (isPair lows highs a b) (length lows)
     (λ j h. rw (List·getD-append lows ls 0 j h, List·getD-append highs hs 0 j (omega arith))))
 
 -- One link of the check.
@@ -76,7 +72,7 @@ check-step n lows highs ls hs a b even =
     )
 
 -- The check of the table, both ways.
-pub check-faultless : (n : ℕ) (ls hs lows highs : List ℕ) → length lows ≡ length highs → length ls ≡ length hs
+check-faultless : (n : ℕ) (ls hs lows highs : List ℕ) → length lows ≡ length highs → length ls ≡ length hs
     → linksCheck n (lows ++ ls) (highs ++ hs) (length lows) (length ls) ≡ done [] → Faultless n lows highs ls hs
 check-faultless n [] hs lows highs even rest check = tt
 check-faultless n (a ∷ ls) [] lows highs even rest check = tt
@@ -87,7 +83,7 @@ check-faultless n (a ∷ ls) (b ∷ hs) lows highs even rest check =
     let none : fault ≡ 0 = omega (arith, ltb-false 0 fault (step .0)) in
     (none, check-faultless n ls hs (lows ++ (a ∷ [])) (highs ++ (b ∷ [])) (snoc-even lows highs a b even) (omega arith) (step .1))
 
-pub faultless-check : (n : ℕ) (ls hs lows highs : List ℕ) → length lows ≡ length highs → length ls ≡ length hs
+faultless-check : (n : ℕ) (ls hs lows highs : List ℕ) → length lows ≡ length highs → length ls ≡ length hs
     → Faultless n lows highs ls hs → linksCheck n (lows ++ ls) (highs ++ hs) (length lows) (length ls) ≡ done []
 unfolding linksCheck
 faultless-check n [] hs lows highs even rest good = refl
@@ -98,3 +94,25 @@ faultless-check n (a ∷ ls) (b ∷ hs) lows highs even rest good =
     check-step n lows highs ls hs a b even
     ∙ refuse-not (ltb 0 fault) fault (length lows) after (le-ltb 0 fault (omega (arith, good .0)))
     ∙ faultless-check n ls hs (lows ++ (a ∷ [])) (highs ++ (b ∷ [])) (snoc-even lows highs a b even) (omega arith) (good .1)
+
+-- What an accepted table has, and what makes a table an accepted one, link by link.
+pub accepted-faultless : (n : ℕ) (lows highs : List ℕ) → Accepted n lows highs → Faultless n [] [] lows highs
+unfolding tableCheck
+accepted-faultless n lows highs check =
+    let table = accepted n lows highs check in
+    let links = linksCheck n lows highs 0 (length lows) in
+    let uneven = not (eqb (length lows) (length highs)) || ltb 3000 (length lows) in
+    let first = not-refused (outside 1 1000 n) 3 0 (refuseIf uneven 4 0 links) [] check in
+    let second = not-refused uneven 4 0 links [] (first .1) in
+    check-faultless n lows highs [] [] refl (table .even) (second .1)
+
+pub faultless-accepted : (n : ℕ) (lows highs : List ℕ) → outside 1 1000 n ≡ false → length lows ≡ length highs → length lows ≤ 3000
+    → Faultless n [] [] lows highs → Accepted n lows highs
+unfolding tableCheck
+faultless-accepted n lows highs size even few good =
+    let links = linksCheck n lows highs 0 (length lows) in
+    let uneven = not (eqb (length lows) (length highs)) || ltb 3000 (length lows) in
+    let fits : uneven ≡ false = rw (eq-eqb (length lows) (length highs) even, le-ltb 3000 (length lows) few) in
+    refuse-not (outside 1 1000 n) 3 0 (refuseIf uneven 4 0 links) size
+    ∙ refuse-not uneven 4 0 links fits
+    ∙ faultless-check n lows highs [] [] refl even good

@@ -204,17 +204,17 @@ read-number text p values q e = zeroFirst (eqb (byteAt text p) 48) refl e
     zeroFirst false test e = digitFirst (outside 49 57 (byteAt text p)) refl e
 
 -- Both with the text before and behind the number written out.
-pub scan-written : (front rest : List ℕ) (x : ℕ) → x < 10000 → outside 48 57 (byteAt rest 0) ≡ true
+pub scan-decimal : (front rest : List ℕ) (x : ℕ) → x < 10000 → outside 48 57 (byteAt rest 0) ≡ true
     → scanNumber (front ++ (decimal x ++ rest)) (length front) ≡ reads (x ∷ []) (length front + length (decimal x))
 unfolding byteAt
-scan-written front rest x small stops =
+scan-decimal front rest x small stops =
     number-read (front ++ (decimal x ++ rest)) x (length front) (length front + length (decimal x)) small
     (part-of-append front (decimal x) rest)
     (ap (outside 48 57) (part-behind front (decimal x) rest) ∙ stops)
 
-pub written-scanned : (text : List ℕ) (x p q : ℕ) → scanNumber text p ≡ reads (x ∷ []) q
+pub decimal-scanned : (text : List ℕ) (x p q : ℕ) → scanNumber text p ≡ reads (x ∷ []) q
     → (x < 10000) × (p < q) × (q ≤ length text) × (take (q - p) (drop p text) ≡ decimal x)
-written-scanned text x p q e =
+decimal-scanned text x p q e =
     let read = read-number text p (x ∷ []) q e in
     let same : read .number ≡ x = cc (read .value) in
     let part : Part text p (decimal x) q = rw same at (read .part) in

@@ -1,22 +1,22 @@
 -- The round trip of the network text: the reader accepts exactly the texts of accepted networks, and gives those networks.
 -- Assumes nothing.
 use Prim.Native.Nat.{ℕ, zero, suc, _+_, _≤_}
-use mathlib.Core.Bool.{false, _||_, not}
+use mathlib.Core.Bool.{false, _||_}
 use mathlib.Core.List.{List, [], _∷_, _++_, append-nil, append-assoc}
 use mathlib.Core.Logic.{_↔_}
 use mathlib.Core.Path.{_≡_, refl, _∙_, ap}
+use native.Mathlib.Nat.{add-zero}
 use native.Mathlib.Omega.{arith}
-use lib.Dec.{ltb, eqb}
+use lib.Dec.{ltb}
 use lib.ListN.{length, getD}
 use lib.Seq.{append-snoc}
-use borrow.Author.Tests.{ltb-false, le-ltb, eq-eqb}
+use borrow.Author.Tests.{ltb-false, le-ltb}
 use Rattle.definitions.specs.Outcome.{Outcome, done, refuseIf}
 use Rattle.definitions.specs.Lists.{outside}
-use Rattle.definitions.specs.Network.{linkFault, linksCheck, tableCheck, Accepted}
+use Rattle.definitions.specs.Network.{linkFault, Accepted}
 use Rattle.definitions.specs.Form.{Scan, departs, reads, scanForm, onScan, writeForm}
 use Rattle.definitions.specs.Text.{headerForm, linkForm, endForm, Network, readEnd, readLinks, readNetwork, textOf}
 use Rattle.lists.specs.Outcomes.{not-refused, refuse-not}
-use Rattle.lists.specs.Ranges.{inside}
 use Rattle.lists.specs.Parts.{Part, part-append, part-first, part-second, part-start, part-end, part-whole}
 use Rattle.theory.specs.Accepted.{accepted}
 use Rattle.text_theory.specs.Forms.{header-line, link-line, end-line}
@@ -30,34 +30,12 @@ use Rattle.text_theory.specs.Lines.{
   end-numbers,
   faultless-fits,
 }
-use Rattle.text_theory.specs.LinkByLink.{lines, Faultless, linkLines-lines, check-faultless, faultless-check}
+use Rattle.text_theory.specs.LinkByLink.{lines, Faultless, linkLines-lines, accepted-faultless, faultless-accepted}
+use Rattle.text_theory.specs.Onward.{header-onward, links-onward, end-onward}
 
 -- The text behind the header line.
 abbrev body : List ℕ → List ℕ → List ℕ
 body ls hs = lines ls hs ++ writeForm endForm []
-
-links-read : (text : List ℕ) (n : ℕ) (ls hs lows highs : List ℕ) (p : ℕ) → n ≤ 1000 → length ls ≡ length hs
-    → Faultless n lows highs ls hs → Part text p (body ls hs) (length text)
-    → readLinks text n lows highs p (length ls) ≡ done (record { relays = n; lows = lows ++ ls; highs = highs ++ hs })
-unfolding readLinks readEnd onScan lines
-links-read text n [] [] lows highs p few rest good part =
-    rw (line-read endForm [] text p (length text) end-line end-fits part, append-nil lows, append-nil highs)
-    (refuse-not (ltb (length text) (length text)) 2 (length text) _ (le-ltb (length text) (length text) (omega arith)))
-links-read text n [] (b ∷ hs) lows highs p few rest good part = absurd (omega arith)
-links-read text n (a ∷ ls) [] lows highs p few rest good part = absurd (omega arith)
-links-read text n (a ∷ ls) (b ∷ hs) lows highs p few rest good part =
-    let fault = linkFault n lows highs (length lows) a b in
-    let line = writeForm linkForm (a ∷ b ∷ []) in
-    let q = p + length line in
-    let both : Part text p (line ++ body ls hs) (length text) =
-    rw (append-assoc line (lines ls hs) (writeForm endForm [])) at part in
-    let after = links-read text n ls hs (lows ++ (a ∷ [])) (highs ++ (b ∷ [])) q few (omega arith) (good .1)
-    (part-second text line (body ls hs) p (length text) both) in
-    rw (line-read linkForm (a ∷ b ∷ []) text p q link-line (faultless-fits n lows highs (length lows) a b few (good .0))
-    (part-first text line (body ls hs) p (length text) both))
-    (refuse-not (ltb 0 fault) fault (length lows) (readLinks text n (lows ++ (a ∷ [])) (highs ++ (b ∷ [])) q (length ls))
-    (le-ltb 0 fault (omega (arith, good .0)))
-    ∙ (rw (append-snoc lows a ls, append-snoc highs b hs) at after))
 
 -- What a reading that was done had behind it.
 pub on-scan-done : {A : Type 0} (number : ℕ) (scan : Scan) (next : List ℕ → ℕ → Outcome A) (value : A)
@@ -144,51 +122,28 @@ text-lines n lows highs even =
     ap (λ (l : List ℕ). writeForm headerForm (n ∷ length lows ∷ []) ++ (l ++ writeForm endForm []))
     (linkLines-lines lows highs [] [] refl even)
 
--- What an accepted table has, and what makes a table an accepted one, link by link.
-accepted-faultless : (n : ℕ) (lows highs : List ℕ) → Accepted n lows highs → Faultless n [] [] lows highs
-unfolding tableCheck
-accepted-faultless n lows highs check =
-    let table = accepted n lows highs check in
-    let links = linksCheck n lows highs 0 (length lows) in
-    let uneven = not (eqb (length lows) (length highs)) || ltb 3000 (length lows) in
-    let first = not-refused (outside 1 1000 n) 3 0 (refuseIf uneven 4 0 links) [] check in
-    let second = not-refused uneven 4 0 links [] (first .1) in
-    check-faultless n lows highs [] [] refl (table .even) (second .1)
-
-faultless-accepted : (n : ℕ) (lows highs : List ℕ) → outside 1 1000 n ≡ false → length lows ≡ length highs → length lows ≤ 3000
-    → Faultless n [] [] lows highs → Accepted n lows highs
-unfolding tableCheck
-faultless-accepted n lows highs size even few good =
-    let links = linksCheck n lows highs 0 (length lows) in
-    let uneven = not (eqb (length lows) (length highs)) || ltb 3000 (length lows) in
-    let fits : uneven ≡ false = rw (eq-eqb (length lows) (length highs) even, le-ltb 3000 (length lows) few) in
-    refuse-not (outside 1 1000 n) 3 0 (refuseIf uneven 4 0 links) size
-    ∙ refuse-not uneven 4 0 links fits
-    ∙ faultless-check n lows highs [] [] refl even good
-
 -- An accepted network is read back from its text.
 pub read-written : (n : ℕ) (lows highs : List ℕ) → Accepted n lows highs → (roomLows roomHighs : ℕ)
     → length lows ≤ roomLows → length lows ≤ roomHighs
     → readNetwork (textOf n lows highs) roomLows roomHighs ≡ done (record { relays = n; lows = lows; highs = highs })
-unfolding readNetwork onScan
 read-written n lows highs check roomLows roomHighs inLows inHighs =
     let table = accepted n lows highs check in
     let m = length lows in
     let header = writeForm headerForm (n ∷ m ∷ []) in
     let text = header ++ body lows highs in
-    let size = inside 1 1000 n (table .some) (table .few) in
-    let many = le-ltb 3000 m (table .short) in
-    let room : (ltb roomLows m || ltb roomHighs m) ≡ false = rw (le-ltb roomLows m inLows, le-ltb roomHighs m inHighs) in
-    let first : scanForm text headerForm 0 ≡ reads (n ∷ m ∷ []) (length header) =
-    line-read headerForm (n ∷ m ∷ []) text 0 (length header) header-line
-    (header-fits n m (omega (arith, table .few)) (omega (arith, table .short)))
-    (part-start header (body lows highs)) in
-    rw (text-lines n lows highs (table .even), first)
-    (refuse-not (outside 1 1000 n) 3 0 _ size
-    ∙ refuse-not (ltb 3000 m) 4 0 _ many
-    ∙ refuse-not (ltb roomLows m || ltb roomHighs m) 8 0 _ room
-    ∙ links-read text n lows highs [] [] (length header) (table .few) (table .even) (accepted-faultless n lows highs check)
-    (part-end header (body lows highs)))
+    let p = length header in
+    let q = p + length (lines lows highs) in
+    let behind : Part text p (body lows highs) (length text) = part-end header (body lows highs) in
+    let last = part-second text (lines lows highs) (writeForm endForm []) p (length text) behind in
+    let links = links-onward text n lows highs [] [] p q 0 (table .few) (table .even) (accepted-faultless n lows highs check)
+    (part-first text (lines lows highs) (writeForm endForm []) p (length text) behind) in
+    rw (text-lines n lows highs (table .even))
+    (header-onward text n m p roomLows roomHighs (table .some) (table .few) (table .short) inLows inHighs
+    (part-start header (body lows highs))
+    ∙ (rw (add-zero m) at links)
+    ∙ end-onward text n lows highs q (length text) last
+    ∙ refuse-not (ltb (length text) (length text)) 2 (length text) (done (record { relays = n; lows = lows; highs = highs }))
+    (le-ltb (length text) (length text) (omega arith)))
 
 -- The network and its text from the header line on.
 read-whole : (text : List ℕ) (n m p : ℕ) (network : Network) → Part text 0 (writeForm headerForm (n ∷ m ∷ [])) p

@@ -1,0 +1,192 @@
+// Runs the table check and the pair number on good and bad input and prints a line for each: a label, then `accepted`,
+// a number, or a refusal with its number and its place.
+ghost use mathlib.Core.Path.{_≡_};
+ghost use Prim.Native.Nat.{_≤_};
+ghost use lib.ListN.{length};
+use network::Check;
+use network::Pair;
+use network::Refusal;
+use network::Relay;
+
+fn number_of(refusal: Refusal) -> u64 {
+    match refusal {
+        Refusal::Wish(_) => 1,
+        Refusal::Form(_) => 2,
+        Refusal::RelayCount => 3,
+        Refusal::LinkCount => 4,
+        Refusal::RelayRange(_) => 5,
+        Refusal::NotBelow(_) => 6,
+        Refusal::Repeated(_) => 7,
+        Refusal::TableRoom => 8,
+        Refusal::RouteCount => 9,
+        Refusal::EndRange => 10,
+        Refusal::SameEnds => 11,
+        Refusal::Room => 12,
+        Refusal::NotOneTree => 13,
+    }
+}
+
+fn place_of(refusal: Refusal) -> u64 {
+    match refusal {
+        Refusal::Wish(place) => place as u64,
+        Refusal::Form(place) => place as u64,
+        Refusal::RelayRange(link) => link as u64,
+        Refusal::NotBelow(link) => link as u64,
+        Refusal::Repeated(link) => link as u64,
+        _ => 0,
+    }
+}
+
+fn show_refusal(refusal: Refusal) {
+    io::write_all(1, b"(refused ");
+    io::print_decimal(1, number_of(refusal));
+    io::write_all(1, b" ");
+    io::print_decimal(1, place_of(refusal));
+    io::write_all(1, b")\n");
+}
+
+fn check(label: &[u8], n: u16, lows: &[u16], highs: &[u16]) {
+    io::write_all(1, label);
+    match network::table_check(n, lows, highs) {
+        Check::Accepted => {
+            io::write_all(1, b"accepted\n");
+        }
+        Check::Refused(refusal) => {
+            show_refusal(refusal);
+        }
+    }
+}
+
+fn pair(label: &[u8], a: u16, b: u16) {
+    io::write_all(1, label);
+    match network::pair_number(Relay(a), Relay(b)) {
+        Pair::Number(number) => {
+            io::print_decimal(1, number as u64);
+            io::write_all(1, b"\n");
+        }
+        Pair::Refused(refusal) => {
+            show_refusal(refusal);
+        }
+    }
+}
+
+fn check_no_links(label: &[u8], n: u16) {
+    check(label, n, &[0u16; 0], &[0u16; 0]);
+}
+
+fn relay_counts() {
+    check_no_links(b"n 0: ", 0);
+    check_no_links(b"n 1: ", 1);
+    check_no_links(b"n 1000: ", 1000);
+    check_no_links(b"n 1001: ", 1001);
+    check_no_links(b"n 65535: ", 65535);
+    check(b"n 0, unequal lists: ", 0, &[0u16, 1], &[1u16]);
+}
+
+fn small_tables() {
+    check(b"square: ", 4, &[0u16, 1, 2, 0], &[1u16, 2, 3, 3]);
+    check(
+        b"mesh: ",
+        5,
+        &[0u16, 0, 1, 1, 2, 2, 3],
+        &[1u16, 2, 2, 3, 3, 4, 4],
+    );
+    check(b"998 999: ", 1000, &[998u16], &[999u16]);
+    check(b"more lows than highs: ", 4, &[0u16, 1], &[1u16]);
+    check(b"more highs than lows: ", 4, &[0u16], &[1u16, 2]);
+}
+
+fn links_out_of_range() {
+    check(b"0 65535: ", 1000, &[0u16], &[65535u16]);
+    check(b"65535 3 after 0 1: ", 1000, &[0u16, 65535], &[1u16, 3]);
+    check(b"0 4 among four: ", 4, &[0u16], &[4u16]);
+    check(b"7 7 among four: ", 4, &[7u16], &[7u16]);
+}
+
+fn links_not_below() {
+    check(b"2 2 among four: ", 4, &[2u16], &[2u16]);
+    check(b"0 0 among one: ", 1, &[0u16], &[0u16]);
+    check(b"3 2 among four: ", 4, &[3u16], &[2u16]);
+    check(b"0 1, then 1 0: ", 4, &[0u16, 1], &[1u16, 0]);
+    check(b"2 2 before 9 9: ", 4, &[0u16, 2, 9], &[1u16, 2, 9]);
+}
+
+fn repeated_links() {
+    check(b"0 1, then 0 1: ", 4, &[0u16, 0], &[1u16, 1]);
+    check(
+        b"0 1, 0 2, 1 2, then 0 2: ",
+        4,
+        &[0u16, 0, 1, 0],
+        &[1u16, 2, 2, 2],
+    );
+}
+
+fn zeros() -> [u16; 3001]
+    ensures { λ r. ⌜ 3001 ≡ length r ⌝ }
+{
+    [0; 3001]
+}
+
+// Different links: link i joins i / 100 and 100 + i % 100.
+fn fill(lows: &mut [u16], highs: &mut [u16])
+    requires { ⌜ (length (now lows) ≡ 3001) × (length (now highs) ≡ 3001) ⌝ }
+{
+    let mut i: usize = 0;
+    while i < 3001 {
+        lows[i] = (i / 100) as u16;
+        highs[i] = (100 + i % 100) as u16;
+        i += 1;
+    }
+}
+
+// The first 3,000 links.
+fn check_front(label: &[u8], lows: &[u16], highs: &[u16])
+    requires { ⌜ (length (now lows) ≡ 3001) × (length (now highs) ≡ 3001) ⌝ }
+{
+    check(label, 1000, &lows[..3000], &highs[..3000]);
+}
+
+// Puts the first link at index 2,999 too.
+fn repeat_first(lows: &mut [u16], highs: &mut [u16])
+    requires { ⌜ (length (now lows) ≡ 3001) × (length (now highs) ≡ 3001) ⌝ }
+{
+    let low = lows[0];
+    let high = highs[0];
+    lows[2999] = low;
+    highs[2999] = high;
+}
+
+fn large_tables(lows: &mut [u16], highs: &mut [u16])
+    requires { ⌜ (length (now lows) ≡ 3001) × (length (now highs) ≡ 3001) ⌝ }
+{
+    fill(lows, highs);
+    check(b"3001 links: ", 1000, lows, highs);
+    check_front(b"3000 links: ", lows, highs);
+    repeat_first(lows, highs);
+    check_front(b"the first link again as the last of 3000: ", lows, highs);
+}
+
+fn pairs() {
+    pair(b"pair 0 1: ", 0, 1);
+    pair(b"pair 0 2: ", 0, 2);
+    pair(b"pair 1 2: ", 1, 2);
+    pair(b"pair 0 3: ", 0, 3);
+    pair(b"pair 998 999: ", 998, 999);
+    pair(b"pair 0 1000: ", 0, 1000);
+    pair(b"pair 1000 0: ", 1000, 0);
+    pair(b"pair 65535 65535: ", 65535, 65535);
+    pair(b"pair 999 999: ", 999, 999);
+    pair(b"pair 2 1: ", 2, 1);
+}
+
+fn main() {
+    relay_counts();
+    small_tables();
+    links_out_of_range();
+    links_not_below();
+    repeated_links();
+    let mut lows = zeros();
+    let mut highs = zeros();
+    large_tables(&mut lows, &mut highs);
+    pairs();
+}
