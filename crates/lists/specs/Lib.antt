@@ -28,3 +28,6 @@ pub mod Cuts
 pub mod Pigeonhole
 pub mod Chains
 pub mod Ends
+pub mod Parts
+pub mod Ranges
+pub mod Stores
