@@ -28,6 +28,4 @@ pub mod Cuts
 pub mod Pigeonhole
 pub mod Chains
 pub mod Ends
-pub mod Parts
-pub mod Ranges
 pub mod Stores
