@@ -71,6 +71,11 @@ pub relays-step : (relays : List ℕ) (i last : ℕ) → i < last → last ≤ l
 relays-step relays i last h within =
     rw (slice-cons i last relays 0 h within, add-one i) (spaced-first (getD relays i 0) (slice (suc i) last relays))
 
+pub relays-length : (relays : List ℕ) (i last : ℕ) → i < last → last ≤ length relays
+    → length (spaced (slice i last relays))
+    ≡ length (writeForm (word (bytes " ") ∷ numeral ∷ []) (getD relays i 0 ∷ [])) + length (spaced (slice (i + 1) last relays))
+relays-length relays i last h within = ap length (relays-step relays i last h within) ∙ simp length-append
+
 slice-past : (list : List ℕ) (i last : ℕ) → last ≤ i → slice i last list ≡ []
 slice-past list i last h = drop-of-length-le (take last list) {i = i} (omega (arith, length-take last list))
 
@@ -104,6 +109,12 @@ routes-step i k first counts relays h within =
     drop-take first (first + size) relays ∙ ap (λ (n : ℕ). take n (drop first relays)) same in
     rw (slice-cons i k counts 0 h within, part, add-one i, ← drop-drop size first relays)
     (lines-first (take size (drop first relays)) (cutUp (slice (suc i) k counts) (drop size (drop first relays))))
+
+pub routes-length : (i k first : ℕ) (counts relays : List ℕ) → i < k → k ≤ length counts
+    → length (routeLines (routesLeft i k first counts relays))
+    ≡ length (routeLines (slice first (first + getD counts i 0) relays ∷ []))
+    + length (routeLines (routesLeft (i + 1) k (first + getD counts i 0) counts relays))
+routes-length i k first counts relays h within = ap length (routes-step i k first counts relays h within) ∙ simp length-append
 
 pub routes-end : (i k first : ℕ) (counts relays : List ℕ) → k ≤ i → routeLines (routesLeft i k first counts relays) ≡ []
 unfolding routesLeft cutUp routeLines

@@ -1,18 +1,15 @@
 -- `sheet::print::put_relays` meets its contract. The loop's invariant: writing all the relays is writing those that are left.
 -- Assumes nothing.
-use Prim.Native.Nat.{_≤_, _-_}
-use Prim.Native.Nat.{ℕ, _+_}
-use mathlib.Core.List.{List, [], _∷_}
-use mathlib.Core.Path.{_≡_, refl, _∙_, ap, subst}
+use Prim.Native.Nat.{ℕ, _-_, _≤_}
+use mathlib.Core.List.{List}
+use mathlib.Core.Path.{refl, subst}
 use native.Mathlib.Omega.{arith}
 use borrow.Author.Needs.{needs}
 use denote.Ref.{now}
-use lib.ListN.{length, getD, length-append}
 use lib.Seq.{slice}
-use Rattle.definitions.specs.Form.{bytes, word, numeral, writeForm}
 use Rattle.definitions.specs.Plan.{spaced}
 use Rattle.sheet.specs.Going.{Going, going-start, going-step, going-end}
-use Rattle.sheet.specs.Lines.{relays-step, relays-end}
+use Rattle.sheet.specs.Lines.{relays-step, relays-length, relays-end}
 use Rattle.sheet.proofs.print.put_relays.Statement.{statement}
 use Rattle.sheet.proofs.print.put_relays.Tie as tie
 use Rattle.sheet.proofs.print.put_relays.Reads as reads
@@ -51,9 +48,7 @@ put-word-number-requires : tie.Need-put-word-number-requires Inv-loop μ-loop
 put-word-number-requires c κs =
     let a = c .before .before .before .before .before .before .before .args in
     let at = c .before .before .before .before .loop in
-    let step : length (spaced (slice (at .i) (a .last) (a .relays .now)))
-    ≡ length (writeForm (word (bytes " ") ∷ numeral ∷ []) (getD (a .relays .now) (at .i) 0 ∷ [])) + length (spaced (slice (at .i + 1) (a .last) (a .relays .now))) =
-    ap length (relays-step (a .relays .now) (at .i) (a .last) (omega arith) (c .before .before .before .before .before .before .before .pre .0 .1)) ∙ simp length-append in
+    let step = relays-length (a .relays .now) (at .i) (a .last) (omega arith) (c .before .before .before .before .before .before .before .pre .0 .1) in
     omega (arith, at .inv .1 .ends, at .inv .1 .same, c .before .before .before .before .before .before .before .pre .1)
 
 -- src/print.rt:37:9
