@@ -4,3 +4,5 @@ pub mod Words
 pub mod Numbers
 pub mod Lines
 pub mod Put
+pub mod Answers
+pub mod Written

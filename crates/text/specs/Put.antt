@@ -47,6 +47,11 @@ put-append before mid after s t at p q one two =
       same = two .same ∙ one .same;
     }
 
+-- After a writing, the rest behind it.
+pub put-rest : (before written after rest : List ℕ) (at next : ℕ) → Put before at written after next
+    → sets before at (written ++ rest) ≡ sets after next rest
+put-rest before written after rest at next put = rw (put .bytes, put .ends) (sets-append written rest before at)
+
 -- A word with a number, and a line of two numbers, as they are written.
 pub word-number-written : (w : List ℕ) (x : ℕ) → writeForm (word w ∷ numeral ∷ []) (x ∷ []) ≡ w ++ decimal x
 unfolding writeForm

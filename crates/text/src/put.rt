@@ -108,7 +108,7 @@ pub fn put_end(buffer: &mut [u8], at: usize) -> usize
 // The lengths of a header line and of a link line.
 pub fn header_length(n: usize, m: usize) -> usize
     requires { ⌜ (n ≤ 65535) × (m ≤ 65535) ⌝ }
-    ensures { λ r. ⌜ r ≡ length (writeForm headerForm (n ∷ m ∷ [])) ⌝ }
+    ensures { λ r. ⌜ (r ≡ length (writeForm headerForm (n ∷ m ∷ []))) × (r ≤ 35) ⌝ }
 {
     25 + width(n) + width(m)
 }

@@ -22,8 +22,16 @@ add-result-2 c =
 
 returns : tie.Need-returns
 returns c =
-    let a = c .before .before .args in
-    omega (arith, c .before .width .ensures, c .width2 .ensures, length-headerForm (a .n) (a .m))
+    let a = c .before .before .args in (
+      omega (arith, c .before .width .ensures, c .width2 .ensures, length-headerForm (a .n) (a .m)),
+      omega (
+        arith,
+        c .before .width .ensures,
+        c .width2 .ensures,
+        length-decimal-at-most 4 (a .n) (omega arith),
+        length-decimal-at-most 4 (a .m) (omega arith),
+      ),
+    )
 
 pub header-length-spec : {M : Type 1} → statement M
 header-length-spec =
