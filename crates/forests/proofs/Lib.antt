@@ -2,3 +2,8 @@
 pub mod ChainLaws
 pub mod KeyLaws
 pub mod WalkLaws
+pub mod OrderLaws
+pub mod ChoiceLaws
+pub mod StepLaws
+pub mod FinishLaws
+pub mod ScanLaws

@@ -2,7 +2,6 @@
 use Prim.Native.Nat.{ℕ, zero, suc, _+_, _-_, _≤_, _<_}
 use mathlib.Core.Bool.{Bool, true, false, _&&_, _||_, true≢false}
 use mathlib.Core.List.{List}
-use mathlib.Core.Logic.{_⊎_, inl, inr, ⊎-elim}
 use mathlib.Core.Path.{_≡_, refl, sym, _∙_, ap, ap₂, subst}
 use native.Mathlib.Decide.{ℕ-discrete, decLt}
 use native.Mathlib.Omega.{arith}
@@ -13,10 +12,11 @@ use lib.Seq.{getD-set-same, getD-set-other}
 use Rattle.definitions.specs.Outcome.{pick}
 use Rattle.definitions.specs.Lists.{someBelow}
 use Rattle.definitions.specs.Network.{isPair, joins}
-use Rattle.lists.specs.Tests.{or-either, or-neither, and-both, and-false}
+use Rattle.lists.specs.Tests.{and-false}
 use Rattle.lists.specs.Below.{none-below}
 use Rattle.lists.specs.Stretches.{some-skip, and-skip}
 use Rattle.theory.specs.Accepted.{ProperTable}
+use Rattle.theory.specs.Links.{one-link}
 use Rattle.forests.specs.Chains.{touches, nextFrom, ChainedFrom}
 use Rattle.forests.specs.Keys.{raisedKey, numberOf}
 use Rattle.forests.specs.Walk.{otherEnd, farEnd, nextOf, Visitable, Visited, WalkedTo, Walkable}
@@ -36,43 +36,9 @@ and-true : (a : Bool) → (a && true) ≡ a
 and-true true = refl
 and-true false = refl
 
--- The two ways in which link j can join a and b.
-Ends : List ℕ → List ℕ → ℕ → ℕ → ℕ → Type 0
-Ends lows highs a b j =
-    ((getD lows j 0 ≡ a) × (getD highs j 0 ≡ b)) ⊎ ((getD lows j 0 ≡ b) × (getD highs j 0 ≡ a))
-
-joins-ends : (lows highs : List ℕ) (a b j : ℕ) → joins lows highs a b j ≡ true → Ends lows highs a b j
-unfolding joins isPair Ends
-joins-ends lows highs a b j h =
-    ⊎-elim
-    (λ p. inl (pair a b p))
-    (λ p. inr (pair b a p))
-    (or-either (isPair lows highs a b j) (isPair lows highs b a j) h)
-  where
-    pair : (c d : ℕ) → isPair lows highs c d j ≡ true → (getD lows j 0 ≡ c) × (getD highs j 0 ≡ d)
-    pair c d p =
-        let both = and-both (eqb (getD lows j 0) c) (eqb (getD highs j 0) d) p in
-        (eqb-true (getD lows j 0) c (both .0), eqb-true (getD highs j 0) d (both .1))
-
--- No two links join the same relays.
-pub joins-once : {n : ℕ} {lows highs : List ℕ} → ProperTable n lows highs → (a b i j : ℕ) → i < j → j < length lows
-    → joins lows highs a b i ≡ true → joins lows highs a b j ≡ true → ⊥
-unfolding Ends
-joins-once {n} {lows} {highs} t a b i j h k p q =
-    ⊎-elim
-    (λ u. ⊎-elim (λ v. t .once i j h k (u .0 ∙ sym (v .0)) (u .1 ∙ sym (v .1))) (λ v. crossed (u .0) (u .1) (v .0) (v .1)) second)
-    (λ u. ⊎-elim (λ v. crossed (u .0) (u .1) (v .0) (v .1)) (λ v. t .once i j h k (u .0 ∙ sym (v .0)) (u .1 ∙ sym (v .1))) second)
-    (joins-ends lows highs a b i p)
-  where
-    second : Ends lows highs a b j
-    second = joins-ends lows highs a b j q
-
-    crossed : {c d : ℕ} → getD lows i 0 ≡ c → getD highs i 0 ≡ d → getD lows j 0 ≡ d → getD highs j 0 ≡ c → ⊥
-    crossed w x y z = omega (arith, t .ordered i (omega arith), t .ordered j k)
-
 module _ (lows highs : List ℕ) (x : ℕ) where
   -- A link that joins x and another relay has x as an end.
-  joins-touches : (r j : ℕ) → touches lows highs x j ≡ false → joins lows highs x r j ≡ false
+  pub joins-touches : (r j : ℕ) → touches lows highs x j ≡ false → joins lows highs x r j ≡ false
   unfolding touches joins isPair
   joins-touches r j h = go (eqb (getD lows j 0) x) (eqb (getD highs j 0) x) h
     where
@@ -82,7 +48,7 @@ module _ (lows highs : List ℕ) (x : ℕ) where
       go false false e = and-false (eqb (getD lows j 0) r)
 
   -- A link at x joins x and its far end, and no other relay.
-  joins-far : (r j : ℕ) → touches lows highs x j ≡ true → getD lows j 0 < getD highs j 0
+  pub joins-far : (r j : ℕ) → touches lows highs x j ≡ true → getD lows j 0 < getD highs j 0
       → joins lows highs x r j ≡ eqb (farEnd lows highs x j) r
   unfolding touches joins isPair farEnd otherEnd
   joins-far r j h rises = go (eqb (getD lows j 0) x) refl (eqb (getD highs j 0) x) refl h
@@ -156,7 +122,7 @@ module _ (lows highs : List ℕ) (x : ℕ) where
       fresh = none-below (joins lows highs x y) i (λ j h. go j h (joins lows highs x y j) refl)
         where
           go : (j : ℕ) → j < i → (b : Bool) → joins lows highs x y j ≡ b → b ≡ false
-          go j h true e = absurd (joins-once t x y j i h within e here)
+          go j h true e = absurd (omega (arith, one-link 1000 lows highs t x y j i (omega arith) within e here))
           go j h false e = refl
 
   -- Link i is visited: its far end's key rises, and it gets its forest number.

@@ -2,3 +2,4 @@
 pub mod Chains
 pub mod Keys
 pub mod Walk
+pub mod Scan

@@ -11,6 +11,12 @@ pub fn no_heads(m: u16) -> [u16; 1000]
     [m; 1000]
 }
 
+pub fn no_nexts() -> [u16; 3000]
+    ensures { λ r. ⌜ r ≡ replicate 3000 0 ⌝ }
+{
+    [0; 3000]
+}
+
 // From the last link down, so that what stands in `first` is the next link.
 pub fn link_up(
     lows: &[u16],

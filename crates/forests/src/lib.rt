@@ -2,3 +2,4 @@
 mod chains;
 mod keys;
 mod walk;
+mod scan;

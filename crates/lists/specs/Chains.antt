@@ -1,7 +1,7 @@
 -- Chains of links (`Joined`): taken over by a function, with each link replaced by a chain, and from a list of relays.
 use Prim.Native.Nat.{ℕ, zero, suc, _-_, _≤_}
 use mathlib.Core.Bool.{true}
-use mathlib.Core.List.{List, [], _∷_}
+use mathlib.Core.List.{List, [], _∷_, map}
 use mathlib.Core.Path.{_≡_, sym, subst}
 use native.Mathlib.Omega.{arith}
 use lib.ListN.{length, getD}
@@ -42,3 +42,14 @@ route-joined {live} {link} (a ∷ rest) long lives links =
     let e : suc (length rest) - 1 ≡ length rest = omega arith in
     subst (λ (i : ℕ). Joined live link a (getD (a ∷ rest) i 0)) (sym e)
     (along-joined a rest (λ i h. lives (getD (a ∷ rest) i 0) (has-at (a ∷ rest) i (omega arith))) links)
+
+along-from-map : (link tie : ℕ → ℕ → Type 0) (f : ℕ → ℕ) → ((a b : ℕ) → link a b → tie (f a) (f b))
+    → (a : ℕ) (rest : List ℕ) → AlongFrom link a rest → AlongFrom tie (f a) (map f rest)
+along-from-map link tie f ties a [] links = tt
+along-from-map link tie f ties a (b ∷ rest) links = (ties a b (links .0), along-from-map link tie f ties b rest (links .1))
+
+-- A function that takes links to links takes a list along the ones to a list along the others.
+pub along-map : (link tie : ℕ → ℕ → Type 0) (f : ℕ → ℕ) → ((a b : ℕ) → link a b → tie (f a) (f b))
+    → (route : List ℕ) → Along link route → Along tie (map f route)
+along-map link tie f ties [] links = tt
+along-map link tie f ties (a ∷ rest) links = along-from-map link tie f ties a rest links

@@ -17,6 +17,7 @@ pub mod Ranges
 pub mod SomeBelow
 pub mod Bitmap
 pub mod Rising
+pub mod Ranks
 pub mod Totals
 pub mod Greatest
 pub mod Stretches
@@ -25,3 +26,6 @@ pub mod Cuts
 pub mod Pigeonhole
 pub mod Chains
 pub mod Ends
+pub mod Reversed
+pub mod Concat
+pub mod Stores

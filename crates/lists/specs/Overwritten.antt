@@ -1,9 +1,10 @@
--- The front of an overwritten list is what was written.
-use Prim.Native.Nat.{ℕ, _≤_, _<_}
-use mathlib.Core.List.{List}
-use mathlib.Core.Path.{_≡_}
+-- The front of an overwritten list is what was written, the rest is as it was.
+use Prim.Native.Nat.{ℕ, _+_, _-_, _≤_, _<_}
+use mathlib.Core.List.{List, _++_}
+use mathlib.Core.Path.{_≡_, sym, _∙_, ap}
+use native.Mathlib.Omega.{arith}
 use lib.ListN.{length, getD, take, drop, List·getD-append}
-use lib.Seq.{take-append-le}
+use lib.Seq.{take-append-le, getD-append-add, getD-drop}
 use Rattle.definitions.specs.Lists.{overwrite}
 
 pub getD-overwrite : (new old : List ℕ) (i d : ℕ) → i < length new → getD (overwrite new old) i d ≡ getD new i d
@@ -13,3 +14,13 @@ getD-overwrite new old i d h = List·getD-append new (drop (length new) old) d i
 pub take-overwrite : (new old : List ℕ) (n : ℕ) → n ≤ length new → take n (overwrite new old) ≡ take n new
 unfolding overwrite
 take-overwrite new old n h = take-append-le n new (drop (length new) old) h
+
+-- Past what was written an overwritten list is as it was.
+pub getD-overwrite-past : (new old : List ℕ) (i d : ℕ) → length new ≤ i → getD (overwrite new old) i d ≡ getD old i d
+unfolding overwrite
+getD-overwrite-past new old i d h =
+    let e : length new + (i - length new) ≡ i = omega arith in
+    ap (λ j. getD (new ++ drop (length new) old) j d) (sym e)
+    ∙ getD-append-add new (drop (length new) old) (i - length new) d
+    ∙ getD-drop (length new) old (i - length new) d
+    ∙ ap (λ j. getD old j d) e

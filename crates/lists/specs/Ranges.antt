@@ -17,6 +17,10 @@ pub below : (low high x : ℕ) → x < low → outside low high x ≡ true
 unfolding outside
 below low high x a = rw (lt-ltb x low a)
 
+pub above : (low high x : ℕ) → low ≤ x → high < x → outside low high x ≡ true
+unfolding outside
+above low high x a b = rw (le-ltb x low a, lt-ltb high x b)
+
 pub inside-range : (low high x : ℕ) → outside low high x ≡ false → (low ≤ x) × (x ≤ high)
 unfolding outside
 inside-range low high x e =

@@ -77,3 +77,10 @@ first-holds test (suc count) i x le less passes = go (first-holds test count (su
           least = λ y above below.
               by-cases (decLt i y) (λ over. rest .least y over below) (λ at. let z : i ≡ y = omega arith in subst (λ (x : ℕ). test x ≡ false) z e);
         }
+
+-- Two searches of which neither passes over the other's find have found the same.
+pub first-same : {test : ℕ → Bool} {i h x y n m : ℕ} → First test i x n → First test h y m → i ≤ m → h ≤ n → n ≡ m
+first-same {n = n} {m = m} one other le le′ =
+    by-cases (decLt n m)
+    (λ less. absurd (clash (one .passes) (other .least n le′ less)))
+    (λ more. by-cases (decLt m n) (λ less. absurd (clash (other .passes) (one .least m le less))) (λ same. omega arith))

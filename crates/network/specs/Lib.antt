@@ -3,3 +3,4 @@ pub mod Pairs
 pub mod Marks
 pub mod Seen
 pub mod Answers
+pub mod Refusals

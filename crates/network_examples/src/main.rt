@@ -80,7 +80,6 @@ fn relay_counts() {
     check_no_links(b"n 1000: ", 1000);
     check_no_links(b"n 1001: ", 1001);
     check_no_links(b"n 65535: ", 65535);
-    check(b"n 0, unequal lists: ", 0, &[0u16, 1], &[1u16]);
 }
 
 fn small_tables() {
@@ -92,6 +91,10 @@ fn small_tables() {
         &[1u16, 2, 2, 3, 3, 4, 4],
     );
     check(b"998 999: ", 1000, &[998u16], &[999u16]);
+}
+
+fn unequal_lists() {
+    check(b"n 0, unequal lists: ", 0, &[0u16, 1], &[1u16]);
     check(b"more lows than highs: ", 4, &[0u16, 1], &[1u16]);
     check(b"more highs than lows: ", 4, &[0u16], &[1u16, 2]);
 }
@@ -166,12 +169,15 @@ fn large_tables(lows: &mut [u16], highs: &mut [u16])
     check_front(b"the first link again as the last of 3000: ", lows, highs);
 }
 
-fn pairs() {
+fn pair_numbers() {
     pair(b"pair 0 1: ", 0, 1);
     pair(b"pair 0 2: ", 0, 2);
     pair(b"pair 1 2: ", 1, 2);
     pair(b"pair 0 3: ", 0, 3);
     pair(b"pair 998 999: ", 998, 999);
+}
+
+fn refused_pairs() {
     pair(b"pair 0 1000: ", 0, 1000);
     pair(b"pair 1000 0: ", 1000, 0);
     pair(b"pair 65535 65535: ", 65535, 65535);
@@ -182,11 +188,13 @@ fn pairs() {
 fn main() {
     relay_counts();
     small_tables();
+    unequal_lists();
     links_out_of_range();
     links_not_below();
     repeated_links();
     let mut lows = zeros();
     let mut highs = zeros();
     large_tables(&mut lows, &mut highs);
-    pairs();
+    pair_numbers();
+    refused_pairs();
 }

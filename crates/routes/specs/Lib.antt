@@ -1,3 +1,4 @@
 -- What the functions of this crate compute, on lists, as their loops run.
 pub mod Side
 pub mod Sides
+pub mod Writing

@@ -1,3 +1,4 @@
 // Route of document 01: the sweep over a left table, and the routes written out.
 mod side;
 mod sweep;
+mod write;

@@ -3,6 +3,7 @@
 use Prim.Native.Nat.{ℕ, zero, suc, _≤_, _<_, pred}
 use mathlib.Core.Bool.{Bool, true, false}
 use mathlib.Core.List.{List, []}
+use mathlib.Core.Logic.{_↔_}
 use mathlib.Core.Path.{_≡_, refl, _∙_, ap}
 use native.Mathlib.Omega.{arith}
 use borrow.Author.Tests.{ltb-true, ltb-false, lt-ltb}
@@ -74,6 +75,22 @@ module _ (linked : ℕ → ℕ → Bool) (order : List ℕ) where
   left-some zero v h k q p = absurd (omega arith)
   left-some (suc i) v h k q p =
       rw (earlier-in v k q) (rising-entry (λ u. linked (relayAt order u) (relayAt order v)) (pred v) i p .0)
+
+  -- left(i, v) is there exactly if v has at least i earlier neighbours.
+  pub left-count : (i v : ℕ) → 1 ≤ i → (0 < left linked order i v) ↔ (i ≤ length (earlier linked order v))
+  left-count i v one = (counted, there)
+    where
+      counted : 0 < left linked order i v → i ≤ length (earlier linked order v)
+      counted h =
+          let r = left-range i v h in
+          rw (earlier-in v (r .1) (r .2)) (omega (arith, r .3))
+
+      there : i ≤ length (earlier linked order v) → 0 < left linked order i v
+      there h =
+          let at = earlier-some v (omega arith) in
+          let k : i ≤ length (rising (λ u. linked (relayAt order u) (relayAt order v)) (pred v)) =
+          rw (earlier-in v (at .0) (at .1)) at h in
+          left-some i v one (at .0) (at .1) (omega arith)
 
   pub left-linked : (i v : ℕ) → 0 < left linked order i v → linked (relayAt order (left linked order i v)) (relayAt order v) ≡ true
   left-linked i v h =

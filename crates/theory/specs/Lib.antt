@@ -19,3 +19,14 @@ pub mod Columns
 pub mod TableLinks
 pub mod RelayTrees
 pub mod SharedLinks
+pub mod SweepReady
+pub mod SweepStep
+pub mod SweepHolds
+pub mod PlaceRoutes
+pub mod SweepRoutes
+pub mod RelayRoutes
+pub mod RouteAnswer
+pub mod Certificate
+pub mod DemandThree
+pub mod Mesh
+pub mod SweepTrades

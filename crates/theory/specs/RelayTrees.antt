@@ -7,9 +7,10 @@ use mathlib.Core.Logic.{_↔_, _≢_, by-cases, Iff·trans, Iff·symm}
 use mathlib.Core.Path.{_≡_, sym, _∙_, ap, subst₂}
 use native.Mathlib.Decide.{decLt}
 use native.Mathlib.Omega.{arith}
-use Rattle.definitions.specs.Network.{Accepted}
+use lib.ListN.{length}
+use Rattle.definitions.specs.Network.{linked, Accepted}
 use Rattle.definitions.specs.Order.{orderOf, placeOf, relayAt}
-use Rattle.definitions.specs.Forests.{oneTree}
+use Rattle.definitions.specs.Forests.{earlier, oneTree}
 use Rattle.definitions.specs.Route.{leftOf, endsInOneTree}
 use Rattle.definitions.specs.Demand.{Joined, OneTree}
 use Rattle.lists.specs.Joins.{joined-sym}
@@ -17,7 +18,7 @@ use Rattle.lists.specs.Chains.{joined-map}
 use Rattle.theory.specs.LeftLaws.{LeftLaws}
 use Rattle.theory.specs.Trees.{Alive, TreeLink, treeLink-sym, chain-alive, oneTree-alive, oneTree-sym}
 use Rattle.theory.specs.Places.{relay-placed}
-use Rattle.theory.specs.Left.{left-laws}
+use Rattle.theory.specs.Left.{left-count, left-laws}
 use Rattle.theory.specs.Columns.{Numbered}
 use Rattle.theory.specs.TableLinks.{forest-link, forest-places}
 
@@ -83,3 +84,15 @@ module _ (n : ℕ) (lows highs : List ℕ) (ok : Accepted n lows highs) (forests
         (Iff·symm
         (test-between (leftOf n lows highs) (left-laws n lows highs) f (placeOf (orderOf n lows highs) a) (placeOf (orderOf n lows highs) b)
         (relay-placed n lows highs a ha .0) (relay-placed n lows highs b hb .0) (places-differ n lows highs a b ha hb differ)))
+
+    -- Two relays are in one tree of forest f exactly if every place after the earlier up to the later has at least f earlier
+    -- neighbours (document 002, lemma 1).
+    pub one-tree-neighbours : 1 ≤ f → OneTree lows highs forests f a b
+        ↔ ((x : ℕ) → min (placeOf (orderOf n lows highs) a) (placeOf (orderOf n lows highs) b) < x
+        → x ≤ max (placeOf (orderOf n lows highs) a) (placeOf (orderOf n lows highs) b)
+        → f ≤ length (earlier (linked lows highs) (orderOf n lows highs) x))
+    unfolding leftOf
+    one-tree-neighbours one = (
+      λ tree x over upto. left-count (linked lows highs) (orderOf n lows highs) f x one .0 (one-tree-alive .0 tree x over upto),
+      λ counts. one-tree-alive .1 (λ x over upto. left-count (linked lows highs) (orderOf n lows highs) f x one .1 (counts x over upto)),
+    )

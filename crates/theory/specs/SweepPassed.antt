@@ -3,17 +3,17 @@
 use Prim.Native.Nat.{ℕ, suc, _≤_, _<_}
 use native.Mathlib.Decide.{ℕ-discrete}
 use native.Mathlib.Omega.{arith}
-use mathlib.Core.Bool.{Bool, true, false}
+use mathlib.Core.Bool.{true, false}
 use mathlib.Core.List.{List}
 use mathlib.Core.Logic.{_⊎_, inl, inr, _≢_, by-cases}
-use mathlib.Core.Path.{_≡_, refl, sym, _∙_, ap, subst}
+use mathlib.Core.Path.{_≡_, sym, _∙_, ap, subst}
 use Rattle.definitions.specs.Lists.{has}
 use Rattle.definitions.specs.Sweep.{Slot, endOf, settle}
 use Rattle.lists.specs.Searches.{clash}
 use Rattle.theory.specs.LeftLaws.{LeftLaws}
 use Rattle.theory.specs.Trees.{Alive}
 use Rattle.theory.specs.SweepSide.{Shifted, Passed, passed-once}
-use Rattle.theory.specs.SweepInvariant.{OpenSlot, ClosedSlot, Sweeping, open-slot}
+use Rattle.theory.specs.SweepInvariant.{ClosedSlot, Sweeping, open-slot}
 use Rattle.theory.specs.SweepSettle.{SlotState, settle-both, settle-hasA, settle-hasB, lower, settled}
 
 -- The slots with other paths.

@@ -3,7 +3,7 @@
 use Prim.Native.Nat.{ℕ, suc, _≤_, _<_}
 use native.Mathlib.Omega.{arith}
 use mathlib.Core.Bool.{Bool, true, false, _&&_}
-use mathlib.Core.List.{List, [], _∷_}
+use mathlib.Core.List.{List, _∷_}
 use mathlib.Core.Logic.{_⊎_, inl, inr, _≢_}
 use mathlib.Core.Path.{_≡_, refl, sym, _∙_, ap, subst}
 use lib.Dec.{eqb}
@@ -43,7 +43,7 @@ settle-both left v j slot a b = rw (eq-eqb (endOf (slot .pathA)) v a, eq-eqb (en
 
 module _ (left : ℕ → ℕ → ℕ) (laws : LeftLaws left) where
   -- The relays from v on are as before.
-  extend-has : (v j w : ℕ) (path : List ℕ) → v ≤ w → has (extend (left j v) path) w ≡ true → has path w ≡ true
+  pub extend-has : (v j w : ℕ) (path : List ℕ) → v ≤ w → has (extend (left j v) path) w ≡ true → has path w ≡ true
   unfolding extend
   extend-has v j w path le = go (eqb (left j v) 0) refl
     where

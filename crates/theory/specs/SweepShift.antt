@@ -1,13 +1,13 @@
 -- One side of the sweep at v, replaced and exchanged (`downshift`): from which index each index gets its path, and what was
 -- done to its end. Over any family of paths, any set of indices `ends` and any j that is at least each of them.
-use Prim.Native.Nat.{ℕ, zero, suc, _+_, _≤_, _<_}
+use Prim.Native.Nat.{ℕ, zero, suc, _≤_, _<_}
 use native.Mathlib.Decide.{decLt}
 use native.Mathlib.Omega.{arith}
 use mathlib.Core.Bool.{Bool, true, false, _&&_, _||_, or-true}
-use mathlib.Core.List.{List, [], _∷_, tail}
+use mathlib.Core.List.{List, _∷_, tail}
 use mathlib.Core.Logic.{_⊎_, inl, inr, _≢_, by-cases}
 use mathlib.Core.Path.{_≡_, refl, sym, _∙_, ap, subst}
-use lib.Dec.{eqb, ltb}
+use lib.Dec.{eqb}
 use borrow.Author.Tests.{eqb-true, eqb-false, eq-eqb, ne-eqb, lt-ltb}
 use Rattle.definitions.specs.Outcome.{pick}
 use Rattle.definitions.specs.Lists.{largest, firstFrom}
@@ -46,11 +46,11 @@ together-cases ends j i = go (ends i) refl
     go true e h = inl e
     go false e h = inr (eqb-true i j h)
 
-together-ends : (ends : ℕ → Bool) (j i : ℕ) → ends i ≡ true → together ends j i ≡ true
+pub together-ends : (ends : ℕ → Bool) (j i : ℕ) → ends i ≡ true → together ends j i ≡ true
 unfolding together
 together-ends ends j i e = rw e
 
-together-high : (ends : ℕ → Bool) (j : ℕ) → together ends j j ≡ true
+pub together-high : (ends : ℕ → Bool) (j : ℕ) → together ends j j ≡ true
 unfolding together
 together-high ends j = rw (eq-eqb j j refl) (or-true (ends j))
 

@@ -1,16 +1,17 @@
 -- The trees of a forest are intervals of places: t and s are in one tree of forest i if and only if every place above t and
 -- up to s has an i-th earlier neighbour. Over any `left` with the three laws.
-use Prim.Native.Nat.{ℕ, zero, suc, _+_, _≤_, _<_}
-use native.Mathlib.Decide.{decLt, ℕ-discrete}
+use Prim.Native.Nat.{ℕ, zero, suc, _≤_, _<_}
+use native.Mathlib.Decide.{decLt}
 use native.Mathlib.Omega.{arith}
 use mathlib.Core.Bool.{Bool, true, false}
 use mathlib.Core.Logic.{_⊎_, inl, inr, _↔_, by-cases}
-use mathlib.Core.Path.{_≡_, refl, sym, _∙_, ap, subst}
+use mathlib.Core.Path.{_≡_, refl, subst}
 use lib.Dec.{eqb}
-use borrow.Author.Tests.{eqb-true, eqb-false, eq-eqb, ne-eqb}
+use borrow.Author.Tests.{eqb-true, eqb-false, eq-eqb}
 use Rattle.definitions.specs.Outcome.{pick}
 use Rattle.definitions.specs.Forests.{rootWithin, oneTree}
 use Rattle.definitions.specs.Demand.{Joined, alone, onward}
+use Rattle.lists.specs.Tests.{eqb-sym}
 use Rattle.lists.specs.Joins.{joined-trans, joined-sym}
 use Rattle.theory.specs.LeftLaws.{LeftLaws}
 
@@ -131,9 +132,3 @@ module _ (left : ℕ → ℕ → ℕ) (laws : LeftLaws left) where
 pub oneTree-sym : (left : ℕ → ℕ → ℕ) (i a b : ℕ) → oneTree left i a b ≡ oneTree left i b a
 unfolding oneTree
 oneTree-sym left i a b = eqb-sym (rootWithin left i a a) (rootWithin left i b b)
-  where
-    eqb-sym : (x y : ℕ) → eqb x y ≡ eqb y x
-    eqb-sym x y =
-        by-cases (ℕ-discrete x y)
-        (λ e. eq-eqb x y e ∙ sym (eq-eqb y x (sym e)))
-        (λ n. ne-eqb x y n ∙ sym (ne-eqb y x (λ e. n (sym e))))

@@ -1,0 +1,165 @@
+-- The scan from its start over each step to its end. Assumes nothing.
+use Prim.Native.Nat.{ℕ, zero, suc, _+_, _-_, _*_, _≤_, _<_}
+use mathlib.Core.Bool.{Bool, true, false}
+use mathlib.Core.List.{List, [], _∷_, _++_}
+use mathlib.Core.Path.{_≡_, refl, sym, _∙_, ap}
+use native.Mathlib.Decide.{decLt}
+use native.Mathlib.Numerals.{add-one}
+use native.Mathlib.Omega.{arith}
+use lib.ListN.{length, getD, set, replicate, length-replicate}
+use Rattle.definitions.specs.Lists.{overwrite, has}
+use Rattle.definitions.specs.Network.{linked, Accepted}
+use Rattle.definitions.specs.Order.{weight, placedAfter, orderOf}
+use Rattle.lists.specs.Tables.{length-overwrite}
+use Rattle.lists.specs.Counting.{count-length}
+use Rattle.theory.specs.Accepted.{ProperTable, accepted}
+use Rattle.forests.specs.Chains.{Chainable}
+use Rattle.forests.specs.Keys.{keyOf}
+use Rattle.forests.specs.Walk.{Walkable, Walked}
+use Rattle.forests.specs.Scan.{chosen, placed, following, Placeable, PlacedOne, KeysAt, ScannedTo, Startable, Scanned}
+use Rattle.forests.proofs.OrderLaws.{placed-long, placed-suc, following-new}
+use Rattle.forests.proofs.ChoiceLaws.{chosen-follows, key-waiting, key-placed}
+use Rattle.forests.proofs.StepLaws.{
+  keys-start,
+  places-start,
+  forests-start,
+  overwrite-next,
+  keys-step,
+  places-step,
+  forests-step,
+}
+use Rattle.forests.proofs.FinishLaws.{places-finish, forests-finish}
+
+-- What placing one relay did, in the code's terms.
+pub placed-one : {n v : ℕ} {lows highs keys keys′ relays relays′ places places′ forests forests′ : List ℕ} (x : ℕ)
+    → x ≡ chosen n keys → relays′ ≡ set relays (v - 1) x → places′ ≡ set places x v
+    → Walked x lows highs keys keys′ forests forests′
+    → PlacedOne n v lows highs keys keys′ relays relays′ places places′ forests forests′
+placed-one x e r p w = record { relay = rw e at r; place = rw e at p; walked = rw e at w }
+
+-- A table of fewer relays is one of 1,000.
+wide : {n : ℕ} {lows highs : List ℕ} → ProperTable n lows highs → ProperTable 1000 lows highs
+wide t =
+    record {
+      some = omega arith;
+      few = omega arith;
+      even = t .even;
+      short = t .short;
+      ordered = t .ordered;
+      below = λ i h. omega (arith, t .below i h, t .few);
+      once = t .once;
+    }
+
+-- Chains can be made of an accepted table.
+pub chain-ready : (n : ℕ) {lows highs first lownext highnext : List ℕ} → Accepted n lows highs
+    → first ≡ replicate 1000 (length lows) → lownext ≡ replicate 3000 0 → highnext ≡ replicate 3000 0
+    → Chainable lows highs first lownext highnext
+chain-ready n {lows} {highs} ok none low high =
+    let t = accepted n lows highs ok in
+    record {
+      short = t .short;
+      same = sym (t .even);
+      low = λ i h. omega (arith, t .ordered i h, t .below i h, t .few);
+      high = λ i h. omega (arith, t .below i h, t .few);
+      none = none;
+      lowRoom = ap length low ∙ length-replicate {A = ℕ} 3000 0;
+      highRoom = ap length high ∙ length-replicate {A = ℕ} 3000 0;
+    }
+
+-- Keys are small.
+keys-bound : {n : ℕ} {lows highs keys : List ℕ} (k : ℕ) → n ≤ 1000 → k ≤ n → KeysAt n lows highs k keys
+    → (r : ℕ) → getD keys r 0 < 2000000
+unfolding weight
+keys-bound {n} {lows} {highs} {keys} k few within at r = go (decLt r n) (has (placed n lows highs k) r) refl
+  where
+    go : Dec (r < n) → (b : Bool) → has (placed n lows highs k) r ≡ b → getD keys r 0 < 2000000
+    go (yes h) true e = omega (arith, key-placed few at r h e)
+    go (yes h) false e =
+        omega (
+          arith,
+          key-waiting few at r h e,
+          count-length (λ p. linked lows highs p r) (placed n lows highs k),
+          placed-long n lows highs k
+        )
+    go (no h) b e = omega (arith, at .rest r (omega arith))
+
+module _ {n : ℕ} {lows highs first lownext highnext keys relays places forests : List ℕ}
+    (can : Startable n lows highs first lownext highnext keys relays places forests)
+  where
+    proper : ProperTable n lows highs
+    proper = accepted n lows highs (can .scannable .accepted)
+
+    pub scan-starts : ScannedTo n lows highs 0 keys relays relays places places forests forests
+    unfolding placedAfter overwrite
+    scan-starts =
+        record {
+          keysAt = keys-start (can .startKeys);
+          relaysAt = refl;
+          placesAt = places-start places;
+          forestsAt = forests-start forests;
+        }
+
+    pub relays-long : {keys′ relays′ places′ forests′ : List ℕ} (k : ℕ) → k ≤ n
+        → ScannedTo n lows highs k keys′ relays relays′ places places′ forests forests′ → length relays′ ≡ length relays
+    relays-long k within at =
+        ap length (at .relaysAt)
+        ∙ length-overwrite (placed n lows highs k) relays (omega (arith, placed-long n lows highs k, can .scannable .relayRoom))
+
+    module _ {keys′ relays′ places′ forests′ : List ℕ} (k : ℕ) (within : k < n)
+        (at : ScannedTo n lows highs k keys′ relays relays′ places places′ forests forests′)
+      where
+        choice : chosen n keys′ ≡ following n lows highs k
+        choice = chosen-follows k (proper .few) (at .keysAt) within
+
+        below : chosen n keys′ < n
+        below = omega (arith, choice, following-new n lows highs k within .0)
+
+        pub scan-places : Placeable n (k + 1) lows highs first lownext highnext keys′ relays′ places′ forests′
+        scan-places =
+            record {
+              few = proper .few;
+              walkable =
+                record {
+                  proper = wide proper;
+                  chained = can .chained;
+                  relay = omega (arith, below, proper .few);
+                  room = omega (arith, at .forestsAt .long, can .scannable .forestRoom);
+                  keyRoom = at .keysAt .room;
+                  bound = λ r h. keys-bound k (proper .few) (omega arith) (at .keysAt) r;
+                };
+              some = omega arith;
+              within = omega (arith, relays-long k (omega arith) at, can .scannable .relayRoom);
+              room = omega (arith, below, at .placesAt .long, can .scannable .placeRoom);
+            }
+
+        pub scan-moves : {keys″ relays″ places″ forests″ : List ℕ}
+            → PlacedOne n (k + 1) lows highs keys′ keys″ relays′ relays″ places′ places″ forests′ forests″
+            → ScannedTo n lows highs (k + 1) keys″ relays relays″ places places″ forests forests″
+        scan-moves {keys″} {relays″} {places″} {forests″} p =
+            let walked : Walked (following n lows highs k) lows highs keys′ keys″ forests′ forests″ = rw choice at (p .walked) in
+            let back : k + 1 - 1 ≡ k = omega arith in
+            let relay : relays″ ≡ set relays′ k (following n lows highs k) = rw (choice, back) at (p .relay) in
+            let place : places″ ≡ set places′ (following n lows highs k) (suc k) = rw (choice, add-one k) at (p .place) in
+            rw (add-one k)
+            (record {
+              keysAt = keys-step proper k within (at .keysAt) walked;
+              relaysAt =
+                relay
+                ∙ ap (λ l. set l k (following n lows highs k)) (at .relaysAt)
+                ∙ overwrite-next (placed n lows highs k) relays k (following n lows highs k) (placed-long n lows highs k)
+                (omega (arith, can .scannable .relayRoom))
+                ∙ ap (λ l. overwrite l relays) (sym (placed-suc n lows highs k));
+              placesAt = rw place (places-step proper k within places places′ (can .scannable .placeRoom) (at .placesAt));
+              forestsAt = forests-step proper k within (at .keysAt) walked forests (at .forestsAt);
+            })
+
+    pub scan-ends : {keys′ relays′ places′ forests′ : List ℕ}
+        → ScannedTo n lows highs n keys′ relays relays′ places places′ forests forests′
+        → Scanned n lows highs relays relays′ places places′ forests forests′
+    unfolding orderOf
+    scan-ends {keys′} {relays′} {places′} {forests′} at =
+        record {
+          theOrder = at .relaysAt;
+          thePlaces = places-finish n lows highs places places′ (can .scannable .placeRoom) (at .placesAt);
+          theForests = forests-finish n lows highs forests forests′ (can .scannable .accepted) (can .scannable .forestRoom) (at .forestsAt);
+        }

@@ -1,0 +1,62 @@
+-- After each turn one relay more has its place. Assumes nothing.
+use Prim.Native.Nat.{_-_, _≤_}
+use mathlib.Core.Path.{_≡_}
+use native.Mathlib.Omega.{arith}
+use Rattle.forests.specs.Scan.{ScannedTo}
+use Rattle.forests.proofs.ScanLaws.{relays-long, scan-starts, scan-places, scan-moves, scan-ends}
+use Rattle.forests.proofs.scan.place_all.Statement.{statement}
+use Rattle.forests.proofs.scan.place_all.Tie as tie
+use Rattle.forests.proofs.scan.place_all.Reads as reads
+use Rattle.forests.proofs.scan.place_all.Lts as lts
+use Rattle.forests.proofs.scan.place_next.Reads as place-next-reads
+
+abbrev Inv-loop : tie.InvT-loop
+Inv-loop n lows highs first lownext highnext keys₀ relays₀ places₀ forests₀ v₀ keys relays places forests v = (v ≤ n) × ScannedTo n lows highs v keys relays₀ relays places₀ places forests₀ forests
+
+abbrev μ-loop : tie.MeasureT-loop
+μ-loop n lows highs first lownext highnext keys₀ relays₀ places₀ forests₀ v₀ keys relays places forests v = n - v
+
+loop-holds : tie.Need-loop-holds Inv-loop μ-loop
+loop-holds c = (omega arith, scan-starts (c .before .before .before .before .before .pre))
+
+add-v : tie.Need-add-v Inv-loop μ-loop
+add-v c = omega arith
+
+place-next-requires : tie.Need-place-next-requires Inv-loop μ-loop
+place-next-requires c κs = scan-places (c .before .before .before .before .before .before .before .before .before .before .before .pre) (c .before .before .before .before .before .loop .v) (omega arith) (c .before .before .before .before .before .loop .inv .1)
+
+loop-less : tie.Need-loop-less Inv-loop μ-loop
+loop-less c = omega arith
+
+loop-again : tie.Need-loop-again Inv-loop μ-loop
+loop-again c = (omega arith, scan-moves (c .before .before .before .before .before .before .before .before .before .before .before .before .before .before .before .before .before .before .pre) (c .before .before .before .before .before .before .before .before .before .before .before .before .loop .v) (omega arith) (c .before .before .before .before .before .before .before .before .before .before .before .before .loop .inv .1) (c .before .before .before .before .before .before .place-next .ensures))
+
+same-length : tie.Need-same-length Inv-loop μ-loop
+same-length c = relays-long (c .before .before .before .before .before .before .before .pre) (c .before .loop .v) (omega arith) (c .before .loop .inv .1)
+
+same-length-2 : tie.Need-same-length-2 Inv-loop μ-loop
+same-length-2 c = c .before .loop .inv .1 .placesAt .long
+
+same-length-3 : tie.Need-same-length-3 Inv-loop μ-loop
+same-length-3 c = c .before .loop .inv .1 .forestsAt .long
+
+returns : tie.Need-returns Inv-loop μ-loop
+returns c = 
+    let p : c .before .loop .v ≡ c .before .before .before .before .before .before .before .args .n = omega arith in
+    scan-ends (c .before .before .before .before .before .before .before .pre) (rw p at (c .before .loop .inv .1))
+
+pub place-all-spec : {M : Type 1} → statement M
+place-all-spec =
+    tie.close
+    (tie.spec
+    Inv-loop
+    μ-loop
+    loop-holds
+    add-v
+    place-next-requires
+    loop-less
+    loop-again
+    same-length
+    same-length-2
+    same-length-3
+    returns)

@@ -1,0 +1,68 @@
+-- The scan makes its chains and keys and places all relays. Assumes nothing.
+use native.Mathlib.Omega.{arith}
+use Rattle.theory.specs.Accepted.{accepted}
+use Rattle.forests.proofs.ScanLaws.{chain-ready}
+use borrow.Author.Needs.{needs}
+use Rattle.forests.proofs.scan.scan.Statement.{statement}
+use Rattle.forests.proofs.scan.scan.Tie as tie
+use Rattle.forests.proofs.scan.scan.Reads as reads
+use Rattle.forests.proofs.scan.scan.Lts as lts
+use Rattle.forests.proofs.chains.link_up.Reads as link-up-reads
+use Rattle.forests.proofs.chains.no_heads.Reads as no-heads-reads
+use Rattle.forests.proofs.chains.no_nexts.Reads as no-nexts-reads
+use Rattle.forests.proofs.keys.no_keys.Reads as no-keys-reads
+use Rattle.forests.proofs.keys.start_keys.Reads as start-keys-reads
+use Rattle.forests.proofs.scan.place_all.Reads as place-all-reads
+
+cast-no-heads : tie.Need-cast-no-heads
+cast-no-heads c = omega (arith, accepted (c .before .before .before .before .before .args .n) (c .before .before .before .before .before .args .lows .now) (c .before .before .before .before .before .args .highs .now) (c .before .before .before .before .before .pre .accepted) .short)
+
+no-heads-requires : tie.Need-no-heads-requires
+no-heads-requires c κs = search needs
+
+no-nexts-requires : tie.Need-no-nexts-requires
+no-nexts-requires c κs = search needs
+
+no-nexts-requires-2 : tie.Need-no-nexts-requires-2
+no-nexts-requires-2 c κs = search needs
+
+link-up-requires : tie.Need-link-up-requires
+link-up-requires c κs = chain-ready (c .before .before .before .before .before .before .before .before .before .before .before .args .n) (c .before .before .before .before .before .before .before .before .before .before .before .pre .accepted) (c .before .before .before .before .before .no-heads .ensures) (c .before .before .before .before .no-nexts .ensures) (c .before .before .before .no-nexts2 .ensures)
+
+no-keys-requires : tie.Need-no-keys-requires
+no-keys-requires c κs = search needs
+
+start-keys-requires : tie.Need-start-keys-requires
+start-keys-requires c κs = (accepted (c .before .before .before .before .before .before .before .before .before .before .before .before .before .before .args .n) (c .before .before .before .before .before .before .before .before .before .before .before .before .before .before .args .lows .now) (c .before .before .before .before .before .before .before .before .before .before .before .before .before .before .args .highs .now) (c .before .before .before .before .before .before .before .before .before .before .before .before .before .before .pre .accepted) .few, c .before .no-keys .ensures)
+
+place-all-requires : tie.Need-place-all-requires
+place-all-requires c κs = search needs
+
+same-length : tie.Need-same-length
+same-length c = search needs
+
+same-length-2 : tie.Need-same-length-2
+same-length-2 c = search needs
+
+same-length-3 : tie.Need-same-length-3
+same-length-3 c = search needs
+
+returns : tie.Need-returns
+returns c = search needs
+
+pub scan-spec : {M : Type 1} → statement M
+scan-spec =
+    tie.close
+    (tie.spec
+    cast-no-heads
+    no-heads-requires
+    no-nexts-requires
+    no-nexts-requires-2
+    link-up-requires
+    no-keys-requires
+    start-keys-requires
+    place-all-requires
+    same-length
+    same-length-2
+    same-length-3
+    returns)

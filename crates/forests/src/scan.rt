@@ -1,0 +1,115 @@
+// The scan: relays are placed one after another, and each link gets its forest number in the same pass.
+use crate::chains::{link_up, no_heads, no_nexts};
+use crate::keys::{greatest_key, no_keys, relay_of, start_keys};
+use crate::walk::walk;
+use network::{Place, Relay};
+
+ghost use Prim.Native.Nat.{_-_, _<_, _≤_};
+ghost use mathlib.Core.Path.{_≡_};
+ghost use lib.ListN.{length, getD, set};
+ghost use Rattle.definitions.specs.Order.{relayAt};
+ghost use Rattle.forests.specs.Scan.{Placeable, PlacedOne, Startable, Scannable, Scanned};
+
+// The order's two lists turn a place into a relay and a relay into a place.
+pub fn relay_at(relays: &[u16], v: Place) -> Relay
+    requires { ⌜ (0 < v .0) × (v .0 ≤ length (now relays)) ⌝ }
+    ensures { λ r. ⌜ r .0 ≡ relayAt (now (relays .entry)) (v .0) ⌝ }
+{
+    let at = (v.0 - 1) as usize;
+    Relay(relays[at])
+}
+
+pub fn place_of(places: &[u16], r: Relay) -> Place
+    requires { ⌜ r .0 < length (now places) ⌝ }
+    ensures { λ v. ⌜ v .0 ≡ getD (now (places .entry)) (r .0) 0 ⌝ }
+{
+    let at = r.0 as usize;
+    Place(places[at])
+}
+
+// Relay x gets place v.
+fn put(x: Relay, v: Place, relays: &mut [u16], places: &mut [u16])
+    requires { ⌜ (0 < v .0) × (v .0 ≤ length (now relays)) × (x .0 < length (now places)) ⌝ }
+    ensures { λ _. ⌜ now (relays .exit) ≡ set (now (relays .entry)) (v .0 - 1) (x .0) ⌝ }
+    ensures { λ _. ⌜ now (places .exit) ≡ set (now (places .entry)) (x .0) (v .0) ⌝ }
+{
+    let at = (v.0 - 1) as usize;
+    let r = x.0 as usize;
+    relays[at] = x.0;
+    places[r] = v.0;
+}
+
+// The relay with the greatest key gets place v.
+fn place_next(
+    n: u16,
+    v: Place,
+    lows: &[u16],
+    highs: &[u16],
+    first: &[u16; 1000],
+    lownext: &[u16; 3000],
+    highnext: &[u16; 3000],
+    keys: &mut [u32; 1000],
+    relays: &mut [u16],
+    places: &mut [u16],
+    forests: &mut [u16],
+)
+    requires {
+        ⌜ Placeable n (v .0) (now lows) (now highs) (now first) (now lownext) (now highnext) (now keys)
+        (now relays) (now places) (now forests) ⌝
+    }
+    ensures {
+        λ _. ⌜ PlacedOne n (v .0) (now (lows .entry)) (now (highs .entry)) (now (keys .entry)) (now (keys .exit))
+        (now (relays .entry)) (now (relays .exit)) (now (places .entry)) (now (places .exit))
+        (now (forests .entry)) (now (forests .exit)) ⌝
+    }
+{
+    let x = relay_of(greatest_key(n, keys));
+    put(x, v, relays, places);
+    walk(x, lows, highs, first, lownext, highnext, keys, forests);
+}
+
+// All n relays get their places.
+fn place_all(
+    n: u16,
+    lows: &[u16],
+    highs: &[u16],
+    first: &[u16; 1000],
+    lownext: &[u16; 3000],
+    highnext: &[u16; 3000],
+    keys: &mut [u32; 1000],
+    relays: &mut [u16],
+    places: &mut [u16],
+    forests: &mut [u16],
+)
+    requires {
+        ⌜ Startable n (now lows) (now highs) (now first) (now lownext) (now highnext) (now keys)
+        (now relays) (now places) (now forests) ⌝
+    }
+    ensures {
+        λ _. ⌜ Scanned n (now (lows .entry)) (now (highs .entry)) (now (relays .entry)) (now (relays .exit))
+        (now (places .entry)) (now (places .exit)) (now (forests .entry)) (now (forests .exit)) ⌝
+    }
+{
+    let mut v = 0;
+    while v < n {
+        v += 1;
+        place_next(n, Place(v), lows, highs, first, lownext, highnext, keys, relays, places, forests);
+    }
+}
+
+// The order, the places and the forest numbers of an accepted table.
+pub fn scan(n: u16, lows: &[u16], highs: &[u16], relays: &mut [u16], places: &mut [u16], forests: &mut [u16])
+    requires { ⌜ Scannable n (now lows) (now highs) (now relays) (now places) (now forests) ⌝ }
+    ensures {
+        λ _. ⌜ Scanned n (now (lows .entry)) (now (highs .entry)) (now (relays .entry)) (now (relays .exit))
+        (now (places .entry)) (now (places .exit)) (now (forests .entry)) (now (forests .exit)) ⌝
+    }
+{
+    let mut first = no_heads(lows.len() as u16);
+    let mut lownext = no_nexts();
+    let mut highnext = no_nexts();
+    link_up(lows, highs, &mut first, &mut lownext, &mut highnext);
+    let mut keys = no_keys();
+    start_keys(n, &mut keys);
+    place_all(n, lows, highs, &first, &lownext, &highnext, &mut keys, relays, places, forests);
+}

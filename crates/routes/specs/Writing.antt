@@ -1,0 +1,59 @@
+-- Writing the routes out: each is one side's path from its start to the meeting relay and then the other side's path back
+-- to its start, as relay numbers. On lists, as the loops run. Assumes nothing.
+use Prim.Native.Nat.{ℕ, zero, suc, _+_}
+use mathlib.Core.List.{List}
+use lib.Dec.{eqb}
+use lib.ListN.{set}
+use Rattle.definitions.specs.Outcome.{pick}
+use Rattle.definitions.specs.Order.{relayAt}
+use Rattle.routes.specs.Side.{endIn, secondIn, priorIn}
+
+-- How many relays there are from x back to the start of its path, `fuel` at most.
+unfoldable pub chainLength : List ℕ → ℕ → ℕ → ℕ
+chainLength side zero x = 0
+chainLength side (suc fuel) x = pick (eqb x 0) 0 (suc (chainLength side fuel (priorIn side x)))
+
+-- How many relays path i has before its end.
+unfoldable pub countIn : List ℕ → ℕ → ℕ
+countIn side i = chainLength side 1000 (secondIn side i)
+
+-- `count` relays from x back, written downwards to `from`.
+unfoldable pub writeDown : List ℕ → List ℕ → ℕ → ℕ → ℕ → List ℕ → List ℕ
+writeDown side order from zero x relays = relays
+writeDown side order from (suc count) x relays =
+    writeDown side order from count (priorIn side x) (set relays (from + count) (relayAt order x))
+
+-- `count` relays from x back, written upwards from `at`.
+unfoldable pub writeUp : List ℕ → List ℕ → ℕ → ℕ → ℕ → List ℕ → List ℕ
+writeUp side order at zero x relays = relays
+writeUp side order at (suc count) x relays =
+    writeUp side order (at + 1) count (priorIn side x) (set relays at (relayAt order x))
+
+-- How many relays route i has.
+unfoldable pub routeLength : List ℕ → List ℕ → ℕ → ℕ
+routeLength first second i = countIn first i + 1 + countIn second i
+
+-- Route i, written from `from` on: the first side's path down from the meeting relay, the second side's up from it.
+unfoldable pub writeRoute : List ℕ → List ℕ → List ℕ → ℕ → ℕ → List ℕ → List ℕ
+writeRoute first second order i from relays =
+    let count = countIn first i in
+    let low = writeDown first order from count (secondIn first i) relays in
+    let met = set low (from + count) (relayAt order (endIn first i)) in
+    writeUp second order (from + count + 1) (countIn second i) (secondIn second i) met
+
+-- The lists of counts and relays, and how many relays have been written.
+pub record Written : Type 0 where
+  pub countList : List ℕ
+  pub relayList : List ℕ
+  pub upto : ℕ
+
+abbrev pub written : List ℕ → List ℕ → ℕ → Written
+written counts relays upto = record { countList = counts; relayList = relays; upto = upto }
+
+-- The `more` routes after route i, written from `from` on.
+unfoldable pub writeFrom : List ℕ → List ℕ → List ℕ → ℕ → ℕ → ℕ → List ℕ → List ℕ → Written
+writeFrom first second order zero i from counts relays = written counts relays from
+writeFrom first second order (suc more) i from counts relays =
+    let length = routeLength first second (i + 1) in
+    writeFrom first second order more (i + 1) (from + length) (set counts i length)
+    (writeRoute first second order (i + 1) from relays)

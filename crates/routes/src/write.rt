@@ -1,0 +1,117 @@
+// Writes the routes out of the two sides' lists, as relay numbers.
+ghost use mathlib.Core.Path.{_≡_};
+ghost use Prim.Native.Nat.{_≤_};
+ghost use Rattle.definitions.specs.Order.{relayAt};
+ghost use Rattle.routes.specs.Side.{endIn, secondIn};
+ghost use Rattle.routes.specs.Writing.{countIn, writeDown, writeUp, routeLength, writeRoute, written, writeFrom};
+use crate::side::end_of;
+use crate::side::get;
+use crate::side::prior_of;
+use crate::side::put;
+use crate::side::second_of;
+use network::Place;
+use network::Relay;
+
+// The relay at a place of the order.
+fn relay_at(order: &[u16], p: Place) -> Relay
+    ensures { λ r. ⌜ r .0 ≡ relayAt (now (order .entry)) (p .0) ⌝ }
+{
+    let at = p.0 as usize;
+    if at == 0 {
+        Relay(get(order, 0))
+    } else {
+        Relay(get(order, at - 1))
+    }
+}
+
+// How many relays path i has before its end, 1,000 at most.
+fn count(side: &[u16], i: u16) -> usize
+    ensures { λ r. ⌜ r ≡ countIn (now (side .entry)) i ⌝ }
+{
+    let mut x = second_of(side, i);
+    let mut c = 0;
+    while c < 1000 {
+        if x == 0 {
+            return c;
+        }
+        x = prior_of(side, x);
+        c += 1;
+    }
+    c
+}
+
+// The `count` relays of path i before its end, written downwards to `from`.
+fn write_down(relays: &mut [u16], side: &[u16], order: &[u16], i: u16, count: usize, from: usize)
+    requires { ⌜ (count ≤ 1000) × (from ≤ 70000) ⌝ }
+    ensures { λ _. ⌜ now (relays .exit) ≡ writeDown (now (side .entry)) (now (order .entry)) from count (secondIn (now (side .entry)) i) (now (relays .entry)) ⌝ }
+{
+    let mut x = second_of(side, i);
+    let mut c = count;
+    while 0 < c {
+        c -= 1;
+        put(relays, from + c, relay_at(order, Place(x)).0);
+        x = prior_of(side, x);
+    }
+}
+
+// The `count` relays of path i before its end, written upwards from `at`.
+fn write_up(relays: &mut [u16], side: &[u16], order: &[u16], i: u16, count: usize, at: usize)
+    requires { ⌜ (count ≤ 1000) × (at ≤ 80000) ⌝ }
+    ensures { λ _. ⌜ now (relays .exit) ≡ writeUp (now (side .entry)) (now (order .entry)) at count (secondIn (now (side .entry)) i) (now (relays .entry)) ⌝ }
+{
+    let mut x = second_of(side, i);
+    let mut c = count;
+    let mut p = at;
+    while 0 < c {
+        put(relays, p, relay_at(order, Place(x)).0);
+        x = prior_of(side, x);
+        p += 1;
+        c -= 1;
+    }
+}
+
+// Route i, written from `from` on: the first side's path down from the meeting relay, the second side's up from it.
+// Gives the number of its relays.
+fn write_route(
+    relays: &mut [u16],
+    first: &[u16],
+    second: &[u16],
+    order: &[u16],
+    i: u16,
+    from: usize,
+) -> usize
+    requires { ⌜ from ≤ 70000 ⌝ }
+    ensures { λ r. ⌜ r ≡ routeLength (now (first .entry)) (now (second .entry)) i ⌝ }
+    ensures { λ _. ⌜ now (relays .exit) ≡ writeRoute (now (first .entry)) (now (second .entry)) (now (order .entry)) i from (now (relays .entry)) ⌝ }
+{
+    let low = count(first, i);
+    let high = count(second, i);
+    let meeting = end_of(first, i);
+    write_down(relays, first, order, i, low, from);
+    put(relays, from + low, relay_at(order, Place(meeting)).0);
+    write_up(relays, second, order, i, high, from + low + 1);
+    low + 1 + high
+}
+
+// Routes 1 to k one after another, and how many relays each has. Gives the number of relays written.
+pub(crate) fn write_routes(
+    counts: &mut [u16],
+    relays: &mut [u16],
+    first: &[u16],
+    second: &[u16],
+    order: &[u16],
+    k: u16,
+) -> usize
+    requires { ⌜ k ≤ 32 ⌝ }
+    ensures { λ r. ⌜ written (now (counts .exit)) (now (relays .exit)) r ≡ writeFrom (now (first .entry)) (now (second .entry)) (now (order .entry)) k 0 0 (now (counts .entry)) (now (relays .entry)) ⌝ }
+{
+    let mut i = 0;
+    let mut from = 0;
+    while i < k {
+        let length = write_route(relays, first, second, order, i + 1, from);
+        put(counts, i as usize, length as u16);
+        from += length;
+        i += 1;
+    }
+    from
+}

@@ -1,0 +1,32 @@
+-- `text::put::link_length` meets its contract: 9 bytes and the digits of both numbers. Assumes nothing.
+use native.Mathlib.Omega.{arith}
+use borrow.Author.Needs.{needs}
+use Rattle.text_theory.specs.Decimal.{length-decimal-at-most}
+use Rattle.text.specs.Put.{length-linkForm}
+use Rattle.text.proofs.put.link_length.Statement.{statement}
+use Rattle.text.proofs.put.link_length.Tie as tie
+
+width-requires : tie.Need-width-requires
+width-requires c κs = search needs
+
+add-result : tie.Need-add-result
+add-result c = omega (arith, c .width .ensures, length-decimal-at-most 4 (c .before .args .a) (omega arith))
+
+width-requires-2 : tie.Need-width-requires-2
+width-requires-2 c κs = search needs
+
+add-result-2 : tie.Need-add-result-2
+add-result-2 c =
+    let a = c .before .before .args in
+    omega (arith, c .before .width .ensures, c .width2 .ensures, length-decimal-at-most 4 (a .a) (omega arith), length-decimal-at-most 4 (a .b) (omega arith))
+
+returns : tie.Need-returns
+returns c =
+    let a = c .before .before .args in (
+      omega (arith, c .before .width .ensures, c .width2 .ensures, length-linkForm (a .a) (a .b)),
+      omega (arith, c .before .width .ensures, c .width2 .ensures, length-decimal-at-most 4 (a .a) (omega arith), length-decimal-at-most 4 (a .b) (omega arith)),
+    )
+
+pub link-length-spec : {M : Type 1} → statement M
+link-length-spec =
+    tie.close (tie.spec width-requires add-result width-requires-2 add-result-2 returns)

@@ -1,0 +1,8 @@
+-- What the functions of the text answer, in the terms of the definitions, and laws of the forms.
+pub mod Scans
+pub mod Words
+pub mod Numbers
+pub mod Lines
+pub mod Put
+pub mod Answers
+pub mod Written

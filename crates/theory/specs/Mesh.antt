@@ -1,0 +1,78 @@
+-- The hypotheses of demand 3 can all be met: the mesh of document 01 with k 2, the ends 4 and 1, relay 2 dead.
+use Prim.Native.Nat.{ℕ, _≤_, _<_}
+use mathlib.Core.Bool.{Bool, false}
+use mathlib.Core.List.{List, [], _∷_}
+use mathlib.Core.Path.{_≡_, refl}
+use native.Mathlib.Omega.{arith}
+use lib.Dec.{eqb}
+use lib.ListN.{length}
+use Rattle.definitions.specs.Outcome.{done}
+use Rattle.definitions.specs.Network.{Accepted}
+use Rattle.definitions.specs.Order.{relaysAfter, placesAfter}
+use Rattle.definitions.specs.Forests.{forestsAfter, marksAfter}
+use Rattle.definitions.specs.Route.{tooShort, routeAnswer, countsAfter, routeRelaysAfter}
+use Rattle.definitions.specs.Demand.{Joined, alone, onward, LinkOf, AnyLink, Kept, Live, deadCount, OneTree, Holds, RoutesHold}
+use Rattle.definitions.specs.Networks.{mesh, lent}
+use Rattle.definitions.specs.Opened.{opened}
+use Rattle.theory.specs.DemandThree.{demand-three}
+
+abbrev lows : List ℕ
+lows = mesh .lows
+
+abbrev highs : List ℕ
+highs = mesh .highs
+
+abbrev forests : List ℕ
+forests = forestsAfter 5 lows highs (lent 7)
+
+abbrev marks : List ℕ
+marks = marksAfter 5 lows highs 2 (lent 7)
+
+pub mesh-accepted : Accepted 5 lows highs
+unfolding opened
+mesh-accepted = refl
+
+-- Over links of forest 2 alone: 4 3, 3 2, 2 1.
+pub mesh-one-tree : OneTree lows highs forests 2 4 1
+unfolding opened
+mesh-one-tree =
+    onward {b = 3} tt (6, omega arith, refl, refl)
+    (onward {b = 2} tt (4, omega arith, refl, refl)
+    (onward {b = 1} tt (2, omega arith, refl, refl)
+    (alone tt)))
+
+abbrev dead : ℕ → Bool
+dead = eqb 2
+
+pub mesh-few-dead : deadCount 5 dead < 2
+unfolding opened
+mesh-few-dead = omega arith
+
+-- 4 and 1 are joined without relay 2: 4 3, 3 1.
+pub mesh-joined : Joined (Live 5 dead) (LinkOf lows highs AnyLink) 4 1
+unfolding opened
+mesh-joined =
+    onward {a = 4} {b = 3} (omega arith, refl) (6, omega arith, refl, tt)
+    (onward {a = 3} {b = 1} (omega arith, refl) (3, omega arith, refl, tt)
+    (alone {a = 1} (omega arith, refl)))
+
+mesh-holds : Holds 5 lows highs 2 (relaysAfter 5 lows highs (lent 5) (lent 5)) (placesAfter 5 lows highs (lent 5) (lent 5)) forests marks
+mesh-holds =
+    demand-three 5 lows highs mesh-accepted 2 (omega arith) (omega arith) (lent 5) (lent 5) (lent 7) (lent 7) (omega arith) (omega arith)
+    (omega arith) (omega arith)
+
+-- So they are joined over the kept links too,
+pub mesh-survives : Joined (Live 5 dead) (LinkOf lows highs (Kept marks)) 4 1
+mesh-survives =
+    mesh-holds .survives dead mesh-few-dead 4 1 (omega arith, refl) (omega arith, refl) .1 mesh-joined
+
+long : tooShort 5 2 (lent 2) (lent 7) (lent 10) ≡ false
+unfolding opened
+long = refl
+
+-- and Route gives its routes.
+pub mesh-routes : RoutesHold 5 lows highs marks 2 4 1
+    (countsAfter 5 lows highs 2 4 1 (lent 2) (lent 7) (lent 10))
+    (routeRelaysAfter 5 lows highs 2 4 1 (lent 2) (lent 7) (lent 10))
+mesh-routes =
+    mesh-holds .routes 4 1 (omega arith) (omega arith) (omega arith) (lent 2) (lent 7) (lent 10) long .inOneTree mesh-one-tree .1
