@@ -78,10 +78,7 @@ impl Flow {
         while self.at[node as usize] >= 0 {
             let edge = self.at[node as usize] as usize;
             let head = self.head[edge];
-            if self.room[edge] > 0
-                && self.level[head as usize] == self.level[node as usize] + 1
-                && self.push(head, sink)
-            {
+            if self.room[edge] > 0 && self.level[head as usize] == self.level[node as usize] + 1 && self.push(head, sink) {
                 self.room[edge] -= 1;
                 self.room[edge ^ 1] += 1;
                 return true;

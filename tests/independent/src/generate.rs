@@ -12,9 +12,8 @@ pub struct Network {
 }
 
 /// The kinds of networks that `network` makes.
-pub const KINDS: [&str; 14] = [
-    "empty", "full", "ring", "path", "tree", "grid", "star", "wheel", "band", "clique", "bipartite", "cube", "random", "parts",
-];
+pub const KINDS: [&str; 14] =
+    ["empty", "full", "ring", "path", "tree", "grid", "star", "wheel", "band", "clique", "bipartite", "cube", "random", "parts"];
 
 type Links = Vec<(usize, usize)>;
 
@@ -214,7 +213,8 @@ pub fn scratch(random: &mut Random, text: &mut Vec<u8>) {
             *text = lines.concat();
         }
         6..=8 => {
-            let number = random.pick(&["0", "00", "1", "7", "31", "32", "33", "999", "1000", "1001", "3000", "3001", "9999", "10000", ""]);
+            let number =
+                random.pick(&["0", "00", "1", "7", "31", "32", "33", "999", "1000", "1001", "3000", "3001", "9999", "10000", ""]);
             let digits: Vec<usize> = (0..text.len()).filter(|&at| text[at].is_ascii_digit()).collect();
             if digits.is_empty() {
                 return;
