@@ -1,7 +1,7 @@
 -- A set of numbers as the bits of a list of 64-bit words: whether a number is marked, and what marking one changes.
 -- Assumes nothing.
 use Prim.Native.Nat.{ℕ, zero, suc, _+_, _-_, _/_, _%_, _^_, _<_}
-use mathlib.Core.Bool.{Bool, true, false, _||_}
+use mathlib.Core.Bool.{Bool, true, false, _||_, or-true, or-false}
 use mathlib.Core.List.{List}
 use mathlib.Core.Path.{_≡_, refl, sym, _∙_, ap}
 use native.Mathlib.Nat.{div-self, div-eq-of-lt, zero-div, mod-lt, mul-mod-right, pow-succ'}
@@ -24,14 +24,6 @@ marked bits p = bitOf (getD bits (p / 64) 0) (p % 64)
 -- The words with p marked.
 unfoldable pub mark : List ℕ → ℕ → List ℕ
 mark bits p = set bits (p / 64) (bitOr (getD bits (p / 64) 0) (2 ^ (p % 64)))
-
-or-false : (b : Bool) → (b || false) ≡ b
-or-false true = refl
-or-false false = refl
-
-or-true : (b : Bool) → (b || true) ≡ true
-or-true true = refl
-or-true false = refl
 
 -- Digit t of a power of two.
 power-same : (t : ℕ) → 2 ^ t / 2 ^ t % 2 ≡ 1

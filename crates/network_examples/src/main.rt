@@ -1,7 +1,6 @@
 // Runs the table check and the pair number on good and bad input and prints a line for each: a label, then `accepted`,
 // a number, or a refusal with its number and its place.
 ghost use mathlib.Core.Path.{_≡_};
-ghost use Prim.Native.Nat.{_≤_};
 ghost use lib.ListN.{length};
 use network::Check;
 use network::Pair;
@@ -57,32 +56,62 @@ fn check(label: &[u8], n: u16, lows: &[u16], highs: &[u16]) {
     }
 }
 
-fn pair(label: &[u8], a: u16, b: u16) {
+fn show_number(label: &[u8], number: u16) {
     io::write_all(1, label);
-    match network::pair_number(Relay(a), Relay(b)) {
-        Pair::Number(number) => {
-            io::print_decimal(1, number as u64);
-            io::write_all(1, b"\n");
-        }
-        Pair::Refused(refusal) => {
-            show_refusal(refusal);
-        }
-    }
+    io::print_decimal(1, number as u64);
 }
 
-fn check_no_links(label: &[u8], n: u16) {
-    check(label, n, &[0u16; 0], &[0u16; 0]);
+fn show_link(label: &[u8], a: u16, b: u16) {
+    show_number(label, a);
+    show_number(b" ", b);
+}
+
+fn no_link(n: u16) {
+    show_number(b"n ", n);
+    check(b": ", n, &[0u16; 0], &[0u16; 0]);
+}
+
+fn one_link(n: u16, a: u16, b: u16) {
+    show_number(b"n ", n);
+    show_link(b", link ", a, b);
+    check(b": ", n, &[a], &[b]);
+}
+
+fn two_links(n: u16, a: u16, b: u16, c: u16, d: u16) {
+    show_number(b"n ", n);
+    show_link(b", link ", a, b);
+    show_link(b", link ", c, d);
+    check(b": ", n, &[a, c], &[b, d]);
 }
 
 fn relay_counts() {
-    check_no_links(b"n 0: ", 0);
-    check_no_links(b"n 1: ", 1);
-    check_no_links(b"n 1000: ", 1000);
-    check_no_links(b"n 1001: ", 1001);
-    check_no_links(b"n 65535: ", 65535);
+    no_link(0);
+    no_link(1);
+    no_link(1000);
+    no_link(1001);
+    no_link(65535);
 }
 
-fn small_tables() {
+fn single_links() {
+    one_link(1000, 998, 999);
+    one_link(1000, 0, 65535);
+    one_link(1000, 65535, 0);
+    one_link(4, 0, 4);
+    one_link(4, 7, 7);
+    one_link(4, 2, 2);
+    one_link(1, 0, 0);
+    one_link(4, 3, 2);
+}
+
+fn double_links() {
+    two_links(4, 0, 1, 0, 2);
+    two_links(4, 0, 1, 0, 1);
+    two_links(4, 0, 1, 1, 0);
+    two_links(4, 0, 1, 65535, 3);
+    two_links(4, 2, 2, 9, 9);
+}
+
+fn named_tables() {
     check(b"square: ", 4, &[0u16, 1, 2, 0], &[1u16, 2, 3, 3]);
     check(
         b"mesh: ",
@@ -90,38 +119,18 @@ fn small_tables() {
         &[0u16, 0, 1, 1, 2, 2, 3],
         &[1u16, 2, 2, 3, 3, 4, 4],
     );
-    check(b"998 999: ", 1000, &[998u16], &[999u16]);
-}
-
-fn unequal_lists() {
-    check(b"n 0, unequal lists: ", 0, &[0u16, 1], &[1u16]);
-    check(b"more lows than highs: ", 4, &[0u16, 1], &[1u16]);
-    check(b"more highs than lows: ", 4, &[0u16], &[1u16, 2]);
-}
-
-fn links_out_of_range() {
-    check(b"0 65535: ", 1000, &[0u16], &[65535u16]);
-    check(b"65535 3 after 0 1: ", 1000, &[0u16, 65535], &[1u16, 3]);
-    check(b"0 4 among four: ", 4, &[0u16], &[4u16]);
-    check(b"7 7 among four: ", 4, &[7u16], &[7u16]);
-}
-
-fn links_not_below() {
-    check(b"2 2 among four: ", 4, &[2u16], &[2u16]);
-    check(b"0 0 among one: ", 1, &[0u16], &[0u16]);
-    check(b"3 2 among four: ", 4, &[3u16], &[2u16]);
-    check(b"0 1, then 1 0: ", 4, &[0u16, 1], &[1u16, 0]);
-    check(b"2 2 before 9 9: ", 4, &[0u16, 2, 9], &[1u16, 2, 9]);
-}
-
-fn repeated_links() {
-    check(b"0 1, then 0 1: ", 4, &[0u16, 0], &[1u16, 1]);
     check(
-        b"0 1, 0 2, 1 2, then 0 2: ",
+        b"the second link again as the fourth: ",
         4,
         &[0u16, 0, 1, 0],
         &[1u16, 2, 2, 2],
     );
+}
+
+fn unequal_lists() {
+    check(b"more lows than highs: ", 4, &[0u16, 1], &[1u16]);
+    check(b"more highs than lows: ", 4, &[0u16], &[1u16, 2]);
+    check(b"more lows than highs, n 0: ", 0, &[0u16, 1], &[1u16]);
 }
 
 fn zeros() -> [u16; 3001]
@@ -169,32 +178,41 @@ fn large_tables(lows: &mut [u16], highs: &mut [u16])
     check_front(b"the first link again as the last of 3000: ", lows, highs);
 }
 
-fn pair_numbers() {
-    pair(b"pair 0 1: ", 0, 1);
-    pair(b"pair 0 2: ", 0, 2);
-    pair(b"pair 1 2: ", 1, 2);
-    pair(b"pair 0 3: ", 0, 3);
-    pair(b"pair 998 999: ", 998, 999);
+fn pair(a: u16, b: u16) {
+    show_link(b"pair ", a, b);
+    io::write_all(1, b": ");
+    match network::pair_number(Relay(a), Relay(b)) {
+        Pair::Number(number) => {
+            io::print_decimal(1, number as u64);
+            io::write_all(1, b"\n");
+        }
+        Pair::Refused(refusal) => {
+            show_refusal(refusal);
+        }
+    }
 }
 
-fn refused_pairs() {
-    pair(b"pair 0 1000: ", 0, 1000);
-    pair(b"pair 1000 0: ", 1000, 0);
-    pair(b"pair 65535 65535: ", 65535, 65535);
-    pair(b"pair 999 999: ", 999, 999);
-    pair(b"pair 2 1: ", 2, 1);
+fn pairs() {
+    pair(0, 1);
+    pair(0, 2);
+    pair(1, 2);
+    pair(0, 3);
+    pair(998, 999);
+    pair(0, 1000);
+    pair(1000, 0);
+    pair(65535, 65535);
+    pair(999, 999);
+    pair(2, 1);
 }
 
 fn main() {
     relay_counts();
-    small_tables();
+    single_links();
+    double_links();
+    named_tables();
     unequal_lists();
-    links_out_of_range();
-    links_not_below();
-    repeated_links();
     let mut lows = zeros();
     let mut highs = zeros();
     large_tables(&mut lows, &mut highs);
-    pair_numbers();
-    refused_pairs();
+    pairs();
 }
