@@ -32,3 +32,4 @@ pub mod Ends
 pub mod Reversed
 pub mod Concat
 pub mod Stores
+pub mod Grids

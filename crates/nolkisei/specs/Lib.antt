@@ -1,0 +1,2 @@
+-- The words of the C interface's promises.
+pub mod Reported

@@ -1,0 +1,120 @@
+//! Document 01's examples, P1 to P12 and the others, and the plain program against the fast one and the flow program.
+
+use crate::forests::{cut, order, split};
+use crate::generate::{Network, any};
+use crate::plan::plan;
+use crate::random::Random;
+use crate::sweep::{Wish, routes};
+use crate::table::{Refusal, check, pair};
+use crate::text::{read, text, write};
+use crate::{flow, swift};
+
+fn net(n: u16, links: &[(u16, u16)]) -> Network {
+    Network { n, lows: links.iter().map(|link| link.0).collect(), highs: links.iter().map(|link| link.1).collect() }
+}
+
+fn square() -> Network {
+    net(4, &[(0, 1), (1, 2), (2, 3), (0, 3)])
+}
+
+fn full_four() -> Network {
+    net(4, &[(0, 1), (0, 2), (1, 2), (0, 3), (1, 3), (2, 3)])
+}
+
+fn mesh() -> Network {
+    net(5, &[(0, 1), (0, 2), (1, 2), (1, 3), (2, 3), (2, 4), (3, 4)])
+}
+
+fn refused<T>(number: u32, place: usize) -> Result<T, Refusal> {
+    Err(Refusal { number, place })
+}
+
+fn order_and_forests(net: &Network) -> (Vec<u16>, Vec<u16>) {
+    let (mut relays, mut places) = (vec![0; usize::from(net.n)], vec![0; usize::from(net.n)]);
+    let mut forests = vec![0; net.lows.len()];
+    order(net.n, &net.lows, &net.highs, &mut relays, &mut places).unwrap();
+    split(net.n, &net.lows, &net.highs, &mut forests).unwrap();
+    (relays, forests)
+}
+
+fn route(net: &Network, from: u16, to: u16, k: u16) -> Option<Vec<Vec<u16>>> {
+    routes(net.n, &net.lows, &net.highs, k, from, to)
+}
+
+#[test]
+fn marked() {
+    assert_eq!(order_and_forests(&square()), (vec![0, 1, 2, 3], vec![1, 1, 2, 1]));
+    assert_eq!(route(&square(), 3, 2, 2), Some(vec![vec![3, 0, 1, 2], vec![3, 2]]));
+    assert_eq!(route(&square(), 0, 2, 2), None);
+    assert_eq!(route(&full_four(), 3, 2, 3), Some(vec![vec![3, 0, 2], vec![3, 1, 2], vec![3, 2]]));
+    assert_eq!(order_and_forests(&mesh()), (vec![0, 1, 2, 3, 4], vec![1, 1, 2, 1, 2, 1, 2]));
+    let input = format!("(want 4 1 2)\n{}", text(5, &mesh().lows, &mesh().highs));
+    assert_eq!(plan(input.as_bytes()), "(sheet (from 4) (to 1) (k 2))\n(route 4 3 1)\n(route 4 2 1)\n(kept 7)\n(end)\n");
+    assert_eq!(route(&mesh(), 1, 4, 2), Some(vec![vec![1, 3, 4], vec![1, 2, 4]]));
+    assert_eq!(route(&mesh(), 4, 1, 1), Some(vec![vec![4, 2, 0, 1]]));
+    let mut marks = [9; 7];
+    assert_eq!(cut(5, &mesh().lows, &mesh().highs, 1, &mut marks), Ok(4));
+    assert_eq!(marks, [1, 1, 0, 1, 0, 1, 0]);
+    assert_eq!(cut(1, &[], &[], 32, &mut []), Ok(0));
+    assert_eq!(split(1, &[], &[], &mut []), Ok(0));
+    assert_eq!(route(&net(2, &[]), 0, 1, 1), None);
+    assert_eq!((pair(0, 1), pair(998, 999)), (Ok(0), Ok(499_499)));
+}
+
+#[test]
+fn others() {
+    assert_eq!(check(0, &[], &[]), refused(3, 0));
+    assert_eq!(check(1001, &[], &[]), refused(3, 0));
+    assert_eq!(check(1000, &[], &[]), Ok(()));
+    assert_eq!(check(1000, &[0; 3001], &[1; 3001]), refused(4, 0));
+    assert_eq!(read(b"(net (relays 1000) (links 3001))\n", &mut [], &mut []), refused(4, 0));
+    assert_eq!(cut(1, &[], &[], 0, &mut []), refused(9, 0));
+    assert_eq!(cut(1, &[], &[], 33, &mut []), refused(9, 0));
+    let (mut lows, mut highs) = ([7], [7]);
+    assert_eq!(read(b"(net (relays 4) (links 1))\n(link 7 7)\n", &mut lows, &mut highs), refused(5, 0));
+    assert_eq!((lows, highs), ([0], [0]));
+    assert_eq!(read(b"(net (relays 4) (links 1))\n(link 2 2)\n", &mut lows, &mut highs), refused(6, 0));
+    assert_eq!(read(b"(net (relays 04", &mut lows, &mut highs), refused(2, 14));
+    assert_eq!(read(b"", &mut lows, &mut highs), refused(2, 0));
+}
+
+#[test]
+fn longest_text() {
+    let links: Vec<(u16, u16)> = (0..1000u16).flat_map(|b| (100..b).map(move |a| (a, b))).rev().take(3000).collect();
+    let net = net(1000, &links);
+    assert_eq!(check(net.n, &net.lows, &net.highs), Ok(()));
+    assert_eq!(text(net.n, &net.lows, &net.highs).len(), 45_039);
+}
+
+#[test]
+fn two_ways_agree() {
+    let mut random = Random::new(1);
+    for _ in 0..300 {
+        let net = any(&mut random, 200);
+        let (n, lows, highs) = (net.n, &net.lows[..], &net.highs[..]);
+        assert_eq!(check(n, lows, highs), Ok(()));
+        assert_eq!(swift::check(n, lows, highs), Ok(()));
+        let (relays, forests) = order_and_forests(&net);
+        let (mut swift_relays, mut swift_places) = (relays.clone(), relays.clone());
+        let mut swift_forests = vec![0; lows.len()];
+        swift::scan(n, lows, highs, &mut swift_relays, &mut swift_places, &mut swift_forests);
+        assert_eq!((relays, forests), (swift_relays, swift_forests));
+        let (mut one, mut two) = ([7; 50_000], [7; 50_000]);
+        assert_eq!(write(n, lows, highs, &mut one), swift::write(n, lows, highs, &mut two));
+        assert!(one == two);
+        let written = text(n, lows, highs);
+        let (mut a, mut b) = (vec![1; 3000], vec![1; 3000]);
+        assert_eq!(swift::read(written.as_bytes(), &mut a, &mut b), Ok((n, lows.len() as u16)));
+        assert_eq!((&a[..lows.len()], &b[..lows.len()]), (lows, highs));
+        if n > 1 {
+            let from = random.below(usize::from(n)) as u16;
+            let to = (from + 1 + random.below(usize::from(n) - 1) as u16) % n;
+            let k = random.within(1, 6) as u16;
+            let found = route(&net, from, to, k);
+            assert_eq!(swift::routes(n, lows, highs, Wish { k, from, to }), found);
+            if let Some(routes) = found {
+                assert!(routes.len() <= flow::greatest(n, lows, highs, from, to, usize::MAX));
+            }
+        }
+    }
+}

@@ -1,0 +1,33 @@
+//! The planner program: bytes in, bytes out.
+
+use crate::forests::cut;
+use crate::sweep::{Wish, route};
+use crate::table::Refusal;
+use crate::text::{form, read};
+
+fn sheet(input: &[u8]) -> Result<String, Refusal> {
+    let (wish, start) = form(input, 0, "(want # # #)\n").map_err(|place| Refusal { number: 1, place })?;
+    let (from, to, k) = (wish[0], wish[1], wish[2]);
+    let (mut lows, mut highs) = ([0; 3000], [0; 3000]);
+    let (n, m) = read(&input[start..], &mut lows, &mut highs)?;
+    let (lows, highs) = (&lows[..usize::from(m)], &highs[..usize::from(m)]);
+    let kept = cut(n, lows, highs, k, &mut [0; 3000])?;
+    let (mut counts, mut relays) = ([0; 32], [0; 1062]);
+    route(n, lows, highs, Wish { k, from, to }, &mut counts, &mut relays, &mut vec![0; 32000])?;
+    let mut sheet = format!("(sheet (from {from}) (to {to}) (k {k}))\n");
+    let mut at = 0;
+    for count in &counts[..usize::from(k)] {
+        sheet += "(route";
+        for relay in &relays[at..at + usize::from(*count)] {
+            sheet += &format!(" {relay}");
+        }
+        sheet += ")\n";
+        at += usize::from(*count);
+    }
+    Ok(sheet + &format!("(kept {kept})\n(end)\n"))
+}
+
+/// What the planner prints for an input.
+pub fn plan(input: &[u8]) -> String {
+    sheet(input).unwrap_or_else(|Refusal { number, place }| format!("(refused {number} {place})\n"))
+}

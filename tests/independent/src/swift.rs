@@ -1,0 +1,256 @@
+//! The same results by the methods of an ordinary program that is to be fast: what the proved code is timed against.
+
+use crate::sweep::{Wish, sweep};
+use crate::table::{Refusal, plain, refuse};
+
+/// The table check with a bitmap of pair numbers.
+pub fn check(n: u16, lows: &[u16], highs: &[u16]) -> Result<(), Refusal> {
+    if n == 0 || n > 1000 {
+        return plain(3);
+    }
+    if lows.len() != highs.len() || lows.len() > 3000 {
+        return plain(4);
+    }
+    let mut seen = [0u64; 7805];
+    for (index, (&a, &b)) in lows.iter().zip(highs).enumerate() {
+        link(n, &mut seen, index, a, b)?;
+    }
+    Ok(())
+}
+
+#[inline]
+fn link(n: u16, seen: &mut [u64; 7805], index: usize, a: u16, b: u16) -> Result<(), Refusal> {
+    if a >= n || b >= n {
+        return refuse(5, index);
+    }
+    if a >= b {
+        return refuse(6, index);
+    }
+    let (a, b) = (u32::from(a), u32::from(b));
+    let pair = b * (b - 1) / 2 + a;
+    let (word, bit) = (&mut seen[(pair / 64) as usize], 1 << (pair % 64));
+    if *word & bit != 0 {
+        return refuse(7, index);
+    }
+    *word |= bit;
+    Ok(())
+}
+
+/// Order, places and forest numbers in one pass: chains of links, a key for each relay.
+/// The key is the count of placed neighbours and then the lower relay number; 0 once placed.
+pub fn scan(n: u16, lows: &[u16], highs: &[u16], relays: &mut [u16], places: &mut [u16], forests: &mut [u16]) {
+    const NONE: u16 = u16::MAX;
+    let size = usize::from(n);
+    let mut first = [NONE; 1000];
+    let mut next = [[NONE; 2]; 3000];
+    for link in (0..lows.len()).rev() {
+        for (side, relay) in [lows[link], highs[link]].into_iter().enumerate() {
+            next[link][side] = first[usize::from(relay)];
+            first[usize::from(relay)] = link as u16;
+        }
+    }
+    let mut keys = [0u32; 1000];
+    for (relay, key) in keys[..size].iter_mut().enumerate() {
+        *key = 1024 + (1023 - relay as u32);
+    }
+    for step in 0..size {
+        let best = keys[..size].iter().copied().fold(0, u32::max);
+        let relay = 1023 - (best & 1023) as usize;
+        keys[relay] = 0;
+        relays[step] = relay as u16;
+        places[relay] = step as u16 + 1;
+        let mut at = first[relay];
+        while at != NONE {
+            let link = usize::from(at);
+            let side = usize::from(usize::from(lows[link]) != relay);
+            let other = usize::from(if side == 0 { highs[link] } else { lows[link] });
+            if keys[other] != 0 {
+                keys[other] += 1024;
+                forests[link] = ((keys[other] >> 10) - 1) as u16;
+            }
+            at = next[link][side];
+        }
+    }
+}
+
+/// Order.
+pub fn order(n: u16, lows: &[u16], highs: &[u16], relays: &mut [u16], places: &mut [u16]) -> Result<(), Refusal> {
+    check(n, lows, highs)?;
+    if relays.len() < usize::from(n) || places.len() < usize::from(n) {
+        return plain(12);
+    }
+    scan(n, lows, highs, relays, places, &mut [0; 3000]);
+    Ok(())
+}
+
+/// Split.
+pub fn split(n: u16, lows: &[u16], highs: &[u16], forests: &mut [u16]) -> Result<u16, Refusal> {
+    check(n, lows, highs)?;
+    if forests.len() < lows.len() {
+        return plain(12);
+    }
+    scan(n, lows, highs, &mut [0; 1000], &mut [0; 1000], forests);
+    Ok(forests[..lows.len()].iter().copied().max().unwrap_or(0))
+}
+
+/// Cut.
+pub fn cut(n: u16, lows: &[u16], highs: &[u16], k: u16, marks: &mut [u16]) -> Result<u16, Refusal> {
+    check(n, lows, highs)?;
+    if k == 0 || k > 32 {
+        return plain(9);
+    }
+    if marks.len() < lows.len() {
+        return plain(12);
+    }
+    scan(n, lows, highs, &mut [0; 1000], &mut [0; 1000], marks);
+    let mut kept = 0;
+    for mark in &mut marks[..lows.len()] {
+        *mark = u16::from(*mark <= k);
+        kept += *mark;
+    }
+    Ok(kept)
+}
+
+/// The routes of an accepted network, one after another: the sweep over whole paths.
+pub fn routes(n: u16, lows: &[u16], highs: &[u16], wish: Wish) -> Option<Vec<Vec<u16>>> {
+    let Wish { k, from, to } = wish;
+    let (size, most) = (usize::from(n), usize::from(k));
+    let (mut relays, mut places, mut forests) = ([0u16; 1000], [0u16; 1000], [0u16; 3000]);
+    scan(n, lows, highs, &mut relays, &mut places, &mut forests);
+    let mut table = vec![0u16; most * size];
+    for ((&a, &b), &forest) in lows.iter().zip(highs).zip(&forests) {
+        if forest <= k {
+            let (a, b) = (places[usize::from(a)], places[usize::from(b)]);
+            table[(usize::from(forest) - 1) * size + usize::from(a.max(b)) - 1] = a.min(b);
+        }
+    }
+    let left = |i: usize, v: u16| Some(table[(i - 1) * size + usize::from(v) - 1]).filter(|&place| place > 0);
+    let (p, q) = (places[usize::from(from)], places[usize::from(to)]);
+    let (s, t) = (p.max(q), p.min(q));
+    if (t + 1..=s).any(|v| left(most, v).is_none()) {
+        return None;
+    }
+    let mut routes = Vec::with_capacity(most);
+    for (mut route, b) in sweep(most, s, t, &left).into_iter().skip(1) {
+        route.extend(b.into_iter().rev().skip(1));
+        if p == t {
+            route.reverse();
+        }
+        for relay in &mut route {
+            *relay = relays[usize::from(*relay) - 1];
+        }
+        routes.push(route);
+    }
+    Some(routes)
+}
+
+#[inline]
+fn number(text: &[u8], at: &mut usize) -> Result<u16, Refusal> {
+    let digit = |at: usize| text.get(at).map_or(10, |byte| byte.wrapping_sub(b'0'));
+    let mut value = u16::from(digit(*at));
+    if value > 9 {
+        return refuse(2, *at);
+    }
+    *at += 1;
+    let stop = *at + if value == 0 { 0 } else { 3 };
+    while *at < stop && digit(*at) <= 9 {
+        value = 10 * value + u16::from(digit(*at));
+        *at += 1;
+    }
+    Ok(value)
+}
+
+#[inline]
+fn word(text: &[u8], at: &mut usize, word: &[u8]) -> Result<(), Refusal> {
+    for &byte in word {
+        if text.get(*at) != Some(&byte) {
+            return refuse(2, *at);
+        }
+        *at += 1;
+    }
+    Ok(())
+}
+
+fn read_links(text: &[u8], lows: &mut [u16], highs: &mut [u16]) -> Result<(u16, u16), Refusal> {
+    let mut at = 0;
+    word(text, &mut at, b"(net (relays ")?;
+    let n = number(text, &mut at)?;
+    word(text, &mut at, b") (links ")?;
+    let m = number(text, &mut at)?;
+    word(text, &mut at, b"))\n")?;
+    if n == 0 || n > 1000 {
+        return plain(3);
+    }
+    if m > 3000 {
+        return plain(4);
+    }
+    if lows.len().min(highs.len()) < usize::from(m) {
+        return plain(8);
+    }
+    let mut seen = [0u64; 7805];
+    for index in 0..usize::from(m) {
+        word(text, &mut at, b"(link ")?;
+        let a = number(text, &mut at)?;
+        word(text, &mut at, b" ")?;
+        let b = number(text, &mut at)?;
+        word(text, &mut at, b")\n")?;
+        link(n, &mut seen, index, a, b)?;
+        lows[index] = a;
+        highs[index] = b;
+    }
+    word(text, &mut at, b"(end)\n")?;
+    if at < text.len() { refuse(2, at) } else { Ok((n, m)) }
+}
+
+/// Read.
+pub fn read(text: &[u8], lows: &mut [u16], highs: &mut [u16]) -> Result<(u16, u16), Refusal> {
+    let answer = read_links(text, lows, highs);
+    let kept = answer.map_or(0, |(_, m)| usize::from(m));
+    lows[kept..].fill(0);
+    highs[kept..].fill(0);
+    answer
+}
+
+fn put_number(buffer: &mut [u8], at: &mut usize, value: u16) {
+    for unit in [1000, 100, 10, 1] {
+        if value >= unit || unit == 1 {
+            buffer[*at] = b'0' + (value / unit % 10) as u8;
+            *at += 1;
+        }
+    }
+}
+
+fn put(buffer: &mut [u8], at: &mut usize, word: &[u8]) {
+    buffer[*at..*at + word.len()].copy_from_slice(word);
+    *at += word.len();
+}
+
+fn digits(value: u16) -> usize {
+    1 + usize::from(value >= 10) + usize::from(value >= 100) + usize::from(value >= 1000)
+}
+
+/// Write.
+pub fn write(n: u16, lows: &[u16], highs: &[u16], buffer: &mut [u8]) -> Result<usize, Refusal> {
+    check(n, lows, highs)?;
+    let m = lows.len() as u16;
+    let links: usize = lows.iter().zip(highs).map(|(&a, &b)| 9 + digits(a) + digits(b)).sum();
+    let length = 25 + digits(n) + digits(m) + links + 6;
+    if buffer.len() < length {
+        return plain(12);
+    }
+    let mut at = 0;
+    put(buffer, &mut at, b"(net (relays ");
+    put_number(buffer, &mut at, n);
+    put(buffer, &mut at, b") (links ");
+    put_number(buffer, &mut at, m);
+    put(buffer, &mut at, b"))\n");
+    for (&a, &b) in lows.iter().zip(highs) {
+        put(buffer, &mut at, b"(link ");
+        put_number(buffer, &mut at, a);
+        put(buffer, &mut at, b" ");
+        put_number(buffer, &mut at, b);
+        put(buffer, &mut at, b")\n");
+    }
+    put(buffer, &mut at, b"(end)\n");
+    Ok(at)
+}
