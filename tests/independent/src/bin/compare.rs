@@ -84,7 +84,7 @@ fn read(random: &mut Random, tally: &mut Tally, input: &[u8], links: usize) {
 }
 
 fn planned(random: &mut Random, tally: &mut Tally, input: &[u8]) {
-    let before = random.next() as u8;
+    let before = random.draw() as u8;
     let mut output = [before; SHEET];
     let length = library::plan(input, &mut output);
     let reference = plan::plan(input);
