@@ -7,3 +7,4 @@ pub mod ChoiceLaws
 pub mod StepLaws
 pub mod FinishLaws
 pub mod ScanLaws
+pub mod LeftLaws

@@ -3,3 +3,4 @@ pub mod Chains
 pub mod Keys
 pub mod Walk
 pub mod Scan
+pub mod Left

@@ -1,5 +1,7 @@
 // The scan: it places relays one after another and gives each link its forest number in the same pass.
 mod chains;
 mod keys;
+pub mod left;
+pub mod scan;
 mod walk;
 mod scan;

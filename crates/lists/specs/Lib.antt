@@ -21,6 +21,9 @@ pub mod Ranks
 pub mod Totals
 pub mod Greatest
 pub mod Stretches
+pub mod SameOutcomes
+pub mod Front
+pub mod RefusedWithin
 pub mod Maps
 pub mod Cuts
 pub mod Pigeonhole
@@ -29,3 +32,4 @@ pub mod Ends
 pub mod Reversed
 pub mod Concat
 pub mod Stores
+pub mod Grids

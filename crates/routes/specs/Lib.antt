@@ -2,3 +2,4 @@
 pub mod Side
 pub mod Sides
 pub mod Writing
+pub mod Between

@@ -1,6 +1,6 @@
 -- Both sides of the sweep, A and B: the start, the step at a place and the sweep, as the loops run. Assumes nothing.
-use Prim.Native.Nat.{ℕ, zero, suc, _+_, pred}
-use mathlib.Core.Bool.{Bool, _||_}
+use Prim.Native.Nat.{ℕ, zero, suc, pred}
+use mathlib.Core.Bool.{_||_}
 use mathlib.Core.List.{List}
 use lib.Dec.{eqb}
 use Rattle.definitions.specs.Outcome.{pick}

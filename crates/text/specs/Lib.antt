@@ -6,3 +6,6 @@ pub mod Lines
 pub mod Put
 pub mod Answers
 pub mod Written
+pub mod Rows
+pub mod Read
+pub mod Tables

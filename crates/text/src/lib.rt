@@ -3,14 +3,34 @@ ghost use mathlib.Core.List.{[]};
 ghost use mathlib.Core.Path.{_≡_};
 ghost use Prim.Native.Nat.{_+_, _≤_, _<_};
 ghost use lib.ListN.{length, take};
-ghost use Rattle.definitions.specs.Text.{linkLines, textOf, writeAnswer, bufferAfter};
-ghost use Rattle.text.specs.Answers.{writeOutcome};
+ghost use Rattle.definitions.specs.Text.{
+  readLinks,
+  readNetwork,
+  readAnswer,
+  lowsAfter,
+  highsAfter,
+  linkLines,
+  textOf,
+  writeAnswer,
+  bufferAfter,
+};
+ghost use Rattle.text.specs.Answers.{readOutcome, writeOutcome};
 ghost use Rattle.text.specs.Put.{Put};
+ghost use Rattle.text.specs.Tables.{afterHeader, TableRead};
 
 pub mod put;
+pub mod rows;
 pub mod scan;
 
 use network::Refusal;
+use rows::Step;
+use scan::PairScan;
+
+// What Read answers: the number of relays and of links.
+pub enum ReadAnswer {
+    Table(u16, u16),
+    Refused(Refusal),
+}
 
 // What Write answers: the text's length in bytes.
 pub enum WriteAnswer {
@@ -75,6 +95,88 @@ pub fn write(n: u16, lows: &[u16], highs: &[u16], buffer: &mut [u8]) -> WriteAns
                 return WriteAnswer::Refused(Refusal::Room);
             }
             WriteAnswer::Length(put_text(buffer, n, lows, highs))
+        }
+    }
+}
+
+// The link lines and the end, for a header within the limits.
+fn read_lines(
+    text: &[u8],
+    n: u16,
+    m: u16,
+    at: usize,
+    lows: &mut [u16],
+    highs: &mut [u16],
+) -> ReadAnswer
+    requires { ⌜ (n ≤ 1000) × (m ≤ length (now lows)) × (m ≤ length (now highs)) ⌝ }
+    ensures { λ r. ⌜ TableRead (readLinks (now (text .entry)) n [] [] at m) (now (lows .entry)) (now (highs .entry)) (now (lows .exit)) (now (highs .exit)) r ⌝ }
+{
+    let mut seen = network::no_pairs();
+    match rows::read_links(text, n, m as usize, at, lows, highs, &mut seen) {
+        Step::Refused(refusal) => ReadAnswer::Refused(refusal),
+        Step::Next(p) => match rows::read_end(text, p) {
+            Step::Refused(refusal) => ReadAnswer::Refused(refusal),
+            Step::Next(_) => ReadAnswer::Table(n, m),
+        },
+    }
+}
+
+// All that comes after a header line with these two numbers.
+fn read_rows(
+    text: &[u8],
+    n: u16,
+    m: u16,
+    at: usize,
+    lows: &mut [u16],
+    highs: &mut [u16],
+) -> ReadAnswer
+    ensures { λ r. ⌜ TableRead (afterHeader (now (text .entry)) n m at (length (now (lows .entry))) (length (now (highs .entry)))) (now (lows .entry)) (now (highs .entry)) (now (lows .exit)) (now (highs .exit)) r ⌝ }
+{
+    if n < 1 {
+        return ReadAnswer::Refused(Refusal::RelayCount);
+    }
+    if 1000 < n {
+        return ReadAnswer::Refused(Refusal::RelayCount);
+    }
+    if 3000 < m {
+        return ReadAnswer::Refused(Refusal::LinkCount);
+    }
+    let size = m as usize;
+    if lows.len() < size {
+        return ReadAnswer::Refused(Refusal::TableRoom);
+    }
+    if highs.len() < size {
+        return ReadAnswer::Refused(Refusal::TableRoom);
+    }
+    read_lines(text, n, m, at, lows, highs)
+}
+
+// A text into the front of the two lists; what is behind the links read is left as it falls.
+fn read_table(text: &[u8], lows: &mut [u16], highs: &mut [u16]) -> ReadAnswer
+    ensures { λ r. ⌜ TableRead (readNetwork (now (text .entry)) (length (now (lows .entry))) (length (now (highs .entry)))) (now (lows .entry)) (now (highs .entry)) (now (lows .exit)) (now (highs .exit)) r ⌝ }
+{
+    match scan::header_line(text, 0) {
+        PairScan::Departs(p) => ReadAnswer::Refused(Refusal::Form(p)),
+        PairScan::Reads(n, m, p) => read_rows(text, n, m, p, lows, highs),
+    }
+}
+
+// Reads a text into a table.
+pub fn read(text: &[u8], lows: &mut [u16], highs: &mut [u16]) -> ReadAnswer
+    ensures answer { λ r. ⌜ readOutcome r ≡ readAnswer (now (text .entry)) (now (lows .entry)) (now (highs .entry)) ⌝ }
+    ensures lowList { λ r. ⌜ now (lows .exit) ≡ lowsAfter (now (text .entry)) (now (lows .entry)) (now (highs .entry)) ⌝ }
+    ensures highList { λ r. ⌜ now (highs .exit) ≡ highsAfter (now (text .entry)) (now (lows .entry)) (now (highs .entry)) ⌝ }
+{
+    match read_table(text, lows, highs) {
+        ReadAnswer::Refused(refusal) => {
+            rows::clear_from(lows, 0);
+            rows::clear_from(highs, 0);
+            ReadAnswer::Refused(refusal)
+        }
+        ReadAnswer::Table(n, m) => {
+            rows::clear_from(lows, m as usize);
+            rows::clear_from(highs, m as usize);
+            ReadAnswer::Table(n, m)
         }
     }
 }

@@ -9,5 +9,8 @@ pub mod FirstDeparture
 pub mod LinkByLink
 pub mod Onward
 pub mod RoundTrip
+pub mod Spans
+pub mod Reach
+pub mod Refusals
 pub mod Departure
 pub mod Longest

@@ -6,9 +6,6 @@ use Rattle.forests.specs.Scan.{ScannedTo}
 use Rattle.forests.proofs.ScanLaws.{relays-long, scan-starts, scan-places, scan-moves, scan-ends}
 use Rattle.forests.proofs.scan.place_all.Statement.{statement}
 use Rattle.forests.proofs.scan.place_all.Tie as tie
-use Rattle.forests.proofs.scan.place_all.Reads as reads
-use Rattle.forests.proofs.scan.place_all.Lts as lts
-use Rattle.forests.proofs.scan.place_next.Reads as place-next-reads
 
 abbrev Inv-loop : tie.InvT-loop
 Inv-loop n lows highs first lownext highnext keys₀ relays₀ places₀ forests₀ v₀ keys relays places forests v = (v ≤ n) × ScannedTo n lows highs v keys relays₀ relays places₀ places forests₀ forests
@@ -41,7 +38,7 @@ same-length-3 : tie.Need-same-length-3 Inv-loop μ-loop
 same-length-3 c = c .before .loop .inv .1 .forestsAt .long
 
 returns : tie.Need-returns Inv-loop μ-loop
-returns c = 
+returns c =
     let p : c .before .loop .v ≡ c .before .before .before .before .before .before .before .args .n = omega arith in
     scan-ends (c .before .before .before .before .before .before .before .pre) (rw p at (c .before .loop .inv .1))
 

@@ -6,12 +6,6 @@ use Rattle.forests.specs.Scan.{chosen}
 use borrow.Author.Needs.{needs}
 use Rattle.forests.proofs.scan.place_next.Statement.{statement}
 use Rattle.forests.proofs.scan.place_next.Tie as tie
-use Rattle.forests.proofs.scan.place_next.Reads as reads
-use Rattle.forests.proofs.scan.place_next.Lts as lts
-use Rattle.forests.proofs.keys.greatest_key.Reads as greatest-key-reads
-use Rattle.forests.proofs.keys.relay_of.Reads as relay-of-reads
-use Rattle.forests.proofs.scan.put.Reads as put-reads
-use Rattle.forests.proofs.walk.walk.Reads as walk-reads
 
 which : (c : tie.After-relay-of) → c .relay-of .result .0 ≡ chosen (c .before .before .before .before .before .before .before .before .args .n) (c .before .before .before .before .before .before .before .before .args .keys .now)
 unfolding chosen
@@ -39,7 +33,7 @@ same-length-3 : tie.Need-same-length-3
 same-length-3 c = search needs
 
 returns : tie.Need-returns
-returns c = 
+returns c =
     placed-one (c .before .before .before .before .before .before .before .before .before .before .before .before .relay-of .result .0) (which (c .before .before .before .before .before .before .before .before .before .before .before .before)) (c .before .before .before .before .before .before .before .before .before .put .ensures .0) (c .before .before .before .before .before .before .before .before .before .put .ensures .1) (c .before .before .walk .ensures)
 
 pub place-next-spec : {M : Type 1} → statement M

@@ -6,8 +6,6 @@ use Rattle.definitions.specs.Order.{relayAt}
 use borrow.Author.Needs.{needs}
 use Rattle.forests.proofs.scan.relay_at.Statement.{statement}
 use Rattle.forests.proofs.scan.relay_at.Tie as tie
-use Rattle.forests.proofs.scan.relay_at.Reads as reads
-use Rattle.forests.proofs.scan.relay_at.Lts as lts
 
 sub-at : tie.Need-sub-at
 sub-at c = search needs

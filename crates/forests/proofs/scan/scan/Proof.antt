@@ -5,14 +5,6 @@ use Rattle.forests.proofs.ScanLaws.{chain-ready}
 use borrow.Author.Needs.{needs}
 use Rattle.forests.proofs.scan.scan.Statement.{statement}
 use Rattle.forests.proofs.scan.scan.Tie as tie
-use Rattle.forests.proofs.scan.scan.Reads as reads
-use Rattle.forests.proofs.scan.scan.Lts as lts
-use Rattle.forests.proofs.chains.link_up.Reads as link-up-reads
-use Rattle.forests.proofs.chains.no_heads.Reads as no-heads-reads
-use Rattle.forests.proofs.chains.no_nexts.Reads as no-nexts-reads
-use Rattle.forests.proofs.keys.no_keys.Reads as no-keys-reads
-use Rattle.forests.proofs.keys.start_keys.Reads as start-keys-reads
-use Rattle.forests.proofs.scan.place_all.Reads as place-all-reads
 
 cast-no-heads : tie.Need-cast-no-heads
 cast-no-heads c = omega (arith, accepted (c .before .before .before .before .before .args .n) (c .before .before .before .before .before .args .lows .now) (c .before .before .before .before .before .args .highs .now) (c .before .before .before .before .before .pre .accepted) .short)

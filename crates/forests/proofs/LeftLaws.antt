@@ -1,0 +1,255 @@
+-- The left table link by link: its entries are left entries, and each link so far has its own. Assumes nothing.
+use Prim.Native.Nat.{ℕ, zero, suc, _+_, _-_, _*_, _≤_, _<_, min, max}
+use mathlib.Core.Bool.{Bool, true, false}
+use mathlib.Core.List.{List}
+use mathlib.Core.Logic.{_≢_}
+use mathlib.Core.Path.{_≡_, refl, sym, _∙_, ap, ap₂}
+use native.Mathlib.Decide.{ℕ-discrete, decLe}
+use native.Mathlib.Omega.{arith}
+use borrow.Author.Tests.{le-leb, lt-leb}
+use lib.Dec.{leb}
+use lib.ListN.{length, getD, set, length-set}
+use lib.Seq.{getD-set-same, getD-set-other}
+use Rattle.definitions.specs.Outcome.{pick}
+use Rattle.definitions.specs.Lists.{table as tableOf, overwrite}
+use Rattle.definitions.specs.Network.{linked, Accepted}
+use Rattle.definitions.specs.Order.{orderOf, placeOf, placesOf}
+use Rattle.definitions.specs.Forests.{forestOf, forestsOf}
+use Rattle.definitions.specs.Route.{leftOf}
+use Rattle.lists.specs.Tables.{length-table, getD-table, length-overwrite}
+use Rattle.lists.specs.Overwritten.{getD-overwrite}
+use Rattle.lists.specs.Grids.{grid-within, grid-row, grid-entry}
+use Rattle.theory.specs.Accepted.{accepted}
+use Rattle.theory.specs.Ordering.{order-length}
+use Rattle.theory.specs.ForestNumbers.{earlierPlace, laterPlace, LinkForest, forest-of-link, link-of-left}
+use Rattle.forests.specs.Scan.{Scannable, Scanned}
+use Rattle.forests.specs.Left.{leftIndex, laterAt, earlierAt, Enterable, entered, LeftInput, LeftTable}
+
+-- A link entered or passed over, in the code's terms.
+pub entered-some : (n k i : ℕ) (lows highs places forests table table′ : List ℕ) (late early : ℕ) → getD forests i 0 ≤ k
+    → late ≡ laterAt lows highs places i → early ≡ earlierAt lows highs places i
+    → table′ ≡ set table (leftIndex n (getD forests i 0) late) early
+    → table′ ≡ entered n k i lows highs places forests table
+unfolding entered
+entered-some n k i lows highs places forests table table′ late early h l e t =
+    rw (le-leb (getD forests i 0) k h) (t ∙ ap₂ (λ v u. set table (leftIndex n (getD forests i 0) v) u) l e)
+
+pub entered-none : (n k i : ℕ) (lows highs places forests table : List ℕ) → k < getD forests i 0
+    → table ≡ entered n k i lows highs places forests table
+unfolding entered
+entered-none n k i lows highs places forests table h = rw (lt-leb (getD forests i 0) k h)
+
+module _ (n : ℕ) (lows highs : List ℕ) where
+  -- The forest number of link i by the definition.
+  abbrev numberAt : ℕ → ℕ
+  numberAt i = forestOf (linked lows highs) (orderOf n lows highs) lows highs i
+
+  abbrev lateAt : ℕ → ℕ
+  lateAt i = laterPlace (orderOf n lows highs) lows highs i
+
+  abbrev earlyAt : ℕ → ℕ
+  earlyAt i = earlierPlace (orderOf n lows highs) lows highs i
+
+-- The table when the links below i are entered.
+pub record LeftTo (n k : ℕ) (lows highs : List ℕ) (i : ℕ) (table table′ : List ℕ) : Type 0 where
+  pub long : length table′ ≡ length table
+  pub sound : (f v : ℕ) → 1 ≤ f → f ≤ k → 1 ≤ v → v ≤ n → 0 < getD table′ (leftIndex n f v) 0
+      → getD table′ (leftIndex n f v) 0 ≡ leftOf n lows highs f v
+  pub full : (j : ℕ) → j < i → j < length lows → numberAt n lows highs j ≤ k
+      → getD table′ (leftIndex n (numberAt n lows highs j) (lateAt n lows highs j)) 0 ≡ earlyAt n lows highs j
+  pub rest : (j : ℕ) → k * n ≤ j → getD table′ j 0 ≡ getD table j 0
+
+-- Two places of the table with one index are one.
+index-same : (n f v g w : ℕ) → 1 ≤ f → 1 ≤ v → v ≤ n → 1 ≤ g → 1 ≤ w → w ≤ n → leftIndex n f v ≡ leftIndex n g w
+    → (f ≡ g) × (v ≡ w)
+index-same n f v g w a b c d p q e =
+    let row = grid-row (f - 1) (v - 1) (g - 1) (w - 1) n (omega arith) (omega arith) e in
+    let entry = grid-entry (f - 1) (v - 1) (g - 1) (w - 1) n (omega arith) (omega arith) e in
+    omega arith
+
+index-within : (n k f v : ℕ) → 1 ≤ f → f ≤ k → 1 ≤ v → v ≤ n → leftIndex n f v < k * n
+index-within n k f v a b c d = grid-within (f - 1) (v - 1) k n (omega arith) (omega arith)
+
+module _ {n k : ℕ} {lows highs places forests table : List ℕ} (can : LeftInput n k lows highs places forests table) where
+  link : (i : ℕ) → i < length lows → LinkForest (orderOf n lows highs) lows highs i
+  link = forest-of-link n lows highs (can .accepted)
+
+  late-within : (i : ℕ) → i < length lows → lateAt n lows highs i ≤ n
+  late-within i h = omega (arith, link i h .within, order-length n lows highs)
+
+  left-entry : (i : ℕ) → i < length lows → leftOf n lows highs (numberAt n lows highs i) (lateAt n lows highs i) ≡ earlyAt n lows highs i
+  unfolding leftOf
+  left-entry i h = link i h .isLeft
+
+  late-is : (i : ℕ) → i < length lows → laterAt lows highs places i ≡ lateAt n lows highs i
+  late-is i h =
+      let t = accepted n lows highs (can .accepted) in
+      ap₂ max (can .place (getD lows i 0) (omega (arith, t .ordered i h, t .below i h))) (can .place (getD highs i 0) (t .below i h))
+
+  early-is : (i : ℕ) → i < length lows → earlierAt lows highs places i ≡ earlyAt n lows highs i
+  early-is i h =
+      let t = accepted n lows highs (can .accepted) in
+      ap₂ min (can .place (getD lows i 0) (omega (arith, t .ordered i h, t .below i h))) (can .place (getD highs i 0) (t .below i h))
+
+  pub left-starts : LeftTo n k lows highs 0 table table
+  left-starts =
+      record {
+        long = refl;
+        sound = λ f v a b c d p. absurd (omega (arith, can .zeros (leftIndex n f v) (index-within n k f v a b c d)));
+        full = λ j h. absurd (omega arith);
+        rest = λ j h. refl;
+      }
+
+  pub left-enters : {table′ : List ℕ} (i : ℕ) → i < length lows → LeftTo n k lows highs i table table′
+      → Enterable n k i lows highs places forests table′
+  left-enters {table′} i h at =
+      let t = accepted n lows highs (can .accepted) in
+      let l = link i h in
+      let late = late-is i h in
+      let number = can .forest i h in
+      record {
+        within = h;
+        even = t .even;
+        room = omega (arith, can .forestRoom);
+        low = omega (arith, t .ordered i h, t .below i h, can .placeRoom);
+        high = omega (arith, t .below i h, can .placeRoom);
+        some = omega (arith, late, l .under);
+        forest = omega (arith, number, l .forest);
+        index = λ p.
+            rw (late, number)
+            (omega (
+              arith,
+              at .long,
+              can .tableRoom,
+              index-within n k (numberAt n lows highs i) (lateAt n lows highs i) (l .forest) (omega arith) (omega (arith, l .under)) (late-within i h),
+            ));
+      }
+
+  module _ {table′ : List ℕ} (i : ℕ) (h : i < length lows) (at : LeftTo n k lows highs i table table′) where
+    -- A link of a forest past the k-th changes nothing.
+    passed : k < numberAt n lows highs i → LeftTo n k lows highs (i + 1) table table′
+    passed p =
+        record {
+          long = at .long;
+          sound = at .sound;
+          full = λ j a b c. at .full j (below j a c (ℕ-discrete j i)) b c;
+          rest = at .rest;
+        }
+      where
+        below : (j : ℕ) → j < i + 1 → numberAt n lows highs j ≤ k → Dec (j ≡ i) → j < i
+        below j a c (yes e) = absurd (omega (arith, ap (numberAt n lows highs) e))
+        below j a c (no e) = omega arith
+
+    -- Another link has its entry.
+    entry : numberAt n lows highs i ≤ k
+        → LeftTo n k lows highs (i + 1) table
+        (set table′ (leftIndex n (numberAt n lows highs i) (lateAt n lows highs i)) (earlyAt n lows highs i))
+    entry p =
+        record {
+          long = length-set table′ at-index (earlyAt n lows highs i) ∙ at .long;
+          sound = λ f v a b c d q. sound f v a b c d (ℕ-discrete (leftIndex n f v) at-index) q;
+          full = λ j a b c. full j a b c (ℕ-discrete (leftIndex n (numberAt n lows highs j) (lateAt n lows highs j)) at-index);
+          rest = λ j a. getD-set-other table′ at-index j (earlyAt n lows highs i) 0 (λ e. omega (arith, within)) ∙ at .rest j a;
+        }
+      where
+        l : LinkForest (orderOf n lows highs) lows highs i
+        l = link i h
+
+        at-index : ℕ
+        at-index = leftIndex n (numberAt n lows highs i) (lateAt n lows highs i)
+
+        within : at-index < k * n
+        within = index-within n k (numberAt n lows highs i) (lateAt n lows highs i) (l .forest) p (omega (arith, l .under)) (late-within i h)
+
+        here : getD (set table′ at-index (earlyAt n lows highs i)) at-index 0 ≡ earlyAt n lows highs i
+        here = getD-set-same table′ at-index (earlyAt n lows highs i) 0 (omega (arith, within, at .long, can .tableRoom))
+
+        -- What stands at the index of link i, by forest and place.
+        same : (f v : ℕ) → 1 ≤ f → 1 ≤ v → v ≤ n → leftIndex n f v ≡ at-index → leftOf n lows highs f v ≡ earlyAt n lows highs i
+        same f v a c d e =
+            let is = index-same n f v (numberAt n lows highs i) (lateAt n lows highs i) a c d (l .forest) (omega (arith, l .under)) (late-within i h) e in
+            ap₂ (leftOf n lows highs) (is .0) (is .1) ∙ left-entry i h
+
+        sound : (f v : ℕ) → 1 ≤ f → f ≤ k → 1 ≤ v → v ≤ n → Dec (leftIndex n f v ≡ at-index)
+            → 0 < getD (set table′ at-index (earlyAt n lows highs i)) (leftIndex n f v) 0
+            → getD (set table′ at-index (earlyAt n lows highs i)) (leftIndex n f v) 0 ≡ leftOf n lows highs f v
+        sound f v a b c d (yes e) q = rw e (here ∙ sym (same f v a c d e))
+        sound f v a b c d (no e) q =
+            let old = getD-set-other table′ at-index (leftIndex n f v) (earlyAt n lows highs i) 0 e in
+            old ∙ at .sound f v a b c d (omega (arith, old))
+
+        full : (j : ℕ) → j < i + 1 → j < length lows → numberAt n lows highs j ≤ k
+            → Dec (leftIndex n (numberAt n lows highs j) (lateAt n lows highs j) ≡ at-index)
+            → getD (set table′ at-index (earlyAt n lows highs i)) (leftIndex n (numberAt n lows highs j) (lateAt n lows highs j)) 0
+            ≡ earlyAt n lows highs j
+        full j a b c (yes e) =
+            let m = link j b in
+            rw e
+            (here
+            ∙ sym (same (numberAt n lows highs j) (lateAt n lows highs j) (m .forest) (omega (arith, m .under)) (late-within j b) e)
+            ∙ left-entry j b)
+        full j a b c (no e) =
+            getD-set-other table′ at-index (leftIndex n (numberAt n lows highs j) (lateAt n lows highs j)) (earlyAt n lows highs i) 0 e
+            ∙ at .full j (before (ℕ-discrete j i)) b c
+          where
+            before : Dec (j ≡ i) → j < i
+            before (yes d) = absurd (e (ap (λ x. leftIndex n (numberAt n lows highs x) (lateAt n lows highs x)) d))
+            before (no d) = omega arith
+
+    pub left-moves : {table″ : List ℕ} → table″ ≡ entered n k i lows highs places forests table′
+        → LeftTo n k lows highs (i + 1) table table″
+    unfolding entered
+    left-moves {table″} e =
+        rw (e, late-is i h, early-is i h, can .forest i h) (go (decLe (numberAt n lows highs i) k))
+      where
+        go : Dec (numberAt n lows highs i ≤ k)
+            → LeftTo n k lows highs (i + 1) table
+            (pick (leb (numberAt n lows highs i) k)
+            (set table′ (leftIndex n (numberAt n lows highs i) (lateAt n lows highs i)) (earlyAt n lows highs i))
+            table′)
+        go (yes q) = rw (le-leb (numberAt n lows highs i) k q) (entry q)
+        go (no q) = rw (lt-leb (numberAt n lows highs i) k (omega arith)) (passed (omega arith))
+
+  pub left-ends : {table′ : List ℕ} → LeftTo n k lows highs (length lows) table table′ → LeftTable n k lows highs table table′
+  left-ends {table′} at =
+      record {
+        long = at .long;
+        entry = λ i v a b c d. entry i v a b c d (decLe (getD table′ (leftIndex n i v) 0) 0) (decLe (leftOf n lows highs i v) 0);
+        rest = at .rest;
+      }
+    where
+      entry : (i v : ℕ) → 1 ≤ i → i ≤ k → 1 ≤ v → v ≤ n → Dec (getD table′ (leftIndex n i v) 0 ≤ 0) → Dec (leftOf n lows highs i v ≤ 0)
+          → getD table′ (leftIndex n i v) 0 ≡ leftOf n lows highs i v
+      entry i v a b c d (no p) q = at .sound i v a b c d (omega arith)
+      entry i v a b c d (yes p) (yes q) = omega arith
+      entry i v a b c d (yes p) (no q) =
+          let w = link-of-left n lows highs i v (omega arith) in
+          let full = at .full (w .0) (w .1) (w .1) (omega (arith, w .5)) in
+          sym (ap₂ (λ f x. getD table′ (leftIndex n f x) 0) (w .5) (w .4)) ∙ full ∙ w .3
+
+-- What the scan gives is what the left table is made from.
+pub scanned-input : (n k : ℕ) (lows highs relays relays′ places places′ forests forests′ table : List ℕ)
+    → Scannable n lows highs relays places forests
+    → Scanned n lows highs relays relays′ places places′ forests forests′
+    → k * n ≤ length table → ((j : ℕ) → j < k * n → getD table j 0 ≡ 0)
+    → LeftInput n k lows highs places′ forests′ table
+unfolding placesOf forestsOf
+scanned-input n k lows highs relays relays′ places places′ forests forests′ table can done room zeros =
+    record {
+      accepted = can .accepted;
+      placeRoom = omega (arith, ap length (done .thePlaces), longer (placeOf (orderOf n lows highs)) n places (can .placeRoom), can .placeRoom);
+      forestRoom =
+          omega (arith, ap length (done .theForests), longer (numberAt n lows highs) (length lows) forests (can .forestRoom), can .forestRoom);
+      tableRoom = room;
+      place = λ r h. ap (λ l. getD l r 0) (done .thePlaces) ∙ front (placeOf (orderOf n lows highs)) n places r h;
+      forest = λ i h. ap (λ l. getD l i 0) (done .theForests) ∙ front (numberAt n lows highs) (length lows) forests i h;
+      zeros = zeros;
+    }
+  where
+    longer : (f : ℕ → ℕ) (m : ℕ) (old : List ℕ) → m ≤ length old → length (overwrite (tableOf f 0 m) old) ≡ length old
+    longer f m old h = length-overwrite (tableOf f 0 m) old (omega (arith, length-table f 0 m))
+
+    front : (f : ℕ → ℕ) (m : ℕ) (old : List ℕ) (i : ℕ) → i < m → getD (overwrite (tableOf f 0 m) old) i 0 ≡ f i
+    front f m old i h =
+        let z : 0 + i ≡ i = omega arith in
+        getD-overwrite (tableOf f 0 m) old i 0 (omega (arith, length-table f 0 m)) ∙ getD-table f 0 m i 0 h ∙ ap f z

@@ -1,0 +1,83 @@
+-- A link is entered under its later place. Assumes nothing.
+use Prim.Native.Nat.{min, max}
+use mathlib.Core.Path.{_≡_, _∙_, ap₂}
+use Rattle.forests.specs.Left.{laterAt, earlierAt}
+use Rattle.forests.proofs.LeftLaws.{entered-some, entered-none}
+use borrow.Author.Needs.{needs}
+use Rattle.forests.proofs.left.enter_link.Statement.{statement}
+use Rattle.forests.proofs.left.enter_link.Tie as tie
+
+mul-forest : tie.Need-mul-forest
+mul-forest c = search needs
+
+shared-slice-read-forest : tie.Need-shared-slice-read-forest
+shared-slice-read-forest c = search needs
+
+place-of-requires : tie.Need-place-of-requires
+place-of-requires c κs = search needs
+
+mul-forest-2 : tie.Need-mul-forest-2
+mul-forest-2 c = search needs
+
+shared-slice-read-forest-2 : tie.Need-shared-slice-read-forest-2
+shared-slice-read-forest-2 c = search needs
+
+place-of-requires-2 : tie.Need-place-of-requires-2
+place-of-requires-2 c κs = search needs
+
+mul-forest-3 : tie.Need-mul-forest-3
+mul-forest-3 c = search needs
+
+shared-slice-read-forest-3 : tie.Need-shared-slice-read-forest-3
+shared-slice-read-forest-3 c = search needs
+
+later-requires : tie.Need-later-requires
+later-requires c κs = search needs
+
+earlier-requires : tie.Need-earlier-requires
+earlier-requires c κs = search needs
+
+late : (c : tie.After-earlier) → c .before .later .result .0 ≡ laterAt (c .before .before .before .before .before .before .before .before .before .before .before .before .before .before .args .lows .now) (c .before .before .before .before .before .before .before .before .before .before .before .before .before .before .args .highs .now) (c .before .before .before .before .before .before .before .before .before .before .before .before .before .before .args .places .now) (c .before .before .before .before .before .before .before .before .before .before .before .before .before .before .args .i)
+late c = c .before .later .ensures ∙ ap₂ max (c .before .before .before .before .before .before .before .place-of .ensures) (c .before .before .before .before .before .place-of2 .ensures)
+
+early : (c : tie.After-earlier) → c .earlier .result .0 ≡ earlierAt (c .before .before .before .before .before .before .before .before .before .before .before .before .before .before .args .lows .now) (c .before .before .before .before .before .before .before .before .before .before .before .before .before .before .args .highs .now) (c .before .before .before .before .before .before .before .before .before .before .before .before .before .before .args .places .now) (c .before .before .before .before .before .before .before .before .before .before .before .before .before .before .args .i)
+early c = c .earlier .ensures ∙ ap₂ min (c .before .before .before .before .before .before .before .place-of .ensures) (c .before .before .before .before .before .place-of2 .ensures)
+
+put-left-requires : tie.Need-put-left-requires
+put-left-requires c κs =
+    let v = late c in
+    let p = c .before .before .before .before .before .before .before .before .before .before .before .before .before .before .pre in
+    (p .forest, rw v (p .some), rw v (p .index (c .before .before .before .if1 .taken)))
+
+same-length : tie.Need-same-length
+same-length c = search needs
+
+returns : tie.Need-returns
+returns c =
+    let a = c .before .before .before .before .before .before .before .before .before .before .before .before .before .before .before .before .before .args in
+    entered-some (a .n) (a .k) (a .i) (a .lows .now) (a .highs .now) (a .places .now) (a .forests .now) (a .table .now) (c .before .before .put-left .last .0)
+    (c .before .before .before .before .later .result .0) (c .before .before .before .earlier .result .0) (c .before .before .before .before .before .before .if1 .taken) (late (c .before .before .before)) (early (c .before .before .before)) (c .before .before .put-left .ensures)
+
+returns-2 : tie.Need-returns-2
+returns-2 c =
+    let a = c .before .before .before .before .before .before .before .before .before .before .before .args in
+    entered-none (a .n) (a .k) (a .i) (a .lows .now) (a .highs .now) (a .places .now) (a .forests .now) (a .table .now) (c .if1 .left)
+
+pub enter-link-spec : {M : Type 1} → statement M
+enter-link-spec =
+    tie.close
+    (tie.spec
+    mul-forest
+    shared-slice-read-forest
+    place-of-requires
+    mul-forest-2
+    shared-slice-read-forest-2
+    place-of-requires-2
+    mul-forest-3
+    shared-slice-read-forest-3
+    later-requires
+    earlier-requires
+    put-left-requires
+    same-length
+    returns
+    returns-2)

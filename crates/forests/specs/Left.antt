@@ -1,0 +1,57 @@
+-- What the left table holds. Assumes nothing.
+use Prim.Native.Nat.{ℕ, _+_, _-_, _*_, _≤_, _<_, min, max}
+use mathlib.Core.List.{List}
+use mathlib.Core.Path.{_≡_}
+use lib.Dec.{leb}
+use lib.ListN.{length, getD, set}
+use Rattle.definitions.specs.Outcome.{pick}
+use Rattle.definitions.specs.Network.{linked, Accepted}
+use Rattle.definitions.specs.Order.{orderOf, placeOf}
+use Rattle.definitions.specs.Forests.{forestOf}
+use Rattle.definitions.specs.Route.{leftOf}
+
+-- Where the entry of forest i and place v stands, both from 1.
+abbrev pub leftIndex : ℕ → ℕ → ℕ → ℕ
+leftIndex n i v = (i - 1) * n + (v - 1)
+
+-- The places of the ends of link i, the later and the earlier.
+abbrev pub laterAt : List ℕ → List ℕ → List ℕ → ℕ → ℕ
+laterAt lows highs places i = max (getD places (getD lows i 0) 0) (getD places (getD highs i 0) 0)
+
+abbrev pub earlierAt : List ℕ → List ℕ → List ℕ → ℕ → ℕ
+earlierAt lows highs places i = min (getD places (getD lows i 0) 0) (getD places (getD highs i 0) 0)
+
+-- What entering link i asks.
+pub record Enterable (n k i : ℕ) (lows highs places forests table : List ℕ) : Type 0 where
+  pub within : i < length lows
+  pub even : length lows ≡ length highs
+  pub room : i < length forests
+  pub low : getD lows i 0 < length places
+  pub high : getD highs i 0 < length places
+  pub some : 0 < laterAt lows highs places i
+  pub forest : 0 < getD forests i 0
+  pub index : getD forests i 0 ≤ k → leftIndex n (getD forests i 0) (laterAt lows highs places i) < length table
+
+-- The table with link i entered.
+unfoldable pub entered : ℕ → ℕ → ℕ → List ℕ → List ℕ → List ℕ → List ℕ → List ℕ → List ℕ
+entered n k i lows highs places forests table =
+    pick (leb (getD forests i 0) k)
+    (set table (leftIndex n (getD forests i 0) (laterAt lows highs places i)) (earlierAt lows highs places i))
+    table
+
+-- What the left table is made from: places and forest numbers of an accepted table, and zeros for the first k × n entries.
+pub record LeftInput (n k : ℕ) (lows highs places forests table : List ℕ) : Type 0 where
+  pub accepted : Accepted n lows highs
+  pub placeRoom : n ≤ length places
+  pub forestRoom : length lows ≤ length forests
+  pub tableRoom : k * n ≤ length table
+  pub place : (r : ℕ) → r < n → getD places r 0 ≡ placeOf (orderOf n lows highs) r
+  pub forest : (i : ℕ) → i < length lows
+      → getD forests i 0 ≡ forestOf (linked lows highs) (orderOf n lows highs) lows highs i
+  pub zeros : (j : ℕ) → j < k * n → getD table j 0 ≡ 0
+
+-- The left table, and nothing else has changed.
+pub record LeftTable (n k : ℕ) (lows highs table table′ : List ℕ) : Type 0 where
+  pub long : length table′ ≡ length table
+  pub entry : (i v : ℕ) → 1 ≤ i → i ≤ k → 1 ≤ v → v ≤ n → getD table′ (leftIndex n i v) 0 ≡ leftOf n lows highs i v
+  pub rest : (j : ℕ) → k * n ≤ j → getD table′ j 0 ≡ getD table j 0

@@ -1,0 +1,73 @@
+// The left table: entry (i − 1) × n + (v − 1) is left(i, v), 0 for none, for the forests 1 to k and the places 1 to n.
+use crate::scan::place_of;
+use network::Place;
+use network::Relay;
+ghost use Prim.Native.Nat.{min, max, _<_};
+ghost use mathlib.Core.Path.{_≡_};
+ghost use lib.ListN.{length, set};
+ghost use Rattle.forests.specs.Left.{leftIndex, Enterable, entered, LeftInput, LeftTable};
+
+fn earlier(p: Place, q: Place) -> Place
+    ensures { λ r. ⌜ r .0 ≡ min (p .0) (q .0) ⌝ }
+{
+    if p.0 < q.0 { p } else { q }
+}
+
+fn later(p: Place, q: Place) -> Place
+    ensures { λ r. ⌜ r .0 ≡ max (p .0) (q .0) ⌝ }
+{
+    if p.0 < q.0 { q } else { p }
+}
+
+// left(forest, v) is u: the one place that writes entries.
+fn put_left(table: &mut [u16], n: u16, forest: u16, v: Place, u: Place)
+    requires { ⌜ (0 < forest) × (0 < v .0) × (leftIndex n forest (v .0) < length (now table)) ⌝ }
+    ensures { λ _. ⌜ now (table .exit) ≡ set (now (table .entry)) (leftIndex n forest (v .0)) (u .0) ⌝ }
+{
+    let row = (forest as usize - 1) * (n as usize);
+    let at = row + (v.0 as usize - 1);
+    table[at] = u.0;
+}
+
+// Link i is entered if its forest is one of the first k.
+fn enter_link(
+    table: &mut [u16],
+    n: u16,
+    k: u16,
+    i: usize,
+    lows: &[u16],
+    highs: &[u16],
+    places: &[u16],
+    forests: &[u16],
+)
+    requires { ⌜ Enterable n k i (now lows) (now highs) (now places) (now forests) (now table) ⌝ }
+    ensures { λ _. ⌜ now (table .exit)
+        ≡ entered n k i (now (lows .entry)) (now (highs .entry)) (now (places .entry)) (now (forests .entry)) (now (table .entry)) ⌝ }
+{
+    let p = place_of(places, Relay(lows[i]));
+    let q = place_of(places, Relay(highs[i]));
+    let forest = forests[i];
+    if forest <= k {
+        put_left(table, n, forest, later(p, q), earlier(p, q));
+    }
+}
+
+// The left table of an accepted table, from the places and the forest numbers that the scan gives, into zeros.
+pub fn left_table(
+    table: &mut [u16],
+    n: u16,
+    k: u16,
+    lows: &[u16],
+    highs: &[u16],
+    places: &[u16],
+    forests: &[u16],
+)
+    requires { ⌜ LeftInput n k (now lows) (now highs) (now places) (now forests) (now table) ⌝ }
+    ensures { λ _. ⌜ LeftTable n k (now (lows .entry)) (now (highs .entry)) (now (table .entry)) (now (table .exit)) ⌝ }
+{
+    let mut i = 0;
+    while i < lows.len() {
+        enter_link(table, n, k, i, lows, highs, places, forests);
+        i += 1;
+    }
+}

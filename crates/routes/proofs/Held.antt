@@ -1,0 +1,129 @@
+-- A path of the sweep in the list of its side: its end and last but one at its index, and from there each relay's predecessor
+-- up to the start, which has none. What the two stores into a side, a path's end and last but one and a relay's predecessor,
+-- leave as it was. Over sides of 1,067 entries, indices up to 32 and places up to 1,000.
+use Prim.Native.Nat.{ℕ, _+_, _≤_, _<_}
+use mathlib.Core.Bool.{true}
+use mathlib.Core.List.{List, [], _∷_, tail}
+use mathlib.Core.Logic.{_≢_}
+use mathlib.Core.Path.{_≡_, sym, _∙_, subst}
+use native.Mathlib.Omega.{arith}
+use lib.ListN.{length, getD, set, length-set}
+use lib.Seq.{getD-set-same, getD-set-other}
+use Rattle.definitions.specs.Lists.{has}
+use Rattle.definitions.specs.Sweep.{endOf, beforeEnd}
+use Rattle.lists.specs.Cases.{has-here, has-there}
+use Rattle.routes.specs.Side.{endIn, secondIn, priorIn, setPath}
+
+-- From x back to the start of its path stand these relays.
+abbrev pub Chain : List ℕ → ℕ → List ℕ → Type 0
+Chain side x [] = x ≡ 0
+Chain side x (y ∷ rest) = (x ≡ y) × (0 < y) × Chain side (priorIn side y) rest
+
+-- Index i of a side has this path.
+abbrev pub HeldPath : List ℕ → ℕ → List ℕ → Type 0
+HeldPath side i [] = ⊥
+HeldPath side i (x ∷ rest) = (endIn side i ≡ x) × Chain side (secondIn side i) rest
+
+-- The side has these paths at the indices 1 to k, and its start c is the first relay of its path.
+pub record SideHeld (k c : ℕ) (side : List ℕ) (paths : ℕ → List ℕ) : Type 0 where
+  pub long : length side ≡ 1067
+  pub base : priorIn side c ≡ 0
+  pub held : (i : ℕ) → 1 ≤ i → i ≤ k → HeldPath side i (paths i)
+
+pub held-end : (side : List ℕ) (i : ℕ) (path : List ℕ) → HeldPath side i path → endIn side i ≡ endOf path
+unfolding endOf
+held-end side i [] h = absurd h
+held-end side i (x ∷ rest) h = h .0
+
+chain-head : (side : List ℕ) (x : ℕ) (path : List ℕ) → Chain side x path → x ≡ getD path 0 0
+chain-head side x [] e = e
+chain-head side x (y ∷ rest) h = h .0
+
+pub held-before : (side : List ℕ) (i : ℕ) (path : List ℕ) → HeldPath side i path → secondIn side i ≡ beforeEnd path
+unfolding beforeEnd
+held-before side i [] h = absurd h
+held-before side i (x ∷ rest) h = chain-head side (secondIn side i) rest (h .1)
+
+pub held-chain : (side : List ℕ) (i : ℕ) (path : List ℕ) → HeldPath side i path → Chain side (secondIn side i) (tail path)
+held-chain side i [] h = absurd h
+held-chain side i (x ∷ rest) h = h .1
+
+-- A chain whose relays keep their predecessors.
+pub chain-same : (side side′ : List ℕ) (x : ℕ) (path : List ℕ) → ((y : ℕ) → has path y ≡ true → priorIn side′ y ≡ priorIn side y)
+    → Chain side x path → Chain side′ x path
+chain-same side side′ x [] same e = e
+chain-same side side′ x (y ∷ rest) same h =
+    let deeper : Chain side′ (priorIn side y) rest =
+    chain-same side side′ (priorIn side y) rest (λ z into. same z (has-there y rest z into)) (h .2) in
+    (h .0, h .1, subst (λ (z : ℕ). Chain side′ z rest) (sym (same y (has-here y rest))) deeper)
+
+pub held-same : (side side′ : List ℕ) (i : ℕ) (path : List ℕ) → endIn side′ i ≡ endIn side i → secondIn side′ i ≡ secondIn side i
+    → ((y : ℕ) → has (tail path) y ≡ true → priorIn side′ y ≡ priorIn side y) → HeldPath side i path → HeldPath side′ i path
+held-same side side′ i [] e u same h = absurd h
+held-same side side′ i (x ∷ rest) e u same h =
+    (e ∙ h .0, subst (λ (z : ℕ). Chain side′ z rest) (sym u) (chain-same side side′ (secondIn side i) rest same (h .1)))
+
+module _ (side : List ℕ) (i end second : ℕ) where
+  pub length-setPath : length (setPath side i end second) ≡ length side
+  unfolding setPath
+  length-setPath = length-set (set side i end) (33 + i) second ∙ length-set side i end
+
+  pub prior-setPath : i ≤ 32 → (x : ℕ) → priorIn (setPath side i end second) x ≡ priorIn side x
+  unfolding setPath priorIn
+  prior-setPath small x =
+      getD-set-other (set side i end) (33 + i) (66 + x) second 0 (λ e. omega arith)
+      ∙ getD-set-other side i (66 + x) end 0 (λ e. omega arith)
+
+  pub end-setPath : length side ≡ 1067 → i ≤ 32 → endIn (setPath side i end second) i ≡ end
+  unfolding setPath endIn
+  end-setPath long small =
+      getD-set-other (set side i end) (33 + i) i second 0 (λ e. omega arith) ∙ getD-set-same side i end 0 (omega arith)
+
+  pub second-setPath : length side ≡ 1067 → i ≤ 32 → secondIn (setPath side i end second) i ≡ second
+  unfolding setPath secondIn
+  second-setPath long small = getD-set-same (set side i end) (33 + i) second 0 (omega (arith, length-set side i end))
+
+  module _ (h : ℕ) (other : h ≢ i) (small : i ≤ 32) (within : h ≤ 32) where
+    pub end-setPath-other : endIn (setPath side i end second) h ≡ endIn side h
+    unfolding setPath endIn
+    end-setPath-other =
+        getD-set-other (set side i end) (33 + i) h second 0 (λ e. omega arith) ∙ getD-set-other side i h end 0 other
+
+    pub second-setPath-other : secondIn (setPath side i end second) h ≡ secondIn side h
+    unfolding setPath secondIn
+    second-setPath-other =
+        getD-set-other (set side i end) (33 + i) (33 + h) second 0 (λ e. other (omega arith))
+        ∙ getD-set-other side i (33 + h) end 0 (λ e. omega arith)
+
+    -- The paths of the other indices stay.
+    pub held-setPath-other : (path : List ℕ) → HeldPath side h path → HeldPath (setPath side i end second) h path
+    held-setPath-other path =
+        held-same side (setPath side i end second) h path end-setPath-other second-setPath-other (λ y _. prior-setPath small y)
+
+  -- The path that was set.
+  pub held-setPath : length side ≡ 1067 → i ≤ 32 → (rest : List ℕ) → Chain side second rest
+      → HeldPath (setPath side i end second) i (end ∷ rest)
+  held-setPath long small rest chain =
+      let new : List ℕ = setPath side i end second in (
+        end-setPath long small,
+        subst (λ (z : ℕ). Chain new z rest) (sym (second-setPath long small))
+            (chain-same side new second rest (λ y _. prior-setPath small y) chain),
+      )
+
+-- The relay before v is stored.
+module _ (side : List ℕ) (v second : ℕ) where
+  pub end-setPrior : (i : ℕ) → i ≤ 32 → endIn (set side (66 + v) second) i ≡ endIn side i
+  unfolding endIn
+  end-setPrior i small = getD-set-other side (66 + v) i second 0 (λ e. omega arith)
+
+  pub second-setPrior : (i : ℕ) → i ≤ 32 → secondIn (set side (66 + v) second) i ≡ secondIn side i
+  unfolding secondIn
+  second-setPrior i small = getD-set-other side (66 + v) (33 + i) second 0 (λ e. omega arith)
+
+  pub prior-setPrior : length side ≡ 1067 → v ≤ 1000 → priorIn (set side (66 + v) second) v ≡ second
+  unfolding priorIn
+  prior-setPrior long high = getD-set-same side (66 + v) second 0 (omega arith)
+
+  pub prior-setPrior-other : (x : ℕ) → x ≢ v → priorIn (set side (66 + v) second) x ≡ priorIn side x
+  unfolding priorIn
+  prior-setPrior-other x other = getD-set-other side (66 + v) (66 + x) second 0 (λ e. other (omega arith))

@@ -1,0 +1,45 @@
+-- `between` meets its contract. Assumes nothing.
+use Rattle.routes.specs.Between.{betweenIn}
+use borrow.Author.Tests.{lt-ltb, le-ltb}
+use borrow.Author.Needs.{needs}
+use Rattle.routes.proofs.between.between.Statement.{statement}
+use Rattle.routes.proofs.between.between.Tie as tie
+
+fall-requires : tie.Need-fall-requires
+fall-requires c κs = search needs
+
+rise-requires : tie.Need-rise-requires
+rise-requires c κs = search needs
+
+same-length : tie.Need-same-length
+same-length c = search needs
+
+same-length-2 : tie.Need-same-length-2
+same-length-2 c = search needs
+
+returns : tie.Need-returns
+unfolding betweenIn
+returns c = rw (lt-ltb (c .before .before .before .before .before .before .before .before .before .before .before .before .before .before .args .q .0) (c .before .before .before .before .before .before .before .before .before .before .before .before .before .before .args .p .0) (c .before .before .before .before .before .before .before .if1 .taken)) (c .before .before .before .before .fall .ensures)
+
+same-length-3 : tie.Need-same-length-3
+same-length-3 c = search needs
+
+same-length-4 : tie.Need-same-length-4
+same-length-4 c = search needs
+
+returns-2 : tie.Need-returns-2
+unfolding betweenIn
+returns-2 c = rw (le-ltb (c .before .before .before .before .before .before .before .before .before .before .before .before .before .before .args .q .0) (c .before .before .before .before .before .before .before .before .before .before .before .before .before .before .args .p .0) (c .before .before .before .before .before .before .before .if1 .left)) (c .before .before .before .before .rise .ensures)
+
+pub between-spec : {M : Type 1} → statement M
+between-spec =
+    tie.close
+    (tie.spec
+    fall-requires
+    rise-requires
+    same-length
+    same-length-2
+    returns
+    same-length-3
+    same-length-4
+    returns-2)

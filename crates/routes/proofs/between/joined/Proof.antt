@@ -1,0 +1,23 @@
+-- `joined` meets its contract. Assumes nothing.
+use Rattle.routes.specs.Between.{joinedIn}
+use borrow.Author.Tests.{lt-ltb, le-ltb}
+use borrow.Author.Needs.{needs}
+use Rattle.routes.proofs.between.joined.Statement.{statement}
+use Rattle.routes.proofs.between.joined.Tie as tie
+
+alive-requires : tie.Need-alive-requires
+alive-requires c κs = search needs
+
+alive-requires-2 : tie.Need-alive-requires-2
+alive-requires-2 c κs = search needs
+
+returns : tie.Need-returns
+unfolding joinedIn
+returns c = rw (lt-ltb (c .before .before .before .before .before .args .q .0) (c .before .before .before .before .before .args .p .0) (c .before .if1 .taken)) (c .alive .ensures)
+
+returns-2 : tie.Need-returns-2
+unfolding joinedIn
+returns-2 c = rw (le-ltb (c .before .before .before .before .before .args .q .0) (c .before .before .before .before .before .args .p .0) (c .before .if1 .left)) (c .alive2 .ensures)
+
+pub joined-spec : {M : Type 1} → statement M
+joined-spec = tie.close (tie.spec alive-requires alive-requires-2 returns returns-2)

@@ -1,0 +1,105 @@
+// The routes between two places, over a left table.
+ghost use mathlib.Core.Path.{_≡_};
+ghost use Prim.Native.Nat.{_-_, _<_, _≤_};
+ghost use lib.ListN.{replicate};
+ghost use Rattle.routes.specs.Side.{leftIn};
+ghost use Rattle.routes.specs.Writing.{written};
+ghost use Rattle.routes.specs.Between.{aliveIn, joinedIn, fallIn, riseIn, betweenIn};
+use crate::side::left;
+use crate::sweep::sweep;
+use crate::write::write_routes;
+use network::Place;
+
+// No path yet.
+fn no_paths() -> [u16; 1067]
+    ensures { λ r. ⌜ r ≡ replicate 1067 0 ⌝ }
+{
+    [0u16; 1067]
+}
+
+// Each place after t up to s has a left entry of index k.
+fn alive(table: &[u16], n: u16, k: u16, t: u16, s: u16) -> bool
+    requires { ⌜ t ≤ s ⌝ }
+    ensures { λ r. ⌜ r ≡ aliveIn (leftIn (now (table .entry)) n) k t (s - t) ⌝ }
+{
+    let mut v = s;
+    while t < v {
+        if left(table, n, k, v) == 0 {
+            return false;
+        }
+        v -= 1;
+    }
+    true
+}
+
+// p and q are in one tree of forest k.
+pub(crate) fn joined(table: &[u16], n: u16, k: u16, p: Place, q: Place) -> bool
+    ensures { λ r. ⌜ r ≡ joinedIn (leftIn (now (table .entry)) n) k (p .0) (q .0) ⌝ }
+{
+    if q.0 < p.0 {
+        alive(table, n, k, q.0, p.0)
+    } else {
+        alive(table, n, k, p.0, q.0)
+    }
+}
+
+// The routes from s down to t.
+fn fall(
+    table: &[u16],
+    n: u16,
+    k: u16,
+    s: Place,
+    t: Place,
+    order: &[u16],
+    counts: &mut [u16],
+    relays: &mut [u16],
+) -> usize
+    requires { ⌜ (0 < s .0) × (k ≤ 32) ⌝ }
+    ensures { λ r. ⌜ written (now (counts .exit)) (now (relays .exit)) r ≡ fallIn (leftIn (now (table .entry)) n) k (s .0) (t .0) (now (order .entry)) (now (counts .entry)) (now (relays .entry)) ⌝ }
+{
+    let mut a = no_paths();
+    let mut b = no_paths();
+    sweep(&mut a, &mut b, table, n, k, s.0, t.0);
+    write_routes(counts, relays, &a, &b, order, k)
+}
+
+// The routes from t up to s.
+fn rise(
+    table: &[u16],
+    n: u16,
+    k: u16,
+    s: Place,
+    t: Place,
+    order: &[u16],
+    counts: &mut [u16],
+    relays: &mut [u16],
+) -> usize
+    requires { ⌜ (0 < s .0) × (k ≤ 32) ⌝ }
+    ensures { λ r. ⌜ written (now (counts .exit)) (now (relays .exit)) r ≡ riseIn (leftIn (now (table .entry)) n) k (s .0) (t .0) (now (order .entry)) (now (counts .entry)) (now (relays .entry)) ⌝ }
+{
+    let mut a = no_paths();
+    let mut b = no_paths();
+    sweep(&mut a, &mut b, table, n, k, s.0, t.0);
+    write_routes(counts, relays, &b, &a, order, k)
+}
+
+// The routes from p to q. Gives the number of relays written.
+pub(crate) fn between(
+    table: &[u16],
+    n: u16,
+    k: u16,
+    p: Place,
+    q: Place,
+    order: &[u16],
+    counts: &mut [u16],
+    relays: &mut [u16],
+) -> usize
+    requires { ⌜ (0 < p .0) × (0 < q .0) × (k ≤ 32) ⌝ }
+    ensures { λ r. ⌜ written (now (counts .exit)) (now (relays .exit)) r ≡ betweenIn (leftIn (now (table .entry)) n) k (p .0) (q .0) (now (order .entry)) (now (counts .entry)) (now (relays .entry)) ⌝ }
+{
+    if q.0 < p.0 {
+        fall(table, n, k, p, q, order, counts, relays)
+    } else {
+        rise(table, n, k, q, p, order, counts, relays)
+    }
+}

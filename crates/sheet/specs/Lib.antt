@@ -1,0 +1,8 @@
+-- What the planner prints: how far it looks, how much it writes, and the answers of its functions.
+pub mod Wish
+pub mod Lines
+pub mod Going
+pub mod Reach
+pub mod Planned
+pub mod Routes
+pub mod Longest

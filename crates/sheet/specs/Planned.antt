@@ -1,0 +1,143 @@
+-- What stands behind a sheet: the network that was read, the wish, and what Cut and Route answered.
+-- Assumes nothing.
+use Prim.Native.Nat.{ℕ, _≤_, _<_}
+use mathlib.Core.Bool.{false, _||_, not}
+use mathlib.Core.List.{List, [], _∷_}
+use mathlib.Core.Logic.{_≢_}
+use mathlib.Core.Path.{_≡_, sym, _∙_, ap}
+use native.Mathlib.Omega.{arith}
+use lib.Dec.{eqb, ltb, leb}
+use lib.ListN.{length, getD, drop}
+use borrow.Author.Tests.{eqb-false, leb-false}
+use Rattle.definitions.specs.Outcome.{done, refuseIf}
+use Rattle.definitions.specs.Lists.{outside, total, joinAll}
+use Rattle.definitions.specs.Network.{tableCheck, Accepted}
+use Rattle.definitions.specs.Forests.{marksOf, cutAnswer}
+use Rattle.definitions.specs.Route.{routesOf, endsInOneTree, tooShort, routeAnswer}
+use Rattle.definitions.specs.Form.{reads, scanForm}
+use Rattle.definitions.specs.Text.{Network, readNetwork}
+use Rattle.definitions.specs.Plan.{wishForm, Sheet, room, sheetFor, planned}
+use Rattle.lists.specs.Outcomes.{not-refused, then-done}
+use Rattle.lists.specs.SameOutcomes.{done-then}
+use Rattle.lists.specs.Ranges.{inside-range}
+use Rattle.lists.specs.Tests.{or-false}
+use Rattle.text_theory.specs.Forms.{Fits, wish-line}
+use Rattle.text_theory.specs.Lines.{read-line}
+use Rattle.text_theory.specs.RoundTrip.{on-scan-done, written-read}
+
+-- What Route passed before it answered.
+pub record RoutePassed (n : ℕ) (lows highs : List ℕ) (k from to : ℕ) (counts relays scratch : List ℕ) : Type 0 where
+  pub some : 1 ≤ k
+  pub few : k ≤ 32
+  pub starts : from < n
+  pub ends : to < n
+  pub differ : from ≢ to
+  pub fits : tooShort n k counts relays scratch ≡ false
+
+pub route-passed : (n : ℕ) (lows highs : List ℕ) (k from to : ℕ) (counts relays scratch values : List ℕ) → Accepted n lows highs
+    → routeAnswer n lows highs k from to counts relays scratch ≡ done values
+    → RoutePassed n lows highs k from to counts relays scratch
+unfolding routeAnswer
+route-passed n lows highs k from to counts relays scratch values table e =
+    let last = refuseIf (not (endsInOneTree n lows highs k from to)) 13 0
+    (done (length (joinAll (routesOf n lows highs k from to)) ∷ [])) in
+    let fitting = refuseIf (tooShort n k counts relays scratch) 12 0 last in
+    let differing = refuseIf (eqb from to) 11 0 fitting in
+    let ending = refuseIf (leb n from || leb n to) 10 0 differing in
+    let first : refuseIf (outside 1 32 k) 9 0 ending ≡ done values =
+    sym (then-done (tableCheck n lows highs) (λ _. refuseIf (outside 1 32 k) 9 0 ending) [] table) ∙ e in
+    let nine = not-refused (outside 1 32 k) 9 0 ending values first in
+    let ten = not-refused (leb n from || leb n to) 10 0 differing values (nine .1) in
+    let eleven = not-refused (eqb from to) 11 0 fitting values (ten .1) in
+    let twelve = not-refused (tooShort n k counts relays scratch) 12 0 last values (eleven .1) in
+    let range = inside-range 1 32 k (nine .0) in
+    let within = or-false (leb n from) (leb n to) (ten .0) in
+    record {
+      some = range .0;
+      few = range .1;
+      starts = leb-false n from (within .0);
+      ends = leb-false n to (within .1);
+      differ = eqb-false from to (eleven .0);
+      fits = twelve .0;
+    }
+
+pub cut-count : (n : ℕ) (lows highs : List ℕ) (k : ℕ) (marks values : List ℕ) → Accepted n lows highs
+    → cutAnswer n lows highs k marks ≡ done values → values ≡ total (marksOf n lows highs k) ∷ []
+unfolding cutAnswer
+cut-count n lows highs k marks values table e =
+    let last = done (total (marksOf n lows highs k) ∷ []) in
+    let fitting = refuseIf (ltb (length marks) (length lows)) 12 0 last in
+    let first : refuseIf (outside 1 32 k) 9 0 fitting ≡ done values =
+    sym (then-done (tableCheck n lows highs) (λ _. refuseIf (outside 1 32 k) 9 0 fitting) [] table) ∙ e in
+    let nine = not-refused (outside 1 32 k) 9 0 fitting values first in
+    let twelve = not-refused (ltb (length marks) (length lows)) 12 0 last values (nine .1) in
+    let same = twelve .1 in
+    cc
+
+-- The sheet of a network, with so many links kept.
+abbrev pub sheetOf : ℕ → ℕ → ℕ → Network → ℕ → Sheet
+sheetOf from to k network kept =
+    record {
+      from = from;
+      to = to;
+      k = k;
+      routes = routesOf (network .relays) (network .lows) (network .highs) k from to;
+      kept = kept;
+    }
+
+-- A sheet for a network that was read.
+pub record SheetFor (from to k : ℕ) (network : Network) (sheet : Sheet) : Type 0 where
+  pub answer : List ℕ
+  pub routed : routeAnswer (network .relays) (network .lows) (network .highs) k from to (room 32) (room 1062) (room 32000) ≡ done answer
+  pub sheetIs : sheet ≡ sheetOf from to k network (total (marksOf (network .relays) (network .lows) (network .highs) k))
+
+done-same : {A : Type 0} (a b : A) → done a ≡ done b → a ≡ b
+done-same a b e = cc
+
+pub sheet-for : (from to k : ℕ) (network : Network) (sheet : Sheet)
+    → Accepted (network .relays) (network .lows) (network .highs) → sheetFor from to k network ≡ done sheet
+    → SheetFor from to k network sheet
+unfolding sheetFor
+sheet-for from to k network sheet table e =
+    let n = network .relays in
+    let lows = network .lows in
+    let highs = network .highs in
+    let (kept, cut, after) = done-then (cutAnswer n lows highs k (room 3000)) _ sheet e in
+    let (values, routed, last) =
+    done-then (routeAnswer n lows highs k from to (room 32) (room 1062) (room 32000)) _ sheet after in
+    let counted = cut-count n lows highs k (room 3000) kept table cut in
+    record {
+      answer = values;
+      routed = routed;
+      sheetIs =
+          sym (done-same _ sheet last)
+          ∙ ap (λ (values : List ℕ). sheetOf from to k network (getD values 0 0)) counted;
+    }
+
+-- A sheet that the planner prints: its wish, and the network that was read behind the wish line.
+pub record PlannedSheet (input : List ℕ) (sheet : Sheet) : Type 0 where
+  pub wish : List ℕ
+  pub behind : ℕ
+  pub network : Network
+  pub wished : scanForm input wishForm 0 ≡ reads wish behind
+  pub numbers : Fits wishForm wish
+  pub read : readNetwork (drop behind input) 3000 3000 ≡ done network
+  pub table : Accepted (network .relays) (network .lows) (network .highs)
+  pub given : SheetFor (getD wish 0 0) (getD wish 1 0) (getD wish 2 0) network sheet
+
+pub planned-sheet : (input : List ℕ) (sheet : Sheet) → planned input ≡ done sheet → PlannedSheet input sheet
+unfolding planned
+planned-sheet input sheet e =
+    let (wish, p, wished, after) = on-scan-done 1 (scanForm input wishForm 0) _ sheet e in
+    let (network, read, last) = done-then (readNetwork (drop p input) 3000 3000) _ sheet after in
+    let table = written-read (drop p input) 3000 3000 network read .1 in
+    record {
+      wish = wish;
+      behind = p;
+      network = network;
+      wished = wished;
+      numbers = read-line wishForm input 0 wish p wish-line (omega arith) wished .0;
+      read = read;
+      table = table;
+      given = sheet-for (getD wish 0 0) (getD wish 1 0) (getD wish 2 0) network sheet table last;
+    }

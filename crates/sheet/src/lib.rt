@@ -1,0 +1,3 @@
+// The planner of document 01: from the bytes of the input to the bytes of the output.
+pub mod print;
+pub mod wish;

@@ -1,0 +1,122 @@
+-- `text::rows::read_link` meets its contract: the line departs, the link has a fault, or it is stored. Assumes nothing.
+use mathlib.Core.Path.{sym, _∙_, ap}
+use native.Mathlib.Omega.{arith}
+use borrow.Author.Needs.{needs}
+use denote.Ref.{now}
+use Rattle.network.specs.Seen.{faultOf}
+use Rattle.network.specs.declared.Refusal.the-variants.{RelayRange, NotBelow, Repeated}
+use Rattle.text.specs.Scans.{pairGives}
+use Rattle.text.specs.Read.{read-departs, read-faulty, read-fine}
+use Rattle.text.proofs.rows.read_link.Statement.{statement}
+use Rattle.text.proofs.rows.read_link.Tie as tie
+
+link-line-requires : tie.Need-link-line-requires
+link-line-requires c κs = search needs
+
+enum-known-p : tie.Need-enum-known-p
+enum-known-p c = search needs
+
+enum-known-a : tie.Need-enum-known-a
+enum-known-a c = search needs
+
+check-link-requires : tie.Need-check-link-requires
+check-link-requires c κs = search needs
+
+enum-told : tie.Need-enum-told
+enum-told c = search needs
+
+enum-told-2 : tie.Need-enum-told-2
+enum-told-2 c = search needs
+
+enum-told-3 : tie.Need-enum-told-3
+enum-told-3 c = search needs
+
+enum-told-4 : tie.Need-enum-told-4
+enum-told-4 c = search needs
+
+mul-lows : tie.Need-mul-lows
+mul-lows c = search needs
+
+slice-write-lows : tie.Need-slice-write-lows
+slice-write-lows c = search needs
+
+mul-highs : tie.Need-mul-highs
+mul-highs c = search needs
+
+slice-write-highs : tie.Need-slice-write-highs
+slice-write-highs c = search needs
+
+returns : tie.Need-returns
+returns c =
+    let a = c .before .before .before .before .before .before .before .args in
+    read-departs (now (a .text)) (a .n) (a .i) (a .at) (now (a .lows)) (now (a .highs)) _ _
+    (sym (c .before .before .before .link-line .ensures) ∙ ap pairGives (c .before .p .given .1))
+
+returns-2 : tie.Need-returns-2
+returns-2 c =
+    let a = c .before .before .before .before .before .before .before .before .before .before .before .args in
+    let fault = ap faultOf (c .enum-told .given .1) in
+    read-faulty (now (a .text)) (a .n) (a .i) (a .at) (now (a .lows)) (now (a .highs)) (now (a .seen)) _ _ _ _ _
+    (c .before .before .before .before .before .before .before .before .before .before .before .pre .0 .0) (c .before .before .before .before .before .before .before .before .before .before .before .pre .0 .1) (c .before .before .before .before .before .before .before .before .before .before .before .pre .0 .2) (c .before .before .before .before .before .before .before .before .before .before .before .pre .1)
+    (c .before .before .check-link .ensures)
+    (sym (c .before .before .before .before .before .before .before .link-line .ensures) ∙ ap pairGives (c .before .before .before .before .before .a .given .1))
+    (RelayRange (a .i)) (omega (arith, fault)) (rw fault)
+
+returns-3 : tie.Need-returns-3
+returns-3 c =
+    let a = c .before .before .before .before .before .before .before .before .before .before .before .args in
+    let fault = ap faultOf (c .enum-told2 .given .1) in
+    read-faulty (now (a .text)) (a .n) (a .i) (a .at) (now (a .lows)) (now (a .highs)) (now (a .seen)) _ _ _ _ _
+    (c .before .before .before .before .before .before .before .before .before .before .before .pre .0 .0) (c .before .before .before .before .before .before .before .before .before .before .before .pre .0 .1) (c .before .before .before .before .before .before .before .before .before .before .before .pre .0 .2) (c .before .before .before .before .before .before .before .before .before .before .before .pre .1)
+    (c .before .before .check-link .ensures)
+    (sym (c .before .before .before .before .before .before .before .link-line .ensures) ∙ ap pairGives (c .before .before .before .before .before .a .given .1))
+    (NotBelow (a .i)) (omega (arith, fault)) (rw fault)
+
+returns-4 : tie.Need-returns-4
+returns-4 c =
+    let a = c .before .before .before .before .before .before .before .before .before .before .before .args in
+    let fault = ap faultOf (c .enum-told3 .given .1) in
+    read-faulty (now (a .text)) (a .n) (a .i) (a .at) (now (a .lows)) (now (a .highs)) (now (a .seen)) _ _ _ _ _
+    (c .before .before .before .before .before .before .before .before .before .before .before .pre .0 .0) (c .before .before .before .before .before .before .before .before .before .before .before .pre .0 .1) (c .before .before .before .before .before .before .before .before .before .before .before .pre .0 .2) (c .before .before .before .before .before .before .before .before .before .before .before .pre .1)
+    (c .before .before .check-link .ensures)
+    (sym (c .before .before .before .before .before .before .before .link-line .ensures) ∙ ap pairGives (c .before .before .before .before .before .a .given .1))
+    (Repeated (a .i)) (omega (arith, fault)) (rw fault)
+
+same-length : tie.Need-same-length
+same-length c = search needs
+
+same-length-2 : tie.Need-same-length-2
+same-length-2 c = search needs
+
+returns-5 : tie.Need-returns-5
+returns-5 c =
+    let a = c .before .before .before .before .before .before .before .before .before .before .before .args in
+    read-fine (now (a .text)) (a .n) (a .i) (a .at) (now (a .lows)) (now (a .highs)) (now (a .seen)) _ _ _ _ _
+    (c .before .before .before .before .before .before .before .before .before .before .before .pre .0 .0) (c .before .before .before .before .before .before .before .before .before .before .before .pre .0 .1) (c .before .before .before .before .before .before .before .before .before .before .before .pre .0 .2) (c .before .before .before .before .before .before .before .before .before .before .before .pre .1)
+    (c .before .before .check-link .ensures)
+    (sym (c .before .before .before .before .before .before .before .link-line .ensures) ∙ ap pairGives (c .before .before .before .before .before .a .given .1))
+    (ap faultOf (c .enum-told4 .given .1))
+
+pub read-link-spec : {M : Type 1} → statement M
+read-link-spec =
+    tie.close
+    (tie.spec
+    link-line-requires
+    enum-known-p
+    enum-known-a
+    check-link-requires
+    enum-told
+    enum-told-2
+    enum-told-3
+    enum-told-4
+    mul-lows
+    slice-write-lows
+    mul-highs
+    slice-write-highs
+    returns
+    returns-2
+    returns-3
+    returns-4
+    same-length
+    same-length-2
+    returns-5)

@@ -1,0 +1,156 @@
+-- How the definition reads a link line and the end, by what the form gave, and zeros from an index on. Assumes nothing.
+use Prim.Native.Nat.{ℕ, suc, _+_, _-_, _≤_, _<_}
+use mathlib.Core.List.{List, [], _∷_, _++_, append-nil}
+use mathlib.Core.Path.{_≡_, refl, sym, _∙_, ap, subst}
+use native.Mathlib.Numerals.{add-one}
+use native.Mathlib.Omega.{arith}
+use lib.ListN.{length, take, set, replicate, length-set, length-append}
+use lib.Seq.{take-all, take-suc-set, append-snoc, length-take-le}
+use borrow.Author.Tests.{lt-ltb, le-ltb}
+use Rattle.definitions.specs.Outcome.{Outcome, refused, done, refuseIf}
+use Rattle.definitions.specs.Network.{linkFault}
+use Rattle.definitions.specs.Form.{departs, reads, scanForm, onScan}
+use Rattle.definitions.specs.Text.{linkForm, endForm, Network, readEnd, readLinks}
+use Rattle.network.specs.Answers.{refusalOf}
+use Rattle.network.specs.Seen.{faultOf, LinkChecked, Seen, seen-fault, seen-snoc}
+use Rattle.network.specs.declared.LinkCheck.{LinkCheck}
+use Rattle.network.specs.declared.Refusal.{Refusal}
+use Rattle.network.specs.declared.Refusal.the-variants.{Form}
+use Rattle.text.specs.Rows.{onStep, IfRead, LinkRead, clearedFrom}
+use Rattle.text.specs.declared.rows.Step.{Step}
+use Rattle.text.specs.declared.rows.Step.the-variants.{Next, Refused}
+
+-- A link line that departs, one with a fault, and one without.
+module _ (text : List ℕ) (n : ℕ) (lows highs : List ℕ) (at count : ℕ) where
+  pub link-departs : (p : ℕ) → scanForm text linkForm at ≡ departs p
+      → readLinks text n lows highs at (suc count) ≡ refused 2 p
+  unfolding readLinks onScan
+  link-departs p e = rw e
+
+  pub link-faulty : (a b p fault : ℕ) → scanForm text linkForm at ≡ reads (a ∷ b ∷ []) p
+      → linkFault n lows highs (length lows) a b ≡ fault → 0 < fault
+      → readLinks text n lows highs at (suc count) ≡ refused fault (length lows)
+  unfolding readLinks onScan refuseIf
+  link-faulty a b p fault e f h = rw (e, f, lt-ltb 0 fault h)
+
+  pub link-fine : (a b p : ℕ) → scanForm text linkForm at ≡ reads (a ∷ b ∷ []) p
+      → linkFault n lows highs (length lows) a b ≡ 0
+      → readLinks text n lows highs at (suc count) ≡ readLinks text n (lows ++ (a ∷ [])) (highs ++ (b ∷ [])) p count
+  unfolding readLinks onScan refuseIf
+  link-fine a b p e f = rw (e, f)
+
+-- An end line that departs, one with something after it, and one at the end of the text.
+module _ (text : List ℕ) (n : ℕ) (lows highs : List ℕ) (at p : ℕ) where
+  pub end-departs : scanForm text endForm at ≡ departs p → readEnd text n lows highs at ≡ refused 2 p
+  unfolding readEnd onScan
+  end-departs e = rw e
+
+  pub end-more : scanForm text endForm at ≡ reads [] p → p < length text → readEnd text n lows highs at ≡ refused 2 p
+  unfolding readEnd onScan refuseIf
+  end-more e h = rw (e, lt-ltb p (length text) h)
+
+  pub end-done : scanForm text endForm at ≡ reads [] p → length text ≤ p
+      → readEnd text n lows highs at ≡ done (record { relays = n; lows = lows; highs = highs })
+  unfolding readEnd onScan refuseIf
+  end-done e h = rw (e, le-ltb p (length text) h)
+
+-- One more link in a list.
+pub take-stored : (list : List ℕ) (i x : ℕ) → i < length list → take (i + 1) (set list i x) ≡ take i list ++ (x ∷ [])
+take-stored list i x h = rw (add-one i) (take-suc-set list i x h)
+
+-- Zeros from an index on: one more, and the end.
+pub clear-step : (list : List ℕ) (i : ℕ) → i < length list → clearedFrom i list ≡ clearedFrom (i + 1) (set list i 0)
+unfolding clearedFrom
+clear-step list i h =
+    let e : length list - i ≡ suc (length list - (i + 1)) = omega arith in
+    rw (take-stored list i 0 h, length-set list i 0, e) (sym (append-snoc (take i list) 0 (replicate (length list - (i + 1)) 0)))
+
+pub clear-end : (list : List ℕ) (i : ℕ) → length list ≤ i → clearedFrom i list ≡ list
+unfolding clearedFrom
+clear-end list i h =
+    let e : length list - i ≡ 0 = omega arith in
+    rw (take-all i list h, e) (append-nil list)
+
+-- What `read_link` promises, way by way.
+module _ (text : List ℕ) (n i at : ℕ) (lows highs : List ℕ) where
+  pub read-departs : (then : List ℕ) (p : ℕ) → scanForm text linkForm at ≡ departs p
+      → LinkRead text n i at lows highs lows highs then (Refused (Form p))
+  read-departs then p e =
+      record {
+        follows = λ count. link-departs text n (take i lows) (take i highs) at count p e;
+        seen = tt;
+        sameLows = refl;
+        sameHighs = refl;
+      }
+
+  module _ (bits : List ℕ) (a b p : ℕ) (then : List ℕ) (r : LinkCheck) (small : n ≤ 1000) (lowRoom : i < length lows) (highRoom : i < length highs)
+      (marks : Seen bits (take i lows) (take i highs) i) (checked : LinkChecked n a b bits then r)
+      (scanned : scanForm text linkForm at ≡ reads (a ∷ b ∷ []) p) where
+    count-of : length (take i lows) ≡ i
+    count-of = length-take-le i lows (omega arith)
+
+    fault-of : linkFault n (take i lows) (take i highs) (length (take i lows)) a b ≡ faultOf r
+    fault-of = rw count-of (sym (seen-fault n a b (take i lows) (take i highs) i bits then r small marks checked))
+
+    pub read-faulty : (refusal : Refusal) → 0 < faultOf r → refusalOf {A = Network} refusal ≡ refused (faultOf r) i
+        → LinkRead text n i at lows highs lows highs then (Refused refusal)
+    read-faulty refusal h e =
+        record {
+          follows = λ count.
+              link-faulty text n (take i lows) (take i highs) at count a b p (faultOf r) scanned fault-of h
+              ∙ ap (refused (faultOf r)) count-of ∙ sym e;
+          seen = tt;
+          sameLows = refl;
+          sameHighs = refl;
+        }
+
+    pub read-fine : faultOf r ≡ 0 → LinkRead text n i at lows highs (set lows i a) (set highs i b) then (Next p)
+    read-fine fine =
+        record {
+          follows = λ count.
+              link-fine text n (take i lows) (take i highs) at count a b p scanned (fault-of ∙ fine)
+              ∙ rw (take-stored lows i a lowRoom, take-stored highs i b highRoom);
+          seen = rw (take-stored lows i a lowRoom, take-stored highs i b highRoom, ← grown) more;
+          sameLows = length-set lows i a;
+          sameHighs = length-set highs i b;
+        }
+      where
+        grown : length (take i lows ++ (a ∷ [])) ≡ i + 1
+        grown = length-append (take i lows) (a ∷ []) ∙ ap (λ (k : ℕ). k + 1) count-of
+
+        more : Seen then (take i lows ++ (a ∷ [])) (take i highs ++ (b ∷ [])) (length (take i lows ++ (a ∷ [])))
+        more =
+            seen-snoc n a b (take i lows) (take i highs) bits then r small
+            (count-of ∙ sym (length-take-le i highs (omega arith))) (rw count-of marks) checked fine
+
+-- What a link line that was read, or refused, leaves of the whole reading.
+module _ (text : List ℕ) (n i at : ℕ) (lows highs lowsThen highsThen bits : List ℕ) (r : Step)
+    (link : LinkRead text n i at lows highs lowsThen highsThen bits r) where
+  pub link-next : (p m : ℕ) (whole : Outcome Network) → r ≡ Next p → i < m
+      → whole ≡ readLinks text n (take i lows) (take i highs) at (m - i)
+      → whole ≡ readLinks text n (take (i + 1) lowsThen) (take (i + 1) highsThen) p (m - (i + 1))
+  link-next p m whole e h left =
+      let more : m - i ≡ suc (m - (i + 1)) = omega arith in
+      let rest : ℕ → Outcome Network = λ q. readLinks text n (take (i + 1) lowsThen) (take (i + 1) highsThen) q (m - (i + 1)) in
+      left ∙ rw more (link .follows (m - (i + 1)) ∙ ap (λ (s : Step). onStep s rest) e)
+
+  pub link-refused : (refusal : Refusal) (m : ℕ) (whole : Outcome Network) → r ≡ Refused refusal → i < m
+      → whole ≡ readLinks text n (take i lows) (take i highs) at (m - i)
+      → whole ≡ refusalOf refusal
+  link-refused refusal m whole e h left =
+      let more : m - i ≡ suc (m - (i + 1)) = omega arith in
+      let rest : ℕ → Outcome Network = λ q. readLinks text n (take (i + 1) lowsThen) (take (i + 1) highsThen) q (m - (i + 1)) in
+      left ∙ rw more (link .follows (m - (i + 1)) ∙ ap (λ (s : Step). onStep s rest) e)
+
+  pub link-seen : (p : ℕ) → r ≡ Next p → Seen bits (take (i + 1) lowsThen) (take (i + 1) highsThen) (i + 1)
+  link-seen p e =
+      subst (λ (s : Step). IfRead s (Seen bits (take (i + 1) lowsThen) (take (i + 1) highsThen) (i + 1))) e (link .seen)
+
+-- No link line is left.
+pub links-over : (text : List ℕ) (n i m p : ℕ) (lows highs : List ℕ) → i ≤ m → m ≤ i
+    → readLinks text n (take i lows) (take i highs) p (m - i) ≡ readEnd text n (take m lows) (take m highs) p
+unfolding readLinks
+links-over text n i m p lows highs h k =
+    let e : i ≡ m = omega arith in
+    let none : m - m ≡ 0 = omega arith in
+    rw (e, none)

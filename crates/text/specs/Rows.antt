@@ -1,0 +1,45 @@
+-- What reading a link line, all of them, and the end promise, in the terms of the definitions.
+-- Assumes nothing.
+use Prim.Native.Nat.{ℕ, suc, _+_, _-_}
+use mathlib.Core.List.{List, [], _++_}
+use mathlib.Core.Path.{_≡_}
+use lib.ListN.{length, take, replicate}
+use Rattle.definitions.specs.Outcome.{Outcome, done}
+use Rattle.definitions.specs.Text.{readEnd, readLinks}
+use Rattle.network.specs.Answers.{refusalOf}
+use Rattle.network.specs.Seen.{Seen}
+use Rattle.text.specs.declared.rows.Step.{Step}
+use Rattle.text.specs.declared.rows.Step.the-variants.{Next, Refused}
+
+-- The refusal, or what follows from the offset behind the part that was read.
+abbrev pub onStep : {A : Type 0} → Step → (ℕ → Outcome A) → Outcome A
+onStep (Next p) next = next p
+onStep (Refused refusal) next = refusalOf refusal
+
+-- What holds where the part was read.
+abbrev pub IfRead : Step → Type 0 → Type 0
+IfRead (Next p) claim = claim
+IfRead (Refused refusal) claim = Unit {0}
+
+-- A link line as link i: the reading of what is left goes on behind it, with the link in the lists and its pair marked.
+pub record LinkRead (text : List ℕ) (n i at : ℕ) (lows highs lowsThen highsThen bits : List ℕ) (r : Step) : Type 0 where
+  pub follows : (count : ℕ) → readLinks text n (take i lows) (take i highs) at (suc count)
+      ≡ onStep r (λ p. readLinks text n (take (i + 1) lowsThen) (take (i + 1) highsThen) p count)
+  pub seen : IfRead r (Seen bits (take (i + 1) lowsThen) (take (i + 1) highsThen) (i + 1))
+  pub sameLows : length lowsThen ≡ length lows
+  pub sameHighs : length highsThen ≡ length highs
+
+-- All link lines: only the end is left.
+pub record LinksRead (text : List ℕ) (n m at : ℕ) (lows highs lowsThen highsThen : List ℕ) (r : Step) : Type 0 where
+  pub follows : readLinks text n [] [] at m ≡ onStep r (readEnd text n (take m lowsThen) (take m highsThen))
+  pub sameLows : length lowsThen ≡ length lows
+  pub sameHighs : length highsThen ≡ length highs
+
+-- The end: the network stands.
+pub record EndRead (text : List ℕ) (at : ℕ) (r : Step) : Type 0 where
+  pub follows : (n : ℕ) (lows highs : List ℕ)
+      → readEnd text n lows highs at ≡ onStep r (λ _. done (record { relays = n; lows = lows; highs = highs }))
+
+-- The list with zeros from an index on.
+unfoldable pub clearedFrom : ℕ → List ℕ → List ℕ
+clearedFrom from list = take from list ++ replicate (length list - from) 0

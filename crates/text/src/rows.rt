@@ -1,0 +1,102 @@
+// The link lines of a text into the two lists of a table, and the end behind them.
+ghost use mathlib.Core.List.{List, []};
+ghost use mathlib.Core.Path.{_≡_};
+ghost use Prim.Native.Nat.{ℕ, _≤_, _<_};
+ghost use lib.ListN.{length, take};
+ghost use Rattle.network.specs.Seen.{Seen};
+ghost use Rattle.text.specs.Rows.{LinkRead, LinksRead, EndRead, clearedFrom};
+use crate::scan::PairScan;
+use crate::scan::WordScan;
+use network::LinkCheck;
+use network::Refusal;
+
+// A part of a text read: the offset behind it, or a refusal.
+pub enum Step {
+    Next(usize),
+    Refused(Refusal),
+}
+
+// The next link line, as link i behind those before it, whose pairs are marked.
+pub fn read_link(
+    text: &[u8],
+    n: u16,
+    i: usize,
+    at: usize,
+    lows: &mut [u16],
+    highs: &mut [u16],
+    seen: &mut [u64; 7805],
+) -> Step
+    requires { ⌜ (n ≤ 1000) × (i < length (now lows)) × (i < length (now highs)) ⌝ }
+    requires { ⌜ Seen (now seen) (take i (now lows)) (take i (now highs)) i ⌝ }
+    ensures { λ r. ⌜ LinkRead (now (text .entry)) n i at (now (lows .entry)) (now (highs .entry)) (now (lows .exit)) (now (highs .exit)) (now (seen .exit)) r ⌝ }
+{
+    match crate::scan::link_line(text, at) {
+        PairScan::Departs(p) => Step::Refused(Refusal::Form(p)),
+        PairScan::Reads(a, b, next) => match network::check_link(n, a, b, seen) {
+            LinkCheck::RelayRange => Step::Refused(Refusal::RelayRange(i)),
+            LinkCheck::NotBelow => Step::Refused(Refusal::NotBelow(i)),
+            LinkCheck::Repeated => Step::Refused(Refusal::Repeated(i)),
+            LinkCheck::Fine => {
+                lows[i] = a;
+                highs[i] = b;
+                Step::Next(next)
+            }
+        },
+    }
+}
+
+// All m link lines, where no pair is marked yet.
+pub fn read_links(
+    text: &[u8],
+    n: u16,
+    m: usize,
+    at: usize,
+    lows: &mut [u16],
+    highs: &mut [u16],
+    seen: &mut [u64; 7805],
+) -> Step
+    requires { ⌜ (n ≤ 1000) × (m ≤ length (now lows)) × (m ≤ length (now highs)) ⌝ }
+    requires { ⌜ Seen (now seen) [] [] 0 ⌝ }
+    ensures { λ r. ⌜ LinksRead (now (text .entry)) n m at (now (lows .entry)) (now (highs .entry)) (now (lows .exit)) (now (highs .exit)) r ⌝ }
+{
+    let mut p = at;
+    let mut i: usize = 0;
+    while i < m {
+        match read_link(text, n, i, p, lows, highs, seen) {
+            Step::Next(next) => {
+                p = next;
+            }
+            Step::Refused(refusal) => {
+                return Step::Refused(refusal);
+            }
+        }
+        i += 1;
+    }
+    Step::Next(p)
+}
+
+// The end line, and nothing after it.
+pub fn read_end(text: &[u8], at: usize) -> Step
+    ensures { λ r. ⌜ EndRead (now (text .entry)) at r ⌝ }
+{
+    match crate::scan::end_line(text, at) {
+        WordScan::Departs(p) => Step::Refused(Refusal::Form(p)),
+        WordScan::Reads(p) => {
+            if p < text.len() {
+                return Step::Refused(Refusal::Form(p));
+            }
+            Step::Next(p)
+        }
+    }
+}
+
+// Zeros from an index on.
+pub fn clear_from(list: &mut [u16], from: usize)
+    ensures { λ _. ⌜ now (list .exit) ≡ clearedFrom from (now (list .entry)) ⌝ }
+{
+    let mut i = from;
+    while i < list.len() {
+        list[i] = 0;
+        i += 1;
+    }
+}
