@@ -2,7 +2,7 @@
 // specs/Reported.antt, and for C programs in include/nolkisei.h.
 ghost use mathlib.Core.Path.{_≡_};
 ghost use Rattle.definitions.specs.Network.{pairAnswer, tableCheck};
-ghost use Rattle.definitions.specs.Text.{writeAnswer, bufferAfter};
+ghost use Rattle.definitions.specs.Text.{readAnswer, lowsAfter, highsAfter, writeAnswer, bufferAfter};
 ghost use Rattle.nolkisei.specs.Reported.{reported};
 
 mod report;
@@ -10,6 +10,7 @@ mod report;
 use network::Check;
 use network::Pair;
 use network::Relay;
+use text::ReadAnswer;
 use text::WriteAnswer;
 
 // The table check.
@@ -31,6 +32,24 @@ pub extern "C" fn nolkisei_pair(a: u16, b: u16, answer: &mut [u64; 2]) -> u32
     match network::pair_number(Relay(a), Relay(b)) {
         Pair::Number(number) => report::give(number as u64, 0, answer),
         Pair::Refused(refusal) => report::refuse(refusal, answer),
+    }
+}
+
+// Read: a text into a table.
+#[no_mangle]
+pub extern "C" fn nolkisei_read(
+    text: &[u8],
+    lows: &mut [u16],
+    highs: &mut [u16],
+    answer: &mut [u64; 2],
+) -> u32
+    ensures answer { λ r. ⌜ reported (readAnswer (now (text .entry)) (now (lows .entry)) (now (highs .entry))) ≡ (r, now (answer .exit)) ⌝ }
+    ensures lowList { λ _. ⌜ now (lows .exit) ≡ lowsAfter (now (text .entry)) (now (lows .entry)) (now (highs .entry)) ⌝ }
+    ensures highList { λ _. ⌜ now (highs .exit) ≡ highsAfter (now (text .entry)) (now (lows .entry)) (now (highs .entry)) ⌝ }
+{
+    match text::read(text, lows, highs) {
+        ReadAnswer::Table(n, m) => report::give(n as u64, m as u64, answer),
+        ReadAnswer::Refused(refusal) => report::refuse(refusal, answer),
     }
 }
 
