@@ -4,4 +4,3 @@ mod keys;
 pub mod left;
 pub mod scan;
 mod walk;
-mod scan;
