@@ -53,11 +53,11 @@ pub fn scan(n: u16, lows: &[u16], highs: &[u16], relays: &mut [u16], places: &mu
     for (relay, key) in keys[..size].iter_mut().enumerate() {
         *key = 1024 + (1023 - relay as u32);
     }
-    for step in 0..size {
+    for (step, at_step) in relays[..size].iter_mut().enumerate() {
         let best = keys[..size].iter().copied().fold(0, u32::max);
         let relay = 1023 - (best & 1023) as usize;
         keys[relay] = 0;
-        relays[step] = relay as u16;
+        *at_step = relay as u16;
         places[relay] = step as u16 + 1;
         let mut at = first[relay];
         while at != NONE {
@@ -253,4 +253,55 @@ pub fn write(n: u16, lows: &[u16], highs: &[u16], buffer: &mut [u8]) -> Result<u
     }
     put(buffer, &mut at, b"(end)\n");
     Ok(at)
+}
+
+fn sheet(input: &[u8]) -> Result<Vec<u8>, Refusal> {
+    let wish = |at: &mut usize| -> Result<Wish, Refusal> {
+        word(input, at, b"(want ")?;
+        let from = number(input, at)?;
+        word(input, at, b" ")?;
+        let to = number(input, at)?;
+        word(input, at, b" ")?;
+        let k = number(input, at)?;
+        word(input, at, b")\n")?;
+        Ok(Wish { k, from, to })
+    };
+    let mut at = 0;
+    let wish = wish(&mut at).map_err(|refusal| Refusal { number: 1, ..refusal })?;
+    let (mut lows, mut highs) = ([0; 3000], [0; 3000]);
+    let (n, m) = read(&input[at..], &mut lows, &mut highs)?;
+    let (lows, highs) = (&lows[..usize::from(m)], &highs[..usize::from(m)]);
+    let kept = cut(n, lows, highs, wish.k, &mut [0; 3000])?;
+    if wish.from >= n || wish.to >= n {
+        return plain(10);
+    }
+    if wish.from == wish.to {
+        return plain(11);
+    }
+    let Some(routes) = routes(n, lows, highs, wish) else { return plain(13) };
+    let mut sheet = vec![0; 4608];
+    let mut at = 0;
+    for (front, value) in [(&b"(sheet (from "[..], wish.from), (b") (to ", wish.to), (b") (k ", wish.k)] {
+        put(&mut sheet, &mut at, front);
+        put_number(&mut sheet, &mut at, value);
+    }
+    put(&mut sheet, &mut at, b"))\n");
+    for route in routes {
+        put(&mut sheet, &mut at, b"(route");
+        for relay in route {
+            put(&mut sheet, &mut at, b" ");
+            put_number(&mut sheet, &mut at, relay);
+        }
+        put(&mut sheet, &mut at, b")\n");
+    }
+    put(&mut sheet, &mut at, b"(kept ");
+    put_number(&mut sheet, &mut at, kept);
+    put(&mut sheet, &mut at, b")\n(end)\n");
+    sheet.truncate(at);
+    Ok(sheet)
+}
+
+/// What the planner prints for an input.
+pub fn plan(input: &[u8]) -> Vec<u8> {
+    sheet(input).unwrap_or_else(|Refusal { number, place }| format!("(refused {number} {place})\n").into_bytes())
 }
