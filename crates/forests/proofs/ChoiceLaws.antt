@@ -55,13 +55,15 @@ module _ {n : ℕ} {lows highs : List ℕ} {k : ℕ} {keys : List ℕ} (few : n 
       let some : 0 < getD keys b 0 =
       omega (arith, above (following n lows highs k) (f .0), key-waiting (following n lows highs k) (f .0) (f .1)) in
       let bw = waits b bn some in
-      let kb = key-waiting b bn bw in
-      (b, record {
-        below = bn;
-        waiting = bw;
-        isChosen = ap relayOf (sym same ∙ kb) ∙ omega arith;
-        most = λ y h w. omega (arith, above y h, kb, key-waiting y h w);
-      })
+      let kb = key-waiting b bn bw in (
+        b,
+        record {
+          below = bn;
+          waiting = bw;
+          isChosen = ap relayOf (sym same ∙ kb) ∙ omega arith;
+          most = λ y h w. omega (arith, above y h, kb, key-waiting y h w);
+        },
+      )
 
   later : 0 < k → k < n → chosen n keys ≡ following n lows highs k
   later some within =

@@ -79,7 +79,7 @@ keys-bound {n} {lows} {highs} {keys} k few within at r = go (decLt r n) (has (pl
           arith,
           key-waiting few at r h e,
           count-length (λ p. linked lows highs p r) (placed n lows highs k),
-          placed-long n lows highs k
+          placed-long n lows highs k,
         )
     go (no h) b e = omega (arith, at .rest r (omega arith))
 
@@ -119,14 +119,14 @@ module _ {n : ℕ} {lows highs first lownext highnext keys relays places forests
             record {
               few = proper .few;
               walkable =
-                record {
-                  proper = wide proper;
-                  chained = can .chained;
-                  relay = omega (arith, below, proper .few);
-                  room = omega (arith, at .forestsAt .long, can .scannable .forestRoom);
-                  keyRoom = at .keysAt .room;
-                  bound = λ r h. keys-bound k (proper .few) (omega arith) (at .keysAt) r;
-                };
+                  record {
+                    proper = wide proper;
+                    chained = can .chained;
+                    relay = omega (arith, below, proper .few);
+                    room = omega (arith, at .forestsAt .long, can .scannable .forestRoom);
+                    keyRoom = at .keysAt .room;
+                    bound = λ r h. keys-bound k (proper .few) (omega arith) (at .keysAt) r;
+                  };
               some = omega arith;
               within = omega (arith, relays-long k (omega arith) at, can .scannable .relayRoom);
               room = omega (arith, below, at .placesAt .long, can .scannable .placeRoom);
@@ -144,11 +144,11 @@ module _ {n : ℕ} {lows highs first lownext highnext keys relays places forests
             (record {
               keysAt = keys-step proper k within (at .keysAt) walked;
               relaysAt =
-                relay
-                ∙ ap (λ l. set l k (following n lows highs k)) (at .relaysAt)
-                ∙ overwrite-next (placed n lows highs k) relays k (following n lows highs k) (placed-long n lows highs k)
-                (omega (arith, can .scannable .relayRoom))
-                ∙ ap (λ l. overwrite l relays) (sym (placed-suc n lows highs k));
+                  relay
+                  ∙ ap (λ l. set l k (following n lows highs k)) (at .relaysAt)
+                  ∙ overwrite-next (placed n lows highs k) relays k (following n lows highs k) (placed-long n lows highs k)
+                  (omega (arith, can .scannable .relayRoom))
+                  ∙ ap (λ l. overwrite l relays) (sym (placed-suc n lows highs k));
               placesAt = rw place (places-step proper k within places places′ (can .scannable .placeRoom) (at .placesAt));
               forestsAt = forests-step proper k within (at .keysAt) walked forests (at .forestsAt);
             })

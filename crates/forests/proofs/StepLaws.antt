@@ -134,7 +134,7 @@ module _ {n : ℕ} {lows highs : List ℕ} (t : ProperTable n lows highs) (k : �
                 arith,
                 before,
                 raised-some (getD (set keys (following n lows highs k) 0) r 0) (omega (arith, before)),
-                weight-linked n lows highs k r e
+                weight-linked n lows highs k r e,
               )
           go false e = omega (arith, before, weight-apart n lows highs k r e)
 

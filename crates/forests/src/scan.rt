@@ -1,9 +1,14 @@
 // The scan: relays are placed one after another, and each link gets its forest number in the same pass.
-use crate::chains::{link_up, no_heads, no_nexts};
-use crate::keys::{greatest_key, no_keys, relay_of, start_keys};
+use crate::chains::link_up;
+use crate::chains::no_heads;
+use crate::chains::no_nexts;
+use crate::keys::greatest_key;
+use crate::keys::no_keys;
+use crate::keys::relay_of;
+use crate::keys::start_keys;
 use crate::walk::walk;
-use network::{Place, Relay};
-
+use network::Place;
+use network::Relay;
 ghost use Prim.Native.Nat.{_-_, _<_, _≤_};
 ghost use mathlib.Core.Path.{_≡_};
 ghost use lib.ListN.{length, getD, set};
@@ -53,15 +58,11 @@ fn place_next(
     places: &mut [u16],
     forests: &mut [u16],
 )
-    requires {
-        ⌜ Placeable n (v .0) (now lows) (now highs) (now first) (now lownext) (now highnext) (now keys)
-        (now relays) (now places) (now forests) ⌝
-    }
-    ensures {
-        λ _. ⌜ PlacedOne n (v .0) (now (lows .entry)) (now (highs .entry)) (now (keys .entry)) (now (keys .exit))
+    requires { ⌜ Placeable n (v .0) (now lows) (now highs) (now first) (now lownext) (now highnext) (now keys)
+        (now relays) (now places) (now forests) ⌝ }
+    ensures { λ _. ⌜ PlacedOne n (v .0) (now (lows .entry)) (now (highs .entry)) (now (keys .entry)) (now (keys .exit))
         (now (relays .entry)) (now (relays .exit)) (now (places .entry)) (now (places .exit))
-        (now (forests .entry)) (now (forests .exit)) ⌝
-    }
+        (now (forests .entry)) (now (forests .exit)) ⌝ }
 {
     let x = relay_of(greatest_key(n, keys));
     put(x, v, relays, places);
@@ -81,29 +82,42 @@ fn place_all(
     places: &mut [u16],
     forests: &mut [u16],
 )
-    requires {
-        ⌜ Startable n (now lows) (now highs) (now first) (now lownext) (now highnext) (now keys)
-        (now relays) (now places) (now forests) ⌝
-    }
-    ensures {
-        λ _. ⌜ Scanned n (now (lows .entry)) (now (highs .entry)) (now (relays .entry)) (now (relays .exit))
-        (now (places .entry)) (now (places .exit)) (now (forests .entry)) (now (forests .exit)) ⌝
-    }
+    requires { ⌜ Startable n (now lows) (now highs) (now first) (now lownext) (now highnext) (now keys)
+        (now relays) (now places) (now forests) ⌝ }
+    ensures { λ _. ⌜ Scanned n (now (lows .entry)) (now (highs .entry)) (now (relays .entry)) (now (relays .exit))
+        (now (places .entry)) (now (places .exit)) (now (forests .entry)) (now (forests .exit)) ⌝ }
 {
     let mut v = 0;
     while v < n {
         v += 1;
-        place_next(n, Place(v), lows, highs, first, lownext, highnext, keys, relays, places, forests);
+        place_next(
+            n,
+            Place(v),
+            lows,
+            highs,
+            first,
+            lownext,
+            highnext,
+            keys,
+            relays,
+            places,
+            forests,
+        );
     }
 }
 
 // The order, the places and the forest numbers of an accepted table.
-pub fn scan(n: u16, lows: &[u16], highs: &[u16], relays: &mut [u16], places: &mut [u16], forests: &mut [u16])
+pub fn scan(
+    n: u16,
+    lows: &[u16],
+    highs: &[u16],
+    relays: &mut [u16],
+    places: &mut [u16],
+    forests: &mut [u16],
+)
     requires { ⌜ Scannable n (now lows) (now highs) (now relays) (now places) (now forests) ⌝ }
-    ensures {
-        λ _. ⌜ Scanned n (now (lows .entry)) (now (highs .entry)) (now (relays .entry)) (now (relays .exit))
-        (now (places .entry)) (now (places .exit)) (now (forests .entry)) (now (forests .exit)) ⌝
-    }
+    ensures { λ _. ⌜ Scanned n (now (lows .entry)) (now (highs .entry)) (now (relays .entry)) (now (relays .exit))
+        (now (places .entry)) (now (places .exit)) (now (forests .entry)) (now (forests .exit)) ⌝ }
 {
     let mut first = no_heads(lows.len() as u16);
     let mut lownext = no_nexts();
@@ -111,5 +125,16 @@ pub fn scan(n: u16, lows: &[u16], highs: &[u16], relays: &mut [u16], places: &mu
     link_up(lows, highs, &mut first, &mut lownext, &mut highnext);
     let mut keys = no_keys();
     start_keys(n, &mut keys);
-    place_all(n, lows, highs, &first, &lownext, &highnext, &mut keys, relays, places, forests);
+    place_all(
+        n,
+        lows,
+        highs,
+        &first,
+        &lownext,
+        &highnext,
+        &mut keys,
+        relays,
+        places,
+        forests,
+    );
 }

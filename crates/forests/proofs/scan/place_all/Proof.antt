@@ -41,7 +41,7 @@ same-length-3 : tie.Need-same-length-3 Inv-loop μ-loop
 same-length-3 c = c .before .loop .inv .1 .forestsAt .long
 
 returns : tie.Need-returns Inv-loop μ-loop
-returns c = 
+returns c =
     let p : c .before .loop .v ≡ c .before .before .before .before .before .before .before .args .n = omega arith in
     scan-ends (c .before .before .before .before .before .before .before .pre) (rw p at (c .before .loop .inv .1))
 

@@ -39,7 +39,7 @@ same-length-3 : tie.Need-same-length-3
 same-length-3 c = search needs
 
 returns : tie.Need-returns
-returns c = 
+returns c =
     placed-one (c .before .before .before .before .before .before .before .before .before .before .before .before .relay-of .result .0) (which (c .before .before .before .before .before .before .before .before .before .before .before .before)) (c .before .before .before .before .before .before .before .before .before .put .ensures .0) (c .before .before .before .before .before .before .before .before .before .put .ensures .1) (c .before .before .walk .ensures)
 
 pub place-next-spec : {M : Type 1} → statement M
