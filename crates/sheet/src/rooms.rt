@@ -1,0 +1,31 @@
+// The planner's own lists: zeros, and long enough for every network.
+ghost use mathlib.Core.Path.{_≡_};
+ghost use Rattle.definitions.specs.Plan.{room};
+
+// A column of a table, or the marks of its links.
+pub(crate) fn links() -> [u16; 3000]
+    ensures { λ r. ⌜ r ≡ room 3000 ⌝ }
+{
+    [0u16; 3000]
+}
+
+// How many relays each route has.
+pub(crate) fn counts() -> [u16; 32]
+    ensures { λ r. ⌜ r ≡ room 32 ⌝ }
+{
+    [0u16; 32]
+}
+
+// The relays of all the routes: 1,000 − 2 + 2 × 32 of them at most.
+pub(crate) fn relays() -> [u16; 1062]
+    ensures { λ r. ⌜ r ≡ room 1062 ⌝ }
+{
+    [0u16; 1062]
+}
+
+// Route's scratch: 32 × 1,000 entries.
+pub(crate) fn scratch() -> [u16; 32000]
+    ensures { λ r. ⌜ r ≡ room 32000 ⌝ }
+{
+    [0u16; 32000]
+}
