@@ -3,10 +3,15 @@
 ghost use mathlib.Core.Path.{_≡_};
 ghost use Rattle.definitions.specs.Network.{pairAnswer, tableCheck};
 ghost use Rattle.definitions.specs.Text.{readAnswer, lowsAfter, highsAfter, writeAnswer, bufferAfter};
+ghost use Rattle.definitions.specs.Order.{orderAnswer, relaysAfter, placesAfter};
+ghost use Rattle.definitions.specs.Forests.{splitAnswer, forestsAfter, cutAnswer, marksAfter};
 ghost use Rattle.nolkisei.specs.Reported.{reported};
 
 mod report;
 
+use forests::CutAnswer;
+use forests::OrderAnswer;
+use forests::SplitAnswer;
 use network::Check;
 use network::Pair;
 use network::Relay;
@@ -68,5 +73,65 @@ pub extern "C" fn nolkisei_write(
     match text::write(n, lows, highs, buffer) {
         WriteAnswer::Length(size) => report::give(size as u64, 0, answer),
         WriteAnswer::Refused(refusal) => report::refuse(refusal, answer),
+    }
+}
+
+// Order: the relay at each place and the place of each relay.
+#[no_mangle]
+pub extern "C" fn nolkisei_order(
+    n: u16,
+    lows: &[u16],
+    highs: &[u16],
+    relays: &mut [u16],
+    places: &mut [u16],
+    answer: &mut [u64; 2],
+) -> u32
+    ensures answer { λ r. ⌜ reported (orderAnswer n (now (lows .entry)) (now (highs .entry)) (now (relays .entry)) (now (places .entry)))
+        ≡ (r, now (answer .exit)) ⌝ }
+    ensures relays { λ _. ⌜ now (relays .exit)
+        ≡ relaysAfter n (now (lows .entry)) (now (highs .entry)) (now (relays .entry)) (now (places .entry)) ⌝ }
+    ensures places { λ _. ⌜ now (places .exit)
+        ≡ placesAfter n (now (lows .entry)) (now (highs .entry)) (now (relays .entry)) (now (places .entry)) ⌝ }
+{
+    match forests::order(n, lows, highs, relays, places) {
+        OrderAnswer::Done => report::give(0, 0, answer),
+        OrderAnswer::Refused(refusal) => report::refuse(refusal, answer),
+    }
+}
+
+// Split: the forest of each link.
+#[no_mangle]
+pub extern "C" fn nolkisei_split(
+    n: u16,
+    lows: &[u16],
+    highs: &[u16],
+    forests: &mut [u16],
+    answer: &mut [u64; 2],
+) -> u32
+    ensures answer { λ r. ⌜ reported (splitAnswer n (now (lows .entry)) (now (highs .entry)) (now (forests .entry))) ≡ (r, now (answer .exit)) ⌝ }
+    ensures forests { λ _. ⌜ now (forests .exit) ≡ forestsAfter n (now (lows .entry)) (now (highs .entry)) (now (forests .entry)) ⌝ }
+{
+    match forests::split(n, lows, highs, forests) {
+        SplitAnswer::Highest(forest) => report::give(forest as u64, 0, answer),
+        SplitAnswer::Refused(refusal) => report::refuse(refusal, answer),
+    }
+}
+
+// Cut: a mark for each link, 1 where it is kept.
+#[no_mangle]
+pub extern "C" fn nolkisei_cut(
+    n: u16,
+    lows: &[u16],
+    highs: &[u16],
+    k: u16,
+    marks: &mut [u16],
+    answer: &mut [u64; 2],
+) -> u32
+    ensures answer { λ r. ⌜ reported (cutAnswer n (now (lows .entry)) (now (highs .entry)) k (now (marks .entry))) ≡ (r, now (answer .exit)) ⌝ }
+    ensures marks { λ _. ⌜ now (marks .exit) ≡ marksAfter n (now (lows .entry)) (now (highs .entry)) k (now (marks .entry)) ⌝ }
+{
+    match forests::cut(n, lows, highs, k, marks) {
+        CutAnswer::Kept(count) => report::give(count as u64, 0, answer),
+        CutAnswer::Refused(refusal) => report::refuse(refusal, answer),
     }
 }

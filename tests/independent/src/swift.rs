@@ -36,9 +36,85 @@ fn link(n: u16, seen: &mut [u64; 7805], index: usize, a: u16, b: u16) -> Result<
     Ok(())
 }
 
-/// Order, places and forest numbers in one pass: chains of links, a key for each relay.
-/// The key is the count of placed neighbours and then the lower relay number; 0 once placed.
-pub fn scan(n: u16, lows: &[u16], highs: &[u16], relays: &mut [u16], places: &mut [u16], forests: &mut [u16]) {
+/// Who is placed next: a key for each relay, the count of placed neighbours first and then the lower relay number; 0 once placed.
+pub trait Keys {
+    fn new(n: usize) -> Self;
+    /// Takes the relay with the greatest key out.
+    fn take(&mut self) -> usize;
+    /// One more placed neighbour: the count so far, or 0 for a placed relay.
+    fn raise(&mut self, relay: usize) -> u16;
+}
+
+fn start_keys(n: usize) -> [u32; 1024] {
+    std::array::from_fn(|relay| if relay < n { 1024 + (1023 - relay as u32) } else { 0 })
+}
+
+/// One array of keys, gone through for each place.
+pub struct Plain {
+    keys: [u32; 1024],
+    n: usize,
+}
+
+impl Keys for Plain {
+    fn new(n: usize) -> Plain {
+        Plain { keys: start_keys(n), n }
+    }
+
+    fn take(&mut self) -> usize {
+        let best = self.keys[..self.n].iter().copied().fold(0, u32::max);
+        let relay = 1023 - (best & 1023) as usize;
+        self.keys[relay] = 0;
+        relay
+    }
+
+    fn raise(&mut self, relay: usize) -> u16 {
+        let key = &mut self.keys[relay];
+        if *key == 0 {
+            return 0;
+        }
+        *key += 1024;
+        ((*key >> 10) - 1) as u16
+    }
+}
+
+/// Two levels: the greatest key of each block of 32 relays beside the keys.
+pub struct Blocks {
+    keys: [[u32; 32]; 32],
+    tops: [u32; 32],
+}
+
+fn top(keys: &[u32; 32]) -> u32 {
+    keys.iter().copied().fold(0, u32::max)
+}
+
+impl Keys for Blocks {
+    fn new(n: usize) -> Blocks {
+        let all = start_keys(n);
+        let keys = std::array::from_fn(|block| std::array::from_fn(|at| all[32 * block + at]));
+        Blocks { keys, tops: std::array::from_fn(|block| top(&keys[block])) }
+    }
+
+    fn take(&mut self) -> usize {
+        let relay = 1023 - (top(&self.tops) & 1023) as usize;
+        self.keys[relay / 32][relay % 32] = 0;
+        self.tops[relay / 32] = top(&self.keys[relay / 32]);
+        relay
+    }
+
+    fn raise(&mut self, relay: usize) -> u16 {
+        let key = &mut self.keys[relay / 32][relay % 32];
+        if *key == 0 {
+            return 0;
+        }
+        *key += 1024;
+        let top = &mut self.tops[relay / 32];
+        *top = (*top).max(*key);
+        ((*key >> 10) - 1) as u16
+    }
+}
+
+/// Order, places and forest numbers in one pass over chains of links.
+pub fn scan_by<K: Keys>(n: u16, lows: &[u16], highs: &[u16], relays: &mut [u16], places: &mut [u16], forests: &mut [u16]) {
     const NONE: u16 = u16::MAX;
     let size = usize::from(n);
     let mut first = [NONE; 1000];
@@ -49,14 +125,9 @@ pub fn scan(n: u16, lows: &[u16], highs: &[u16], relays: &mut [u16], places: &mu
             first[usize::from(relay)] = link as u16;
         }
     }
-    let mut keys = [0u32; 1000];
-    for (relay, key) in keys[..size].iter_mut().enumerate() {
-        *key = 1024 + (1023 - relay as u32);
-    }
+    let mut keys = K::new(size);
     for (step, at_step) in relays[..size].iter_mut().enumerate() {
-        let best = keys[..size].iter().copied().fold(0, u32::max);
-        let relay = 1023 - (best & 1023) as usize;
-        keys[relay] = 0;
+        let relay = keys.take();
         *at_step = relay as u16;
         places[relay] = step as u16 + 1;
         let mut at = first[relay];
@@ -64,13 +135,18 @@ pub fn scan(n: u16, lows: &[u16], highs: &[u16], relays: &mut [u16], places: &mu
             let link = usize::from(at);
             let side = usize::from(usize::from(lows[link]) != relay);
             let other = usize::from(if side == 0 { highs[link] } else { lows[link] });
-            if keys[other] != 0 {
-                keys[other] += 1024;
-                forests[link] = ((keys[other] >> 10) - 1) as u16;
+            let forest = keys.raise(other);
+            if forest != 0 {
+                forests[link] = forest;
             }
             at = next[link][side];
         }
     }
+}
+
+/// The scan that the proved code makes, too.
+pub fn scan(n: u16, lows: &[u16], highs: &[u16], relays: &mut [u16], places: &mut [u16], forests: &mut [u16]) {
+    scan_by::<Plain>(n, lows, highs, relays, places, forests);
 }
 
 /// Order.
@@ -80,6 +156,16 @@ pub fn order(n: u16, lows: &[u16], highs: &[u16], relays: &mut [u16], places: &m
         return plain(12);
     }
     scan(n, lows, highs, relays, places, &mut [0; 3000]);
+    Ok(())
+}
+
+/// Order over keys in two levels.
+pub fn order_by_blocks(n: u16, lows: &[u16], highs: &[u16], relays: &mut [u16], places: &mut [u16]) -> Result<(), Refusal> {
+    check(n, lows, highs)?;
+    if relays.len() < usize::from(n) || places.len() < usize::from(n) {
+        return plain(12);
+    }
+    scan_by::<Blocks>(n, lows, highs, relays, places, &mut [0; 3000]);
     Ok(())
 }
 

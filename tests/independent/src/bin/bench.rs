@@ -121,6 +121,12 @@ fn operations(rows: &mut Vec<Row>, kind: &'static str, net: &Network) {
         }]),
     );
     row(
+        "order, two levels",
+        beside(&mut [&mut || run(library::order(*n, lows, highs, &mut a, &mut b)), &mut || {
+            run(swift::order_by_blocks(*n, lows, highs, &mut c, &mut d))
+        }]),
+    );
+    row(
         "split",
         beside(&mut [&mut || run(library::split(*n, lows, highs, &mut a)), &mut || run(swift::split(*n, lows, highs, &mut c))]),
     );
@@ -203,12 +209,14 @@ fn page(rows: &[Row]) -> String {
          Written by `tests/bench`: the proved library beside an ordinary Rust program for the same operation (`tests/independent/src/swift.rs`,\n\
          the same scan) and beside a flow program (Dinic on split relays, until k routes are found), on the same networks in one run.\n\
          Each time is the least of 25 batches, in microseconds. Every operation but `read` and `plan` includes the table check;\n\
-         the flow program checks nothing. A route joins the two ends of the widest stretch of places in one tree of forest k.\n\
+         the flow program checks nothing. `order, two levels` sets the library's order beside a plain scan that keeps the greatest key of\n\
+         each block of 32 relays. A route joins the two ends of the widest stretch of places in one tree of forest k.\n\
          Networks: `random` has three links a relay, `band` links each relay to the next three, `core` is a full network of 70 with a tree on it.\n\n\
          ![Time by size of the network](speed.svg)\n\n## Goals\n\n| goal | | worst |\n|---|---|---|\n",
     );
     for what in ["order", "split", "cut"] {
-        let (row, ratio) = worst(rows, |row| row.what.starts_with(what), |row| row.library / row.plain);
+        let (row, ratio) =
+            worst(rows, |row| row.what.starts_with(what) && row.what != "order, two levels", |row| row.library / row.plain);
         let shown = format!("{ratio:.2} times ({} {})", row.kind, row.n);
         goal(&mut page, &format!("`{what}` at most 1.5 times the plain version"), ratio <= 1.5, &shown);
     }
