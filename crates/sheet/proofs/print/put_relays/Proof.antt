@@ -63,11 +63,12 @@ loop-less c = omega arith
 loop-again : tie.Need-loop-again Inv-loop μ-loop
 loop-again c =
     let a = c .before .before .before .before .before .before .before .before .before .before .args in
-    let at = c .before .before .before .before .before .before .before .loop in
-    (omega arith,
-    going-step _ _ _ _ _ _ _ _ _ _ (at .inv .1)
-    (relays-step (a .relays .now) (at .i) (a .last) (omega arith) (c .before .before .before .before .before .before .before .before .before .before .pre .0 .1))
-    (c .before .before .put-word-number .ensures))
+    let at = c .before .before .before .before .before .before .before .loop in (
+      omega arith,
+      going-step _ _ _ _ _ _ _ _ _ _ (at .inv .1)
+          (relays-step (a .relays .now) (at .i) (a .last) (omega arith) (c .before .before .before .before .before .before .before .before .before .before .pre .0 .1))
+          (c .before .before .put-word-number .ensures),
+    )
 
 -- src/print.rt:27:1
 same-length : tie.Need-same-length Inv-loop μ-loop

@@ -73,12 +73,13 @@ loop-again : tie.Need-loop-again Inv-loop μ-loop
 loop-again c =
     let a = c .before .before .before .before .before .before .before .before .before .before .args in
     let at = c .before .before .before .before .before .before .loop in
-    let sizes = sizes-step (at .i) (a .k) (a .counts .now) (omega arith) (c .before .before .before .before .before .before .before .before .before .before .pre .0) in
-    (omega arith,
-    omega (arith, at .inv .1),
-    going-step _ _ _ _ _ _ _ _ _ _ (at .inv .2)
-    (routes-step (at .i) (a .k) (at .first) (a .counts .now) (a .relays .now) (omega arith) (c .before .before .before .before .before .before .before .before .before .before .pre .0))
-    (c .before .before .put-route .ensures))
+    let sizes = sizes-step (at .i) (a .k) (a .counts .now) (omega arith) (c .before .before .before .before .before .before .before .before .before .before .pre .0) in (
+      omega arith,
+      omega (arith, at .inv .1),
+      going-step _ _ _ _ _ _ _ _ _ _ (at .inv .2)
+          (routes-step (at .i) (a .k) (at .first) (a .counts .now) (a .relays .now) (omega arith) (c .before .before .before .before .before .before .before .before .before .before .pre .0))
+          (c .before .before .put-route .ensures),
+    )
 
 -- src/print.rt:54:1
 same-length : tie.Need-same-length Inv-loop μ-loop
