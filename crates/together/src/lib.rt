@@ -1,0 +1,46 @@
+// Order, Split, Cut and Route called on one network and one k, with demand 3 as the promise of the call.
+ghost use Rattle.forests.specs.Answers.{orderOutcome, splitOutcome, cutOutcome};
+ghost use Rattle.routes.specs.Answers.{routeOutcome};
+ghost use Rattle.together.specs.Together.{Together};
+use forests::CutAnswer;
+use forests::OrderAnswer;
+use forests::SplitAnswer;
+use routes::RouteAnswer;
+
+// The four answers.
+pub struct Answers {
+    pub order: OrderAnswer,
+    pub split: SplitAnswer,
+    pub cut: CutAnswer,
+    pub route: RouteAnswer,
+}
+
+// Calls the four in turn, each with its own lists.
+pub fn all_four(
+    n: u16,
+    lows: &[u16],
+    highs: &[u16],
+    k: u16,
+    from: u16,
+    to: u16,
+    relays: &mut [u16],
+    places: &mut [u16],
+    forests: &mut [u16],
+    marks: &mut [u16],
+    counts: &mut [u16],
+    written: &mut [u16],
+    scratch: &mut [u16],
+) -> Answers
+    ensures { λ r. ⌜ Together n (now (lows .entry)) (now (highs .entry)) k from to (now (relays .entry)) (now (places .entry)) (now (forests .entry)) (now (marks .entry)) (now (counts .entry)) (now (written .entry)) (now (scratch .entry)) (now (relays .exit)) (now (places .exit)) (now (forests .exit)) (now (marks .exit)) (now (counts .exit)) (now (written .exit)) (routeOutcome (r .route)) ⌝ }
+{
+    let order = forests::order(n, lows, highs, relays, places);
+    let split = forests::split(n, lows, highs, forests);
+    let cut = forests::cut(n, lows, highs, k, marks);
+    let route = routes::route(n, lows, highs, k, from, to, counts, written, scratch);
+    Answers {
+        order: order,
+        split: split,
+        cut: cut,
+        route: route,
+    }
+}
