@@ -1,8 +1,7 @@
 -- Cut: a refused table, k out of range, a list too short, or all marks. Assumes nothing.
 use Rattle.theory.specs.Accepted.{accepted}
-use mathlib.Core.Path.{_≡_, sym, _∙_, ap}
+use mathlib.Core.Path.{sym, _∙_, ap}
 use native.Mathlib.Omega.{arith}
-use lib.ListN.{length}
 use denote.Ref.{now}
 use Rattle.definitions.specs.Network.{Accepted}
 use Rattle.network.specs.Answers.{checkOutcome}

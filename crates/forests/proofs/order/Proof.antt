@@ -1,6 +1,5 @@
 -- Order: a refused table, a list too short, or the whole order. Assumes nothing.
-use mathlib.Core.Path.{_≡_, sym, _∙_, ap}
-use native.Mathlib.Omega.{arith}
+use mathlib.Core.Path.{sym, _∙_, ap}
 use lib.ListN.{length}
 use denote.Ref.{now}
 use Rattle.definitions.specs.Network.{Accepted}

@@ -1,7 +1,5 @@
 -- Split: a refused table, a list too short, or all forest numbers. Assumes nothing.
-use mathlib.Core.Path.{_≡_, sym, _∙_, ap}
-use native.Mathlib.Omega.{arith}
-use lib.ListN.{length}
+use mathlib.Core.Path.{sym, _∙_, ap}
 use denote.Ref.{now}
 use Rattle.definitions.specs.Network.{Accepted}
 use Rattle.network.specs.Answers.{checkOutcome}
