@@ -1,12 +1,11 @@
 -- The relay with the greatest key is the one that follows in the order. Assumes nothing.
-use Prim.Native.Nat.{ℕ, zero, suc, _+_, _-_, _*_, _%_, _≤_, _<_}
+use Prim.Native.Nat.{ℕ, zero, suc, _≤_, _<_}
 use mathlib.Core.Bool.{Bool, true, false}
 use mathlib.Core.List.{List}
 use mathlib.Core.Path.{_≡_, refl, sym, _∙_, ap}
 use native.Mathlib.Omega.{arith}
 use lib.ListN.{length, getD, take}
 use lib.Seq.{length-take-le, getD-take}
-use Rattle.definitions.specs.Outcome.{pick}
 use Rattle.definitions.specs.Lists.{has, count, greatest}
 use Rattle.definitions.specs.Network.{linked}
 use Rattle.definitions.specs.Order.{weight, placedAfter}

@@ -9,7 +9,7 @@ use lib.ListN.{length, getD, take}
 use lib.Seq.{ext-getD}
 use Rattle.definitions.specs.Lists.{table, overwrite, has, position}
 use Rattle.definitions.specs.Network.{joins, linked, Accepted}
-use Rattle.definitions.specs.Order.{weight, placedAfter, orderOf, placeOf, relayAt, placesOf}
+use Rattle.definitions.specs.Order.{weight, orderOf, placeOf, relayAt, placesOf}
 use Rattle.definitions.specs.Forests.{forestBetween, forestOf, forestsOf}
 use Rattle.lists.specs.Tables.{length-table, getD-table, length-overwrite}
 use Rattle.lists.specs.Overwritten.{getD-overwrite, getD-overwrite-past}

@@ -1,8 +1,6 @@
 -- The left table link by link: its entries are left entries, and each link so far has its own. Assumes nothing.
-use Prim.Native.Nat.{ℕ, zero, suc, _+_, _-_, _*_, _≤_, _<_, min, max}
-use mathlib.Core.Bool.{Bool, true, false}
+use Prim.Native.Nat.{ℕ, _+_, _-_, _*_, _≤_, _<_, min, max}
 use mathlib.Core.List.{List}
-use mathlib.Core.Logic.{_≢_}
 use mathlib.Core.Path.{_≡_, refl, sym, _∙_, ap, ap₂}
 use native.Mathlib.Decide.{ℕ-discrete, decLe}
 use native.Mathlib.Omega.{arith}
@@ -12,7 +10,7 @@ use lib.ListN.{length, getD, set, length-set}
 use lib.Seq.{getD-set-same, getD-set-other}
 use Rattle.definitions.specs.Outcome.{pick}
 use Rattle.definitions.specs.Lists.{table as tableOf, overwrite}
-use Rattle.definitions.specs.Network.{linked, Accepted}
+use Rattle.definitions.specs.Network.{linked}
 use Rattle.definitions.specs.Order.{orderOf, placeOf, placesOf}
 use Rattle.definitions.specs.Forests.{forestOf, forestsOf}
 use Rattle.definitions.specs.Route.{leftOf}

@@ -1,11 +1,11 @@
 -- The ordering of a table step by step, as the scan goes through it: the first k relays and the one that follows.
 -- Assumes nothing.
-use Prim.Native.Nat.{ℕ, zero, suc, _+_, _≤_, _<_}
-use mathlib.Core.Bool.{Bool, true, false, _||_, true≢false}
+use Prim.Native.Nat.{ℕ, suc, _+_, _≤_, _<_}
+use mathlib.Core.Bool.{Bool, true, false, _||_}
 use mathlib.Core.List.{List, [], _∷_, _++_}
 use mathlib.Core.Path.{_≡_, refl, sym, _∙_, ap}
 use native.Mathlib.Omega.{arith}
-use borrow.Author.Tests.{eqb-true, eqb-false, eq-eqb, ne-eqb}
+use borrow.Author.Tests.{eq-eqb, ne-eqb}
 use lib.Dec.{eqb}
 use lib.ListN.{length, getD}
 use Rattle.definitions.specs.Outcome.{pick}
@@ -19,7 +19,7 @@ use Rattle.lists.specs.Counting.{count-append}
 use Rattle.lists.specs.Distinct.{range-no-repeat}
 use Rattle.lists.specs.Ascending.{ascending-range}
 use Rattle.lists.specs.Positions.{position-which, position-at}
-use Rattle.theory.specs.Ordering.{placed-length, placed-front, placed-at, next-is, next-new, placed-no-repeat, placed-candidates}
+use Rattle.theory.specs.Ordering.{placed-length, placed-at, next-is, next-new, placed-no-repeat}
 use Rattle.forests.specs.Scan.{placed, following}
 
 module _ (n : ℕ) (lows highs : List ℕ) where
@@ -38,11 +38,6 @@ module _ (n : ℕ) (lows highs : List ℕ) where
   following-new k h =
       let f = next-new (linked lows highs) 0 (table (λ r. r) 0 n) (range-no-repeat 0 n) zero-first k (omega (arith, all-long)) in
       (omega (arith, range-bounds 0 n (following n lows highs k) (f .0)), f .1)
-
-  pub placed-below : (k r : ℕ) → k ≤ n → has (placed n lows highs k) r ≡ true → r < n
-  placed-below k r h p =
-      let c = placed-candidates (linked lows highs) 0 (table (λ r. r) 0 n) (range-no-repeat 0 n) zero-first k (omega (arith, all-long)) r p in
-      omega (arith, range-bounds 0 n r c)
 
   -- After k relays comes the one that no unplaced relay is heavier than, and of equals the lowest.
   pub following-is : (k b : ℕ) → 0 < k → k < n → b < n → has (placed n lows highs k) b ≡ false

@@ -1,7 +1,7 @@
 -- The scan from its start over each step to its end. Assumes nothing.
-use Prim.Native.Nat.{ℕ, zero, suc, _+_, _-_, _*_, _≤_, _<_}
+use Prim.Native.Nat.{ℕ, suc, _+_, _-_, _≤_, _<_}
 use mathlib.Core.Bool.{Bool, true, false}
-use mathlib.Core.List.{List, [], _∷_, _++_}
+use mathlib.Core.List.{List, []}
 use mathlib.Core.Path.{_≡_, refl, sym, _∙_, ap}
 use native.Mathlib.Decide.{decLt}
 use native.Mathlib.Numerals.{add-one}
@@ -14,8 +14,7 @@ use Rattle.lists.specs.Tables.{length-overwrite}
 use Rattle.lists.specs.Counting.{count-length}
 use Rattle.theory.specs.Accepted.{ProperTable, accepted}
 use Rattle.forests.specs.Chains.{Chainable}
-use Rattle.forests.specs.Keys.{keyOf}
-use Rattle.forests.specs.Walk.{Walkable, Walked}
+use Rattle.forests.specs.Walk.{Walked}
 use Rattle.forests.specs.Scan.{chosen, placed, following, Placeable, PlacedOne, KeysAt, ScannedTo, Startable, Scanned}
 use Rattle.forests.proofs.OrderLaws.{placed-long, placed-suc, following-new}
 use Rattle.forests.proofs.ChoiceLaws.{chosen-follows, key-waiting, key-placed}

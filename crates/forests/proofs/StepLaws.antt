@@ -1,13 +1,13 @@
 -- One step of the scan: the relay that follows is placed, its key is 0, and its links are walked. Assumes nothing.
-use Prim.Native.Nat.{ℕ, zero, suc, _+_, _-_, _*_, _/_, _≤_, _<_}
-use mathlib.Core.Bool.{Bool, true, false, _&&_, _||_, true≢false}
+use Prim.Native.Nat.{ℕ, suc, _/_, _≤_, _<_}
+use mathlib.Core.Bool.{Bool, true, false, true≢false}
 use mathlib.Core.List.{List, [], _∷_, _++_, append-assoc}
-use mathlib.Core.Logic.{_≢_, _⊎_, inl, inr, ⊎-elim}
+use mathlib.Core.Logic.{_≢_, _⊎_, inl, inr}
 use mathlib.Core.Path.{_≡_, refl, sym, _∙_, ap}
 use native.Mathlib.Decide.{ℕ-discrete, decLt}
 use native.Mathlib.Omega.{arith}
 use borrow.Author.Tests.{eqb-true, lt-ltb, le-ltb}
-use lib.Dec.{eqb, ltb}
+use lib.Dec.{eqb}
 use lib.ListN.{length, getD, set, drop, length-set, length-append, List·getD-eq-default}
 use lib.Seq.{getD-set-same, getD-set-other, set-at, drop-cons}
 use Rattle.definitions.specs.Outcome.{pick}
@@ -20,22 +20,10 @@ use Rattle.theory.specs.Links.{joins-ends, joins-sym, joined-linked}
 use Rattle.forests.specs.Chains.{touches}
 use Rattle.forests.specs.Keys.{keyOf, raisedKey, numberOf, StartKeys}
 use Rattle.forests.specs.Walk.{farEnd, Walked}
-use Rattle.forests.specs.Scan.{placed, following, KeysAt, PlacesAt, ForestsAt, ScannedTo}
+use Rattle.forests.specs.Scan.{placed, following, KeysAt, PlacesAt, ForestsAt}
 use Rattle.forests.proofs.KeyLaws.{raised-none, raised-some, number-none, number-some}
 use Rattle.forests.proofs.WalkLaws.{joins-touches, joins-far}
-use Rattle.forests.proofs.OrderLaws.{
-  placed-long,
-  placed-below,
-  placed-suc,
-  placed-earlier,
-  following-new,
-  has-new,
-  has-same,
-  weight-linked,
-  weight-apart,
-  position-new,
-  position-same,
-}
+use Rattle.forests.proofs.OrderLaws.{placed-earlier, following-new, has-new, has-same, weight-linked, weight-apart, position-new, position-same}
 use Rattle.forests.proofs.ChoiceLaws.{key-waiting, key-placed}
 
 -- Before the first step.

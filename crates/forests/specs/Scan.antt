@@ -9,7 +9,6 @@ use Rattle.definitions.specs.Lists.{table, overwrite, has, position, greatest}
 use Rattle.definitions.specs.Network.{joins, linked, Accepted}
 use Rattle.definitions.specs.Order.{weight, nextRelay, placedAfter, orderOf, placesOf}
 use Rattle.definitions.specs.Forests.{forestsOf}
-use Rattle.theory.specs.Accepted.{ProperTable}
 use Rattle.forests.specs.Chains.{ChainedFrom}
 use Rattle.forests.specs.Keys.{keyOf, relayOf, StartKeys}
 use Rattle.forests.specs.Walk.{Walkable, Walked}

@@ -12,14 +12,14 @@ fn higher(a: u16, b: u16) -> u16
     if a < b { b } else { a }
 }
 
-// The highest of the first m numbers, 0 of none.
-pub fn highest(m: usize, forests: &[u16]) -> u16
-    requires { ⌜ m ≤ length (now forests) ⌝ }
-    ensures { λ r. ⌜ r ≡ greatest (take m (now (forests .entry))) ⌝ }
+// The highest of the first `count` numbers, 0 of none.
+pub fn highest(count: usize, forests: &[u16]) -> u16
+    requires { ⌜ count ≤ length (now forests) ⌝ }
+    ensures { λ r. ⌜ r ≡ greatest (take count (now (forests .entry))) ⌝ }
 {
     let mut best = 0;
     let mut i = 0;
-    while i < m {
+    while i < count {
         best = higher(best, forests[i]);
         i += 1;
     }

@@ -4,7 +4,6 @@ use crate::keys::number;
 use crate::keys::raised;
 use network::Relay;
 ghost use mathlib.Core.Path.{_≡_};
-ghost use lib.ListN.{length, getD};
 ghost use Rattle.forests.specs.Walk.{otherEnd, nextOf, Visitable, Visited, Walkable, Walked};
 
 fn wide(i: u16) -> usize

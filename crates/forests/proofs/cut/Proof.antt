@@ -1,8 +1,7 @@
 -- Cut: a refused table, k out of range, a list too short, or all marks. Assumes nothing.
 use Rattle.theory.specs.Accepted.{accepted}
-use mathlib.Core.Path.{_≡_, sym, _∙_, ap}
+use mathlib.Core.Path.{sym, _∙_, ap}
 use native.Mathlib.Omega.{arith}
-use lib.ListN.{length}
 use denote.Ref.{now}
 use Rattle.definitions.specs.Network.{Accepted}
 use Rattle.network.specs.Answers.{checkOutcome}
@@ -11,7 +10,9 @@ use borrow.Author.Needs.{needs}
 use Rattle.forests.proofs.cut.Statement.{statement}
 use Rattle.forests.proofs.cut.Tie as tie
 
-good : (c : tie.After-enum-told) → Accepted (c .before .before .before .before .before .before .args .n) (now (c .before .before .before .before .before .before .args .lows)) (now (c .before .before .before .before .before .before .args .highs))
+good : (c : tie.After-enum-told)
+    → let a = c .before .before .before .before .before .before .args in
+    Accepted (a .n) (now (a .lows)) (now (a .highs))
 good c = sym (c .before .before .table-check .ensures) ∙ ap checkOutcome (c .enum-told .given .1)
 
 table-check-requires : tie.Need-table-check-requires
@@ -51,7 +52,8 @@ mark-links-requires c κs =
 returns-4 : tie.Need-returns-4
 returns-4 c =
     let a = c .before .before .before .before .before .before .before .args in
-    cut-refused (a .n) (now (a .lows)) (now (a .highs)) (a .k) (now (a .marks)) (c .before .refusal .given .0 .0) (sym (ap checkOutcome (c .before .refusal .given .1)) ∙ c .before .before .before .table-check .ensures)
+    let refusal = c .before .refusal .given in
+    cut-refused (a .n) (now (a .lows)) (now (a .highs)) (a .k) (now (a .marks)) (refusal .0 .0) (sym (ap checkOutcome (refusal .1)) ∙ c .before .before .before .table-check .ensures)
 
 same-length : tie.Need-same-length
 same-length c = search needs
@@ -59,8 +61,11 @@ same-length c = search needs
 returns-5 : tie.Need-returns-5
 returns-5 c =
     let a = c .before .before .before .before .before .before .before .before .before .before .before .before .before .before .before .before .before .args in
-    cut-done (a .n) (now (a .lows)) (now (a .highs)) (a .k) (now (a .marks)) (c .before .before .mark-links .result) (good (c .before .before .before .before .before .before .before .before .before .before .before)) (inside (a .k) (c .before .before .before .before .before .before .before .before .before .before .if1 .left) (c .before .before .before .before .before .before .before .before .before .if2 .left)) (c .before .before .before .before .before .before .before .before .if3 .left)
-    (c .before .before .before .before .before .before .number-links .ensures) (c .before .before .mark-links .ensures .0) (c .before .before .mark-links .ensures .1)
+    let inRange = inside (a .k) (c .before .before .before .before .before .before .before .before .before .before .if1 .left) (c .before .before .before .before .before .before .before .before .before .if2 .left) in
+    let enough = c .before .before .before .before .before .before .before .before .if3 .left in
+    let stored = c .before .before .before .before .before .before .number-links .ensures in
+    let marked = c .before .before .mark-links in
+    cut-done (a .n) (now (a .lows)) (now (a .highs)) (a .k) (now (a .marks)) (marked .result) (good (c .before .before .before .before .before .before .before .before .before .before .before)) inRange enough stored (marked .ensures .0) (marked .ensures .1)
 
 pub cut-spec : {M : Type 1} → statement M
 cut-spec =

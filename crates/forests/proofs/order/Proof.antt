@@ -1,6 +1,5 @@
 -- Order: a refused table, a list too short, or the whole order. Assumes nothing.
-use mathlib.Core.Path.{_≡_, sym, _∙_, ap}
-use native.Mathlib.Omega.{arith}
+use mathlib.Core.Path.{sym, _∙_, ap}
 use lib.ListN.{length}
 use denote.Ref.{now}
 use Rattle.definitions.specs.Network.{Accepted}
@@ -13,7 +12,9 @@ use borrow.Author.Needs.{needs}
 use Rattle.forests.proofs.order.Statement.{statement}
 use Rattle.forests.proofs.order.Tie as tie
 
-good : (c : tie.After-enum-told) → Accepted (c .before .before .before .before .before .before .before .args .n) (now (c .before .before .before .before .before .before .before .args .lows)) (now (c .before .before .before .before .before .before .before .args .highs))
+good : (c : tie.After-enum-told)
+    → let a = c .before .before .before .before .before .before .before .args in
+    Accepted (a .n) (now (a .lows)) (now (a .highs))
 good c = sym (c .before .before .table-check .ensures) ∙ ap checkOutcome (c .enum-told .given .1)
 
 table-check-requires : tie.Need-table-check-requires
@@ -43,7 +44,8 @@ place-relays-requires c κs = (good (c .before .before .before .before), c .befo
 returns-3 : tie.Need-returns-3
 returns-3 c =
     let a = c .before .before .before .before .before .before .before .before .args in
-    order-refused (a .n) (now (a .lows)) (now (a .highs)) (now (a .relays)) (now (a .places)) (c .before .refusal .given .0 .0) (sym (ap checkOutcome (c .before .refusal .given .1)) ∙ c .before .before .before .table-check .ensures)
+    let refusal = c .before .refusal .given in
+    order-refused (a .n) (now (a .lows)) (now (a .highs)) (now (a .relays)) (now (a .places)) (refusal .0 .0) (sym (ap checkOutcome (refusal .1)) ∙ c .before .before .before .table-check .ensures)
 
 same-length : tie.Need-same-length
 same-length c = search needs
@@ -54,7 +56,10 @@ same-length-2 c = search needs
 returns-4 : tie.Need-returns-4
 returns-4 c =
     let a = c .before .before .before .before .before .before .before .before .before .before .before .before .before .before .before .before .args in
-    order-done (a .n) (now (a .lows)) (now (a .highs)) (now (a .relays)) (now (a .places)) (good (c .before .before .before .before .before .before .before .before .before)) (c .before .before .before .before .before .before .before .before .if1 .left) (c .before .before .before .before .before .before .before .if2 .left) (c .before .before .before .before .place-relays .ensures .0) (c .before .before .before .before .place-relays .ensures .1)
+    let one = c .before .before .before .before .before .before .before .before .if1 .left in
+    let other = c .before .before .before .before .before .before .before .if2 .left in
+    let stored = c .before .before .before .before .place-relays .ensures in
+    order-done (a .n) (now (a .lows)) (now (a .highs)) (now (a .relays)) (now (a .places)) (good (c .before .before .before .before .before .before .before .before .before)) one other (stored .0) (stored .1)
 
 pub order-spec : {M : Type 1} → statement M
 order-spec =

@@ -1,7 +1,5 @@
 -- Split: a refused table, a list too short, or all forest numbers. Assumes nothing.
-use mathlib.Core.Path.{_≡_, sym, _∙_, ap}
-use native.Mathlib.Omega.{arith}
-use lib.ListN.{length}
+use mathlib.Core.Path.{sym, _∙_, ap}
 use denote.Ref.{now}
 use Rattle.definitions.specs.Network.{Accepted}
 use Rattle.network.specs.Answers.{checkOutcome}
@@ -10,7 +8,9 @@ use borrow.Author.Needs.{needs}
 use Rattle.forests.proofs.split.Statement.{statement}
 use Rattle.forests.proofs.split.Tie as tie
 
-good : (c : tie.After-enum-told) → Accepted (c .before .before .before .before .before .before .args .n) (now (c .before .before .before .before .before .before .args .lows)) (now (c .before .before .before .before .before .before .args .highs))
+good : (c : tie.After-enum-told)
+    → let a = c .before .before .before .before .before .before .args in
+    Accepted (a .n) (now (a .lows)) (now (a .highs))
 good c = sym (c .before .before .table-check .ensures) ∙ ap checkOutcome (c .enum-told .given .1)
 
 table-check-requires : tie.Need-table-check-requires
@@ -36,7 +36,8 @@ highest-requires c κs = search needs
 returns-2 : tie.Need-returns-2
 returns-2 c =
     let a = c .before .before .before .before .before .before .before .args in
-    split-refused (a .n) (now (a .lows)) (now (a .highs)) (now (a .forests)) (c .before .refusal .given .0 .0) (sym (ap checkOutcome (c .before .refusal .given .1)) ∙ c .before .before .before .table-check .ensures)
+    let refusal = c .before .refusal .given in
+    split-refused (a .n) (now (a .lows)) (now (a .highs)) (now (a .forests)) (refusal .0 .0) (sym (ap checkOutcome (refusal .1)) ∙ c .before .before .before .table-check .ensures)
 
 same-length : tie.Need-same-length
 same-length c = search needs
@@ -44,7 +45,9 @@ same-length c = search needs
 returns-3 : tie.Need-returns-3
 returns-3 c =
     let a = c .before .before .before .before .before .before .before .before .before .before .before .before .before .args in
-    split-done (a .n) (now (a .lows)) (now (a .highs)) (now (a .forests)) (c .highest .result) (good (c .before .before .before .before .before .before .before)) (c .before .before .before .before .before .before .if1 .left) (c .before .before .before .before .number-links .ensures) (c .highest .ensures)
+    let enough = c .before .before .before .before .before .before .if1 .left in
+    let stored = c .before .before .before .before .number-links .ensures in
+    split-done (a .n) (now (a .lows)) (now (a .highs)) (now (a .forests)) (c .highest .result) (good (c .before .before .before .before .before .before .before)) enough stored (c .highest .ensures)
 
 pub split-spec : {M : Type 1} → statement M
 split-spec =

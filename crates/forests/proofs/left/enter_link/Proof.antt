@@ -37,10 +37,14 @@ later-requires c κs = search needs
 earlier-requires : tie.Need-earlier-requires
 earlier-requires c κs = search needs
 
-late : (c : tie.After-earlier) → c .before .later .result .0 ≡ laterAt (c .before .before .before .before .before .before .before .before .before .before .before .before .before .before .args .lows .now) (c .before .before .before .before .before .before .before .before .before .before .before .before .before .before .args .highs .now) (c .before .before .before .before .before .before .before .before .before .before .before .before .before .before .args .places .now) (c .before .before .before .before .before .before .before .before .before .before .before .before .before .before .args .i)
+late : (c : tie.After-earlier)
+    → let a = c .before .before .before .before .before .before .before .before .before .before .before .before .before .before .args in
+    c .before .later .result .0 ≡ laterAt (a .lows .now) (a .highs .now) (a .places .now) (a .i)
 late c = c .before .later .ensures ∙ ap₂ max (c .before .before .before .before .before .before .before .place-of .ensures) (c .before .before .before .before .before .place-of2 .ensures)
 
-early : (c : tie.After-earlier) → c .earlier .result .0 ≡ earlierAt (c .before .before .before .before .before .before .before .before .before .before .before .before .before .before .args .lows .now) (c .before .before .before .before .before .before .before .before .before .before .before .before .before .before .args .highs .now) (c .before .before .before .before .before .before .before .before .before .before .before .before .before .before .args .places .now) (c .before .before .before .before .before .before .before .before .before .before .before .before .before .before .args .i)
+early : (c : tie.After-earlier)
+    → let a = c .before .before .before .before .before .before .before .before .before .before .before .before .before .before .args in
+    c .earlier .result .0 ≡ earlierAt (a .lows .now) (a .highs .now) (a .places .now) (a .i)
 early c = c .earlier .ensures ∙ ap₂ min (c .before .before .before .before .before .before .before .place-of .ensures) (c .before .before .before .before .before .place-of2 .ensures)
 
 put-left-requires : tie.Need-put-left-requires
@@ -55,13 +59,16 @@ same-length c = search needs
 returns : tie.Need-returns
 returns c =
     let a = c .before .before .before .before .before .before .before .before .before .before .before .before .before .before .before .before .before .args in
-    entered-some (a .n) (a .k) (a .i) (a .lows .now) (a .highs .now) (a .places .now) (a .forests .now) (a .table .now) (c .before .before .put-left .last .0)
-    (c .before .before .before .before .later .result .0) (c .before .before .before .earlier .result .0) (c .before .before .before .before .before .before .if1 .taken) (late (c .before .before .before)) (early (c .before .before .before)) (c .before .before .put-left .ensures)
+    let both = c .before .before .before in
+    entered-some (a .n) (a .k) (a .i) (a .lows .now) (a .highs .now) (a .places .now) (a .forests .now) (a .table .now) _
+    (both .before .later .result .0) (both .earlier .result .0) (c .before .before .before .before .before .before .if1 .taken) (late both) (early both)
+    (c .before .before .put-left .ensures)
 
 returns-2 : tie.Need-returns-2
 returns-2 c =
     let a = c .before .before .before .before .before .before .before .before .before .before .before .args in
-    entered-none (a .n) (a .k) (a .i) (a .lows .now) (a .highs .now) (a .places .now) (a .forests .now) (a .table .now) (c .if1 .left)
+    entered-none (a .n) (a .k) (a .i) (a .lows .now) (a .highs .now) (a .places .now) (a .forests .now) (a .table .now)
+    (c .if1 .left)
 
 pub enter-link-spec : {M : Type 1} → statement M
 enter-link-spec =

@@ -17,7 +17,9 @@ loop-holds : tie.Need-loop-holds Inv-loop μ-loop
 loop-holds c = (omega arith, left-starts (c .before .before .before .before .before .pre))
 
 enter-link-requires : tie.Need-enter-link-requires Inv-loop μ-loop
-enter-link-requires c κs = left-enters (c .before .before .before .before .before .before .before .before .pre) (c .before .before .loop .i) (omega arith) (c .before .before .loop .inv .1)
+enter-link-requires c κs =
+    let at = c .before .before .loop in
+    left-enters (c .before .before .before .before .before .before .before .before .pre) (at .i) (omega arith) (at .inv .1)
 
 add-i : tie.Need-add-i Inv-loop μ-loop
 add-i c = omega arith
@@ -26,7 +28,9 @@ loop-less : tie.Need-loop-less Inv-loop μ-loop
 loop-less c = omega arith
 
 loop-again : tie.Need-loop-again Inv-loop μ-loop
-loop-again c = (omega arith, left-moves (c .before .before .before .before .before .before .before .before .before .before .before .pre) (c .before .before .before .before .before .loop .i) (omega arith) (c .before .before .before .before .before .loop .inv .1) (c .before .before .enter-link .ensures))
+loop-again c =
+    let at = c .before .before .before .before .before .loop in
+    (omega arith, left-moves (c .before .before .before .before .before .before .before .before .before .before .before .pre) (at .i) (omega arith) (at .inv .1) (c .before .before .enter-link .ensures))
 
 same-length : tie.Need-same-length Inv-loop μ-loop
 same-length c = c .before .loop .inv .1 .long

@@ -10,10 +10,10 @@ use Rattle.forests.proofs.marks.highest.Statement.{statement}
 use Rattle.forests.proofs.marks.highest.Tie as tie
 
 abbrev Inv-loop : tie.InvT-loop
-Inv-loop m forests best₀ i₀ best i = (i ≤ m) × (best ≡ greatest (take i forests))
+Inv-loop count forests best₀ i₀ best i = (i ≤ count) × (best ≡ greatest (take i forests))
 
 abbrev μ-loop : tie.MeasureT-loop
-μ-loop m forests best₀ i₀ best i = m - i
+μ-loop count forests best₀ i₀ best i = count - i
 
 loop-holds : tie.Need-loop-holds Inv-loop μ-loop
 unfolding greatest
@@ -48,7 +48,7 @@ loop-again c =
 
 returns : tie.Need-returns Inv-loop μ-loop
 returns c =
-    let p : c .before .loop .i ≡ c .before .before .before .args .m = omega arith in
+    let p : c .before .loop .i ≡ c .before .before .before .args .count = omega arith in
     rw p at (c .before .loop .inv .1)
 
 pub highest-spec : {M : Type 1} → statement M

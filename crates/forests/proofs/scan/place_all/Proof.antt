@@ -20,16 +20,23 @@ add-v : tie.Need-add-v Inv-loop μ-loop
 add-v c = omega arith
 
 place-next-requires : tie.Need-place-next-requires Inv-loop μ-loop
-place-next-requires c κs = scan-places (c .before .before .before .before .before .before .before .before .before .before .before .pre) (c .before .before .before .before .before .loop .v) (omega arith) (c .before .before .before .before .before .loop .inv .1)
+place-next-requires c κs =
+    let at = c .before .before .before .before .before .loop in
+    scan-places (c .before .before .before .before .before .before .before .before .before .before .before .pre) (at .v) (omega arith) (at .inv .1)
 
 loop-less : tie.Need-loop-less Inv-loop μ-loop
 loop-less c = omega arith
 
 loop-again : tie.Need-loop-again Inv-loop μ-loop
-loop-again c = (omega arith, scan-moves (c .before .before .before .before .before .before .before .before .before .before .before .before .before .before .before .before .before .before .pre) (c .before .before .before .before .before .before .before .before .before .before .before .before .loop .v) (omega arith) (c .before .before .before .before .before .before .before .before .before .before .before .before .loop .inv .1) (c .before .before .before .before .before .before .place-next .ensures))
+loop-again c =
+    let at = c .before .before .before .before .before .before .before .before .before .before .before .before .loop in
+    let one = c .before .before .before .before .before .before .place-next in
+    (omega arith, scan-moves (c .before .before .before .before .before .before .before .before .before .before .before .before .before .before .before .before .before .before .pre) (at .v) (omega arith) (at .inv .1) (one .ensures))
 
 same-length : tie.Need-same-length Inv-loop μ-loop
-same-length c = relays-long (c .before .before .before .before .before .before .before .pre) (c .before .loop .v) (omega arith) (c .before .loop .inv .1)
+same-length c =
+    let at = c .before .loop in
+    relays-long (c .before .before .before .before .before .before .before .pre) (at .v) (omega arith) (at .inv .1)
 
 same-length-2 : tie.Need-same-length-2 Inv-loop μ-loop
 same-length-2 c = c .before .loop .inv .1 .placesAt .long

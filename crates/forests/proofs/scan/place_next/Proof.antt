@@ -7,7 +7,9 @@ use borrow.Author.Needs.{needs}
 use Rattle.forests.proofs.scan.place_next.Statement.{statement}
 use Rattle.forests.proofs.scan.place_next.Tie as tie
 
-which : (c : tie.After-relay-of) → c .relay-of .result .0 ≡ chosen (c .before .before .before .before .before .before .before .before .args .n) (c .before .before .before .before .before .before .before .before .args .keys .now)
+which : (c : tie.After-relay-of)
+    → let a = c .before .before .before .before .before .before .before .before .args in
+    c .relay-of .result .0 ≡ chosen (a .n) (a .keys .now)
 unfolding chosen
 which c = c .relay-of .ensures ∙ ap relayOf (c .before .greatest-key .ensures)
 
@@ -18,7 +20,9 @@ relay-of-requires : tie.Need-relay-of-requires
 relay-of-requires c κs = search needs
 
 put-requires : tie.Need-put-requires
-put-requires c κs = let p = c .before .before .before .before .before .before .before .before .before .before .pre in let x = which (c .before .before) in (p .some, p .within, rw x (p .room))
+put-requires c κs =
+    let p = c .before .before .before .before .before .before .before .before .before .before .pre in
+    (p .some, p .within, rw (which (c .before .before)) (p .room))
 
 walk-requires : tie.Need-walk-requires
 walk-requires c κs = rw (which (c .before .before .before .before .before .before .before .before .before)) (c .before .before .before .before .before .before .before .before .before .before .before .before .before .before .before .before .before .pre .walkable)
@@ -34,7 +38,9 @@ same-length-3 c = search needs
 
 returns : tie.Need-returns
 returns c =
-    placed-one (c .before .before .before .before .before .before .before .before .before .before .before .before .relay-of .result .0) (which (c .before .before .before .before .before .before .before .before .before .before .before .before)) (c .before .before .before .before .before .before .before .before .before .put .ensures .0) (c .before .before .before .before .before .before .before .before .before .put .ensures .1) (c .before .before .walk .ensures)
+    let choice = c .before .before .before .before .before .before .before .before .before .before .before .before in
+    let stored = c .before .before .before .before .before .before .before .before .before .put in
+    placed-one (choice .relay-of .result .0) (which choice) (stored .ensures .0) (stored .ensures .1) (c .before .before .walk .ensures)
 
 pub place-next-spec : {M : Type 1} → statement M
 place-next-spec =

@@ -7,7 +7,9 @@ use Rattle.forests.proofs.scan.scan.Statement.{statement}
 use Rattle.forests.proofs.scan.scan.Tie as tie
 
 cast-no-heads : tie.Need-cast-no-heads
-cast-no-heads c = omega (arith, accepted (c .before .before .before .before .before .args .n) (c .before .before .before .before .before .args .lows .now) (c .before .before .before .before .before .args .highs .now) (c .before .before .before .before .before .pre .accepted) .short)
+cast-no-heads c =
+    let s = c .before .before .before .before .before in
+    omega (arith, accepted (s .args .n) (s .args .lows .now) (s .args .highs .now) (s .pre .accepted) .short)
 
 no-heads-requires : tie.Need-no-heads-requires
 no-heads-requires c κs = search needs
@@ -19,13 +21,20 @@ no-nexts-requires-2 : tie.Need-no-nexts-requires-2
 no-nexts-requires-2 c κs = search needs
 
 link-up-requires : tie.Need-link-up-requires
-link-up-requires c κs = chain-ready (c .before .before .before .before .before .before .before .before .before .before .before .args .n) (c .before .before .before .before .before .before .before .before .before .before .before .pre .accepted) (c .before .before .before .before .before .no-heads .ensures) (c .before .before .before .before .no-nexts .ensures) (c .before .before .before .no-nexts2 .ensures)
+link-up-requires c κs =
+    let s = c .before .before .before .before .before .before .before .before .before .before .before in
+    let heads = c .before .before .before .before .before .no-heads in
+    let low = c .before .before .before .before .no-nexts in
+    let high = c .before .before .before .no-nexts2 in
+    chain-ready (s .args .n) (s .pre .accepted) (heads .ensures) (low .ensures) (high .ensures)
 
 no-keys-requires : tie.Need-no-keys-requires
 no-keys-requires c κs = search needs
 
 start-keys-requires : tie.Need-start-keys-requires
-start-keys-requires c κs = (accepted (c .before .before .before .before .before .before .before .before .before .before .before .before .before .before .args .n) (c .before .before .before .before .before .before .before .before .before .before .before .before .before .before .args .lows .now) (c .before .before .before .before .before .before .before .before .before .before .before .before .before .before .args .highs .now) (c .before .before .before .before .before .before .before .before .before .before .before .before .before .before .pre .accepted) .few, c .before .no-keys .ensures)
+start-keys-requires c κs =
+    let s = c .before .before .before .before .before .before .before .before .before .before .before .before .before .before in
+    (accepted (s .args .n) (s .args .lows .now) (s .args .highs .now) (s .pre .accepted) .few, c .before .no-keys .ensures)
 
 place-all-requires : tie.Need-place-all-requires
 place-all-requires c κs = search needs

@@ -7,11 +7,15 @@ use Rattle.forests.proofs.walk.other_end.Tie as tie
 
 returns : tie.Need-returns
 unfolding otherEnd
-returns c = sym (pick-eq (c .before .before .before .args .low .0) (c .before .before .before .args .x .0) (c .before .before .before .args .high .0) (c .before .before .before .args .low .0) (c .if1 .taken))
+returns c =
+    let a = c .before .before .before .args in
+    sym (pick-eq (a .low .0) (a .x .0) (a .high .0) (a .low .0) (c .if1 .taken))
 
 returns-2 : tie.Need-returns-2
 unfolding otherEnd
-returns-2 c = sym (pick-ne (c .before .before .before .args .low .0) (c .before .before .before .args .x .0) (c .before .before .before .args .high .0) (c .before .before .before .args .low .0) (c .if1 .left))
+returns-2 c =
+    let a = c .before .before .before .args in
+    sym (pick-ne (a .low .0) (a .x .0) (a .high .0) (a .low .0) (c .if1 .left))
 
 pub other-end-spec : {M : Type 1} → statement M
 other-end-spec = tie.close (tie.spec returns returns-2)

@@ -1,8 +1,8 @@
 -- After each turn the links of x below i are visited. Assumes nothing.
 use mathlib.Core.Path.{_≡_}
-use Prim.Native.Nat.{_-_}
+use Prim.Native.Nat.{_-_, _<_}
 use native.Mathlib.Omega.{arith}
-use lib.ListN.{length}
+use lib.ListN.{length, set}
 use Rattle.forests.proofs.WalkLaws.{Walking, walk-starts, walk-visits, walk-moves}
 use Rattle.forests.proofs.walk.walk.Statement.{statement}
 use Rattle.forests.proofs.walk.walk.Tie as tie
@@ -35,19 +35,34 @@ loop-holds : tie.Need-loop-holds Inv-loop μ-loop
 loop-holds c = walk-starts (c .before .before .before .before .before .before .pre) (c .wide .result) (c .wide .ensures)
 
 visit-requires : tie.Need-visit-requires Inv-loop μ-loop
-visit-requires c κs = walk-visits (c .before .before .before .before .before .before .before .before .before .before .pre) (c .before .before .before .loop .i) (omega arith) (c .before .before .before .loop .inv)
+visit-requires c κs =
+    let at = c .before .before .before in
+    walk-visits (c .before .before .before .before .before .before .before .before .before .before .pre) (at .loop .i) (omega arith) (at .loop .inv)
+
+moved : (c : tie.After-slice-known2 Inv-loop μ-loop)
+    → let a = c .before .before .before .before .before .before .before .before .before .before .before .before .before .args in
+    let visited = c .before .before .visit in
+    (c .before .before .before .before .before .before .loop .i < visited .result)
+    × Walking (a .lows .now) (a .highs .now) (a .x .0) (visited .result) (set (a .keys .now) (a .x .0) 0)
+    (visited .last .1 .1 .1 .1 .1 .1 .0) (a .forests .now) (visited .last .1 .1 .1 .1 .1 .1 .1 .0)
+moved c =
+    let at = c .before .before .before .before .before .before in
+    let visited = c .before .before .visit in
+    walk-moves (c .before .before .before .before .before .before .before .before .before .before .before .before .before .pre) (at .loop .i) (visited .result) (omega arith) (at .loop .inv) (visited .ensures)
 
 loop-less : tie.Need-loop-less Inv-loop μ-loop
-loop-less c = omega (arith, walk-moves (c .before .before .before .before .before .before .before .before .before .before .before .before .before .pre) (c .before .before .before .before .before .before .loop .i) (c .before .before .visit .result) (omega arith) (c .before .before .before .before .before .before .loop .inv) (c .before .before .visit .ensures) .0)
+loop-less c = omega (arith, moved c .0)
 
 loop-again : tie.Need-loop-again Inv-loop μ-loop
-loop-again c = walk-moves (c .before .before .before .before .before .before .before .before .before .before .before .before .before .pre) (c .before .before .before .before .before .before .loop .i) (c .before .before .visit .result) (omega arith) (c .before .before .before .before .before .before .loop .inv) (c .before .before .visit .ensures) .1
+loop-again c = moved c .1
 
 same-length : tie.Need-same-length Inv-loop μ-loop
 same-length c = c .before .loop .inv .2 .long
 
 returns : tie.Need-returns Inv-loop μ-loop
-returns c = let p : c .before .loop .i ≡ length (c .before .before .before .before .before .before .before .before .args .lows .now) = omega arith in rw p at (c .before .loop .inv .2)
+returns c =
+    let p : c .before .loop .i ≡ length (c .before .before .before .before .before .before .before .before .args .lows .now) = omega arith in
+    rw p at (c .before .loop .inv .2)
 
 pub walk-spec : {M : Type 1} → statement M
 walk-spec =
