@@ -1,5 +1,6 @@
 -- What the functions of the text answer, in the terms of the definitions, and laws of the forms.
 pub mod Scans
+pub mod Forms
 pub mod Words
 pub mod Numbers
 pub mod Lines

@@ -18,12 +18,14 @@ ghost use Rattle.text.specs.Answers.{readOutcome, writeOutcome};
 ghost use Rattle.text.specs.Put.{Put};
 ghost use Rattle.text.specs.Tables.{afterHeader, TableRead};
 
+pub mod mark;
 pub mod put;
 pub mod rows;
 pub mod scan;
 
 use network::Refusal;
 use rows::Step;
+use scan::Due;
 use scan::PairScan;
 
 // What Read answers: the number of relays and of links.
@@ -155,7 +157,7 @@ fn read_rows(
 fn read_table(text: &[u8], lows: &mut [u16], highs: &mut [u16]) -> ReadAnswer
     ensures { λ r. ⌜ TableRead (readNetwork (now (text .entry)) (length (now (lows .entry))) (length (now (highs .entry)))) (now (lows .entry)) (now (highs .entry)) (now (lows .exit)) (now (highs .exit)) r ⌝ }
 {
-    match scan::header_line(text, 0) {
+    match mark::form_at(text, 0, Due::Header) {
         PairScan::Departs(p) => ReadAnswer::Refused(Refusal::Form(p)),
         PairScan::Reads(n, m, p) => read_rows(text, n, m, p, lows, highs),
     }

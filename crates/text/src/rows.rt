@@ -5,8 +5,8 @@ ghost use Prim.Native.Nat.{ℕ, _≤_, _<_};
 ghost use lib.ListN.{length, take};
 ghost use Rattle.network.specs.Seen.{Seen};
 ghost use Rattle.text.specs.Rows.{LinkRead, LinksRead, EndRead, clearedFrom};
+use crate::scan::Due;
 use crate::scan::PairScan;
-use crate::scan::WordScan;
 use network::LinkCheck;
 use network::Refusal;
 
@@ -30,7 +30,7 @@ pub fn read_link(
     requires { ⌜ Seen (now seen) (take i (now lows)) (take i (now highs)) i ⌝ }
     ensures { λ r. ⌜ LinkRead (now (text .entry)) n i at (now (lows .entry)) (now (highs .entry)) (now (lows .exit)) (now (highs .exit)) (now (seen .exit)) r ⌝ }
 {
-    match crate::scan::link_line(text, at) {
+    match crate::mark::form_at(text, at, Due::Link) {
         PairScan::Departs(p) => Step::Refused(Refusal::Form(p)),
         PairScan::Reads(a, b, next) => match network::check_link(n, a, b, seen) {
             LinkCheck::RelayRange => Step::Refused(Refusal::RelayRange(i)),
@@ -79,9 +79,9 @@ pub fn read_links(
 pub fn read_end(text: &[u8], at: usize) -> Step
     ensures { λ r. ⌜ EndRead (now (text .entry)) at r ⌝ }
 {
-    match crate::scan::end_line(text, at) {
-        WordScan::Departs(p) => Step::Refused(Refusal::Form(p)),
-        WordScan::Reads(p) => {
+    match crate::mark::form_at(text, at, Due::End) {
+        PairScan::Departs(p) => Step::Refused(Refusal::Form(p)),
+        PairScan::Reads(_, _, p) => {
             if p < text.len() {
                 return Step::Refused(Refusal::Form(p));
             }

@@ -8,6 +8,7 @@ ghost use lib.ListN.{length};
 ghost use Rattle.definitions.specs.Form.{byteAt, word, numeral, scanWord, scanDigits, scanNumber, scanForm};
 ghost use Rattle.definitions.specs.Text.{headerForm, linkForm, endForm};
 ghost use Rattle.text_theory.specs.Forms.{noZero};
+ghost use Rattle.text.specs.Forms.{formOf, dueGives};
 ghost use Rattle.text.specs.Scans.{pairForm, wordGives, numberGives, pairGives};
 
 // A word: the offset of the first byte that departs, or the offset behind it.
@@ -26,6 +27,13 @@ pub enum NumberScan {
 pub enum PairScan {
     Departs(usize),
     Reads(u16, u16, usize),
+}
+
+// Which form of a network's text is due.
+pub enum Due {
+    Header,
+    Link,
+    End,
 }
 
 // The byte at an offset; past the end 0, which departs from every form.
@@ -141,4 +149,18 @@ pub fn end_line(text: &[u8], at: usize) -> WordScan
     ensures { λ r. ⌜ wordGives r ≡ scanForm (now (text .entry)) endForm at ⌝ }
 {
     word(text, b"(end)\n", at)
+}
+
+// The form that is due; the end has no number.
+pub fn form_line(text: &[u8], at: usize, due: Due) -> PairScan
+    ensures { λ r. ⌜ dueGives due r ≡ scanForm (now (text .entry)) (formOf due) at ⌝ }
+{
+    match due {
+        Due::Header => header_line(text, at),
+        Due::Link => link_line(text, at),
+        Due::End => match end_line(text, at) {
+            WordScan::Departs(p) => PairScan::Departs(p),
+            WordScan::Reads(p) => PairScan::Reads(0, 0, p),
+        },
+    }
 }

@@ -8,8 +8,8 @@ use Rattle.text.specs.Tables.{refused-early, header-departs, header-read
 use Rattle.text.proofs.read_table.Statement.{statement}
 use Rattle.text.proofs.read_table.Tie as tie
 
-header-line-requires : tie.Need-header-line-requires
-header-line-requires c κs = search needs
+form-at-requires : tie.Need-form-at-requires
+form-at-requires c κs = search needs
 
 enum-known-p : tie.Need-enum-known-p
 enum-known-p c = search needs
@@ -25,7 +25,7 @@ returns c =
     let a = c .before .before .before .before .before .before .before .args in
     refused-early _ (now (a .lows)) (now (a .highs)) _
     (header-departs (now (a .text)) _ (length (now (a .lows))) (length (now (a .highs)))
-    (sym (c .before .before .before .header-line .ensures) ∙ ap pairGives (c .before .p .given .1)))
+    (sym (c .before .before .before .form-at .ensures) ∙ ap pairGives (c .before .p .given .1)))
 
 same-length : tie.Need-same-length
 same-length c = search needs
@@ -38,14 +38,14 @@ returns-2 c =
     let a = c .before .before .before .before .before .before .before .before .before .before .before .before .before .before .args in
     table-same _ _ _ _ _ _ _
     (header-read (now (a .text)) _ _ _ (length (now (a .lows))) (length (now (a .highs)))
-    (sym (c .before .before .before .before .before .before .before .before .before .before .header-line .ensures) ∙ ap pairGives (c .before .before .before .before .before .before .before .before .n .given .1)))
+    (sym (c .before .before .before .before .before .before .before .before .before .before .form-at .ensures) ∙ ap pairGives (c .before .before .before .before .before .before .before .before .n .given .1)))
     (c .before .before .before .before .read-rows .ensures)
 
 pub read-table-spec : {M : Type 1} → statement M
 read-table-spec =
     tie.close
     (tie.spec
-    header-line-requires
+    form-at-requires
     enum-known-p
     enum-known-n
     read-rows-requires

@@ -2,13 +2,13 @@
 use mathlib.Core.Path.{sym, _∙_, ap}
 use borrow.Author.Needs.{needs}
 use denote.Ref.{now}
-use Rattle.text.specs.Scans.{wordGives}
+use Rattle.text.specs.Forms.{bareGives}
 use Rattle.text.specs.Read.{end-departs, end-more, end-done}
 use Rattle.text.proofs.rows.read_end.Statement.{statement}
 use Rattle.text.proofs.rows.read_end.Tie as tie
 
-end-line-requires : tie.Need-end-line-requires
-end-line-requires c κs = search needs
+form-at-requires : tie.Need-form-at-requires
+form-at-requires c κs = search needs
 
 enum-known-p : tie.Need-enum-known-p
 enum-known-p c = search needs
@@ -21,7 +21,7 @@ returns c =
     let a = c .before .before .before .before .before .before .args in
     record {
       follows = λ n lows highs.
-          end-more (now (a .text)) n lows highs (a .at) _ (sym (c .before .before .before .before .end-line .ensures) ∙ ap wordGives (c .before .before .p2 .given .1)) (c .if1 .taken);
+          end-more (now (a .text)) n lows highs (a .at) _ (sym (c .before .before .before .before .form-at .ensures) ∙ ap bareGives (c .before .before .p2 .given .1)) (c .if1 .taken);
     }
 
 returns-2 : tie.Need-returns-2
@@ -29,7 +29,7 @@ returns-2 c =
     let a = c .before .before .before .before .before .args in
     record {
       follows = λ n lows highs.
-          end-departs (now (a .text)) n lows highs (a .at) _ (sym (c .before .before .before .end-line .ensures) ∙ ap wordGives (c .before .p .given .1));
+          end-departs (now (a .text)) n lows highs (a .at) _ (sym (c .before .before .before .form-at .ensures) ∙ ap bareGives (c .before .p .given .1));
     }
 
 returns-3 : tie.Need-returns-3
@@ -37,9 +37,9 @@ returns-3 c =
     let a = c .before .before .before .before .before .before .args in
     record {
       follows = λ n lows highs.
-          end-done (now (a .text)) n lows highs (a .at) _ (sym (c .before .before .before .before .end-line .ensures) ∙ ap wordGives (c .before .before .p2 .given .1)) (c .if1 .left);
+          end-done (now (a .text)) n lows highs (a .at) _ (sym (c .before .before .before .before .form-at .ensures) ∙ ap bareGives (c .before .before .p2 .given .1)) (c .if1 .left);
     }
 
 pub read-end-spec : {M : Type 1} → statement M
 read-end-spec =
-    tie.close (tie.spec end-line-requires enum-known-p enum-known-p-2 returns returns-2 returns-3)
+    tie.close (tie.spec form-at-requires enum-known-p enum-known-p-2 returns returns-2 returns-3)

@@ -10,8 +10,8 @@ use Rattle.text.specs.Read.{read-departs, read-faulty, read-fine}
 use Rattle.text.proofs.rows.read_link.Statement.{statement}
 use Rattle.text.proofs.rows.read_link.Tie as tie
 
-link-line-requires : tie.Need-link-line-requires
-link-line-requires c κs = search needs
+form-at-requires : tie.Need-form-at-requires
+form-at-requires c κs = search needs
 
 enum-known-p : tie.Need-enum-known-p
 enum-known-p c = search needs
@@ -50,7 +50,7 @@ returns : tie.Need-returns
 returns c =
     let a = c .before .before .before .before .before .before .before .args in
     read-departs (now (a .text)) (a .n) (a .i) (a .at) (now (a .lows)) (now (a .highs)) _ _
-    (sym (c .before .before .before .link-line .ensures) ∙ ap pairGives (c .before .p .given .1))
+    (sym (c .before .before .before .form-at .ensures) ∙ ap pairGives (c .before .p .given .1))
 
 returns-2 : tie.Need-returns-2
 returns-2 c =
@@ -59,7 +59,7 @@ returns-2 c =
     read-faulty (now (a .text)) (a .n) (a .i) (a .at) (now (a .lows)) (now (a .highs)) (now (a .seen)) _ _ _ _ _
     (c .before .before .before .before .before .before .before .before .before .before .before .pre .0 .0) (c .before .before .before .before .before .before .before .before .before .before .before .pre .0 .1) (c .before .before .before .before .before .before .before .before .before .before .before .pre .0 .2) (c .before .before .before .before .before .before .before .before .before .before .before .pre .1)
     (c .before .before .check-link .ensures)
-    (sym (c .before .before .before .before .before .before .before .link-line .ensures) ∙ ap pairGives (c .before .before .before .before .before .a .given .1))
+    (sym (c .before .before .before .before .before .before .before .form-at .ensures) ∙ ap pairGives (c .before .before .before .before .before .a .given .1))
     (RelayRange (a .i)) (omega (arith, fault)) (rw fault)
 
 returns-3 : tie.Need-returns-3
@@ -69,7 +69,7 @@ returns-3 c =
     read-faulty (now (a .text)) (a .n) (a .i) (a .at) (now (a .lows)) (now (a .highs)) (now (a .seen)) _ _ _ _ _
     (c .before .before .before .before .before .before .before .before .before .before .before .pre .0 .0) (c .before .before .before .before .before .before .before .before .before .before .before .pre .0 .1) (c .before .before .before .before .before .before .before .before .before .before .before .pre .0 .2) (c .before .before .before .before .before .before .before .before .before .before .before .pre .1)
     (c .before .before .check-link .ensures)
-    (sym (c .before .before .before .before .before .before .before .link-line .ensures) ∙ ap pairGives (c .before .before .before .before .before .a .given .1))
+    (sym (c .before .before .before .before .before .before .before .form-at .ensures) ∙ ap pairGives (c .before .before .before .before .before .a .given .1))
     (NotBelow (a .i)) (omega (arith, fault)) (rw fault)
 
 returns-4 : tie.Need-returns-4
@@ -79,7 +79,7 @@ returns-4 c =
     read-faulty (now (a .text)) (a .n) (a .i) (a .at) (now (a .lows)) (now (a .highs)) (now (a .seen)) _ _ _ _ _
     (c .before .before .before .before .before .before .before .before .before .before .before .pre .0 .0) (c .before .before .before .before .before .before .before .before .before .before .before .pre .0 .1) (c .before .before .before .before .before .before .before .before .before .before .before .pre .0 .2) (c .before .before .before .before .before .before .before .before .before .before .before .pre .1)
     (c .before .before .check-link .ensures)
-    (sym (c .before .before .before .before .before .before .before .link-line .ensures) ∙ ap pairGives (c .before .before .before .before .before .a .given .1))
+    (sym (c .before .before .before .before .before .before .before .form-at .ensures) ∙ ap pairGives (c .before .before .before .before .before .a .given .1))
     (Repeated (a .i)) (omega (arith, fault)) (rw fault)
 
 same-length : tie.Need-same-length
@@ -94,14 +94,14 @@ returns-5 c =
     read-fine (now (a .text)) (a .n) (a .i) (a .at) (now (a .lows)) (now (a .highs)) (now (a .seen)) _ _ _ _ _
     (c .before .before .before .before .before .before .before .before .before .before .before .pre .0 .0) (c .before .before .before .before .before .before .before .before .before .before .before .pre .0 .1) (c .before .before .before .before .before .before .before .before .before .before .before .pre .0 .2) (c .before .before .before .before .before .before .before .before .before .before .before .pre .1)
     (c .before .before .check-link .ensures)
-    (sym (c .before .before .before .before .before .before .before .link-line .ensures) ∙ ap pairGives (c .before .before .before .before .before .a .given .1))
+    (sym (c .before .before .before .before .before .before .before .form-at .ensures) ∙ ap pairGives (c .before .before .before .before .before .a .given .1))
     (ap faultOf (c .enum-told4 .given .1))
 
 pub read-link-spec : {M : Type 1} → statement M
 read-link-spec =
     tie.close
     (tie.spec
-    link-line-requires
+    form-at-requires
     enum-known-p
     enum-known-a
     check-link-requires
