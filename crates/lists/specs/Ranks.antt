@@ -23,9 +23,10 @@ module _ (test : ℕ → Bool) where
           → (u < w → test (suc u) ≡ true → (length (rising test u) < length (rising test w)) × (getD (rising test w) (length (rising test u)) 0 ≡ suc u))
           → (length (rising test u) < length (snocIf b (rising test w) (suc w))) × (getD (snocIf b (rising test w) (suc w)) (length (rising test u)) 0 ≡ suc u)
       go (no d) true f rest =
-          let r = rest (omega arith) e in
-          (omega (arith, r .0, length-append (rising test w) (suc w ∷ [])),
-          List·getD-append (rising test w) (suc w ∷ []) 0 (length (rising test u)) (r .0) ∙ r .1)
+          let r = rest (omega arith) e in (
+            omega (arith, r .0, length-append (rising test w) (suc w ∷ [])),
+            List·getD-append (rising test w) (suc w ∷ []) 0 (length (rising test u)) (r .0) ∙ r .1,
+          )
       go (no d) false f rest = rest (omega arith) e
       go (yes d) true f rest =
           let same : u ≡ w = omega arith in

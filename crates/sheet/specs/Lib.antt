@@ -6,3 +6,4 @@ pub mod Reach
 pub mod Planned
 pub mod Routes
 pub mod Longest
+pub mod Stages
