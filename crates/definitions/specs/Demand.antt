@@ -7,7 +7,7 @@ use mathlib.Core.Logic.{_⊎_, _↔_, _≢_}
 use mathlib.Core.Path.{_≡_}
 use lib.Dec.{eqb}
 use lib.ListN.{length, getD, take, drop}
-use Rattle.definitions.specs.Outcome.{refused, done}
+use Rattle.definitions.specs.Outcome.{Answer, refused, done}
 use Rattle.definitions.specs.Lists.{table, has, count, total}
 use Rattle.definitions.specs.Network.{joins, linked, Accepted}
 use Rattle.definitions.specs.Order.{orderAnswer, relaysAfter, placesAfter}
@@ -96,15 +96,13 @@ pub record RoutesHold (n : ℕ) (lows highs marks : List ℕ) (k from to : ℕ) 
       → Apart lows highs from to (getD (cutUp (take k counts) relays) i []) (getD (cutUp (take k counts) relays) j [])
   pub written : total (take k counts) ≤ n - 2 + 2 * k
 
--- What demand 3 says of two different relays and of lists that are long enough: "Lists are long enough if Route has no
--- cause for 12." Route gives the k routes if the two are in one tree of forest k, and 13 exactly if they are not.
-pub record RouteDelivers (n : ℕ) (lows highs forests marks : List ℕ) (k from to : ℕ) (counts relays scratch : List ℕ) : Type 0 where
+-- What demand 3 says of two different relays and of lists that are long enough ("Lists are long enough if Route has no cause
+-- for 12"), about Route's answer and its two lists afterwards: the k routes if the two are in one tree of forest k, and 13
+-- exactly if they are not.
+pub record RouteDelivers (n : ℕ) (lows highs forests marks : List ℕ) (k from to : ℕ) (answer : Answer) (counts relays : List ℕ) : Type 0 where
   pub inOneTree : OneTree lows highs forests k from to
-      → (routeAnswer n lows highs k from to counts relays scratch
-      ≡ done (total (take k (countsAfter n lows highs k from to counts relays scratch)) ∷ []))
-      × RoutesHold n lows highs marks k from to (countsAfter n lows highs k from to counts relays scratch) (routeRelaysAfter n lows highs k from to counts relays scratch)
-  pub thirteen : (routeAnswer n lows highs k from to counts relays scratch ≡ refused 13 0)
-      ↔ (OneTree lows highs forests k from to → ⊥)
+      → (answer ≡ done (total (take k counts) ∷ [])) × RoutesHold n lows highs marks k from to counts relays
+  pub thirteen : (answer ≡ refused 13 0) ↔ (OneTree lows highs forests k from to → ⊥)
 
 -- The order as Order's two lists give it: each turns the other's numbers back, and "for every two vertices v < w, v has at
 -- least as many neighbors in {1, …, v − 1} as w has" (document 002, section 2).
@@ -127,7 +125,10 @@ pub record Holds (n : ℕ) (lows highs : List ℕ) (k : ℕ) (relays places fore
   pub inOne : (i : ℕ) → i < length lows → (1 ≤ getD forests i 0) × (getD forests i 0 < n)
   pub routes : (from to : ℕ) → from < n → to < n → from ≢ to → (counts routeRelays scratch : List ℕ)
       → tooShort n k counts routeRelays scratch ≡ false
-      → RouteDelivers n lows highs forests marks k from to counts routeRelays scratch
+      → RouteDelivers n lows highs forests marks k from to
+      (routeAnswer n lows highs k from to counts routeRelays scratch)
+      (countsAfter n lows highs k from to counts routeRelays scratch)
+      (routeRelaysAfter n lows highs k from to counts routeRelays scratch)
 
 -- Demand 3: for every accepted network, every k from 1 to 32, and every list long enough lent to Order, Split and Cut.
 abbrev pub DemandThree : Type 0

@@ -8,3 +8,4 @@ pub mod StepLaws
 pub mod FinishLaws
 pub mod ScanLaws
 pub mod LeftLaws
+pub mod AnswerLaws

@@ -4,3 +4,4 @@ pub mod Keys
 pub mod Walk
 pub mod Scan
 pub mod Left
+pub mod Answers

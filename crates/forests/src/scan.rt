@@ -12,7 +12,10 @@ use network::Relay;
 ghost use Prim.Native.Nat.{_-_, _<_, _≤_};
 ghost use mathlib.Core.Path.{_≡_};
 ghost use lib.ListN.{length, getD, set};
-ghost use Rattle.definitions.specs.Order.{relayAt};
+ghost use Rattle.definitions.specs.Lists.{overwrite};
+ghost use Rattle.definitions.specs.Network.{Accepted};
+ghost use Rattle.definitions.specs.Order.{relayAt, orderOf, placesOf};
+ghost use Rattle.definitions.specs.Forests.{forestsOf};
 ghost use Rattle.forests.specs.Scan.{Placeable, PlacedOne, Startable, Scannable, Scanned};
 
 // The order's two lists turn a place into a relay and a relay into a place.
@@ -137,4 +140,25 @@ pub fn scan(
         places,
         forests,
     );
+}
+
+// The order and the places alone.
+pub fn place_relays(n: u16, lows: &[u16], highs: &[u16], relays: &mut [u16], places: &mut [u16])
+    requires { ⌜ Accepted n (now lows) (now highs) × (n ≤ length (now relays)) × (n ≤ length (now places)) ⌝ }
+    ensures { λ _. ⌜ now (relays .exit) ≡ overwrite (orderOf n (now (lows .entry)) (now (highs .entry))) (now (relays .entry)) ⌝ }
+    ensures { λ _. ⌜ now (places .exit)
+        ≡ overwrite (placesOf n (orderOf n (now (lows .entry)) (now (highs .entry)))) (now (places .entry)) ⌝ }
+{
+    let mut forests = no_nexts();
+    scan(n, lows, highs, relays, places, &mut forests);
+}
+
+// The forest numbers alone.
+pub fn number_links(n: u16, lows: &[u16], highs: &[u16], forests: &mut [u16])
+    requires { ⌜ Accepted n (now lows) (now highs) × (length (now lows) ≤ length (now forests)) ⌝ }
+    ensures { λ _. ⌜ now (forests .exit) ≡ overwrite (forestsOf n (now (lows .entry)) (now (highs .entry))) (now (forests .entry)) ⌝ }
+{
+    let mut relays = no_heads(0);
+    let mut places = no_heads(0);
+    scan(n, lows, highs, &mut relays, &mut places, forests);
 }

@@ -17,7 +17,6 @@ pub mod Ranges
 pub mod SomeBelow
 pub mod Bitmap
 pub mod Rising
-pub mod Ranks
 pub mod Totals
 pub mod Greatest
 pub mod Stretches
@@ -33,3 +32,4 @@ pub mod Reversed
 pub mod Concat
 pub mod Stores
 pub mod Grids
+pub mod Mapped

@@ -21,7 +21,7 @@ use Rattle.network.specs.declared.Refusal.the-variants.{
   NotOneTree,
 }
 
-unfoldable pub numberOf : Refusal → ℕ
+abbrev pub numberOf : Refusal → ℕ
 numberOf (Wish place) = 1
 numberOf (Form place) = 2
 numberOf RelayCount = 3
@@ -36,7 +36,7 @@ numberOf SameEnds = 11
 numberOf Room = 12
 numberOf NotOneTree = 13
 
-unfoldable pub placeOf : Refusal → ℕ
+abbrev pub placeOf : Refusal → ℕ
 placeOf (Wish place) = place
 placeOf (Form place) = place
 placeOf RelayCount = 0
@@ -52,7 +52,6 @@ placeOf Room = 0
 placeOf NotOneTree = 0
 
 pub refusal-is : {A : Type 0} (refusal : Refusal) → refusalOf {A = A} refusal ≡ refused (numberOf refusal) (placeOf refusal)
-unfolding numberOf placeOf
 refusal-is (Wish place) = refl
 refusal-is (Form place) = refl
 refusal-is RelayCount = refl

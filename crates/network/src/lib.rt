@@ -5,6 +5,7 @@ ghost use Prim.Native.Nat.{_<_, _≤_};
 ghost use lib.ListN.{length, replicate};
 ghost use Rattle.definitions.specs.Network.{rowStart, pairNumber, pairAnswer, linksCheck, tableCheck};
 ghost use Rattle.network.specs.Answers.{pairOutcome, checkOutcome};
+ghost use Rattle.network.specs.Refusals.{numberOf, placeOf};
 ghost use Rattle.network.specs.Seen.{LinkChecked, Seen};
 
 // A relay number, never a place in the order.
@@ -48,6 +49,48 @@ pub enum LinkCheck {
     RelayRange,
     NotBelow,
     Repeated,
+}
+
+// The number of a refusal, as document 01 counts them.
+pub fn refusal_number(refusal: Refusal) -> u16
+    ensures { λ r. ⌜ r ≡ numberOf refusal ⌝ }
+{
+    match refusal {
+        Refusal::Wish(_) => 1,
+        Refusal::Form(_) => 2,
+        Refusal::RelayCount => 3,
+        Refusal::LinkCount => 4,
+        Refusal::RelayRange(_) => 5,
+        Refusal::NotBelow(_) => 6,
+        Refusal::Repeated(_) => 7,
+        Refusal::TableRoom => 8,
+        Refusal::RouteCount => 9,
+        Refusal::EndRange => 10,
+        Refusal::SameEnds => 11,
+        Refusal::Room => 12,
+        Refusal::NotOneTree => 13,
+    }
+}
+
+// The place of a refusal in the input.
+pub fn refusal_place(refusal: Refusal) -> usize
+    ensures { λ r. ⌜ r ≡ placeOf refusal ⌝ }
+{
+    match refusal {
+        Refusal::Wish(place) => place,
+        Refusal::Form(place) => place,
+        Refusal::RelayRange(link) => link,
+        Refusal::NotBelow(link) => link,
+        Refusal::Repeated(link) => link,
+        Refusal::RelayCount => 0,
+        Refusal::LinkCount => 0,
+        Refusal::TableRoom => 0,
+        Refusal::RouteCount => 0,
+        Refusal::EndRange => 0,
+        Refusal::SameEnds => 0,
+        Refusal::Room => 0,
+        Refusal::NotOneTree => 0,
+    }
 }
 
 // The first pair number of the links whose high relay is b.

@@ -7,40 +7,11 @@ use network::Pair;
 use network::Refusal;
 use network::Relay;
 
-fn number_of(refusal: Refusal) -> u64 {
-    match refusal {
-        Refusal::Wish(_) => 1,
-        Refusal::Form(_) => 2,
-        Refusal::RelayCount => 3,
-        Refusal::LinkCount => 4,
-        Refusal::RelayRange(_) => 5,
-        Refusal::NotBelow(_) => 6,
-        Refusal::Repeated(_) => 7,
-        Refusal::TableRoom => 8,
-        Refusal::RouteCount => 9,
-        Refusal::EndRange => 10,
-        Refusal::SameEnds => 11,
-        Refusal::Room => 12,
-        Refusal::NotOneTree => 13,
-    }
-}
-
-fn place_of(refusal: Refusal) -> u64 {
-    match refusal {
-        Refusal::Wish(place) => place as u64,
-        Refusal::Form(place) => place as u64,
-        Refusal::RelayRange(link) => link as u64,
-        Refusal::NotBelow(link) => link as u64,
-        Refusal::Repeated(link) => link as u64,
-        _ => 0,
-    }
-}
-
 fn show_refusal(refusal: Refusal) {
     io::write_all(1, b"(refused ");
-    io::print_decimal(1, number_of(refusal));
+    io::print_decimal(1, network::refusal_number(refusal) as u64);
     io::write_all(1, b" ");
-    io::print_decimal(1, place_of(refusal));
+    io::print_decimal(1, network::refusal_place(refusal) as u64);
     io::write_all(1, b")\n");
 }
 

@@ -1,74 +1,22 @@
 // The C interface: each operation of document 01 as a C function. What a code and the two entries of `answer` mean is said in
 // specs/Reported.antt, and for C programs in include/nolkisei.h.
 ghost use mathlib.Core.Path.{_≡_};
-ghost use mathlib.Core.List.{[], _∷_};
-ghost use Rattle.definitions.specs.Outcome.{done};
 ghost use Rattle.definitions.specs.Network.{pairAnswer, tableCheck};
-ghost use Rattle.network.specs.Answers.{refusalOf};
-ghost use Rattle.network.specs.Refusals.{numberOf, placeOf};
+ghost use Rattle.definitions.specs.Text.{readAnswer, lowsAfter, highsAfter, writeAnswer, bufferAfter};
+ghost use Rattle.definitions.specs.Order.{orderAnswer, relaysAfter, placesAfter};
+ghost use Rattle.definitions.specs.Forests.{splitAnswer, forestsAfter, cutAnswer, marksAfter};
 ghost use Rattle.nolkisei.specs.Reported.{reported};
+
+mod report;
+
+use forests::CutAnswer;
+use forests::OrderAnswer;
+use forests::SplitAnswer;
 use network::Check;
 use network::Pair;
-use network::Refusal;
 use network::Relay;
-
-// A refusal's number.
-fn code(refusal: Refusal) -> u32
-    ensures { λ r. ⌜ r ≡ numberOf refusal ⌝ }
-{
-    match refusal {
-        Refusal::Wish(_) => 1,
-        Refusal::Form(_) => 2,
-        Refusal::RelayCount => 3,
-        Refusal::LinkCount => 4,
-        Refusal::RelayRange(_) => 5,
-        Refusal::NotBelow(_) => 6,
-        Refusal::Repeated(_) => 7,
-        Refusal::TableRoom => 8,
-        Refusal::RouteCount => 9,
-        Refusal::EndRange => 10,
-        Refusal::SameEnds => 11,
-        Refusal::Room => 12,
-        Refusal::NotOneTree => 13,
-    }
-}
-
-// A refusal's place.
-fn place(refusal: Refusal) -> u64
-    ensures { λ r. ⌜ r ≡ placeOf refusal ⌝ }
-{
-    match refusal {
-        Refusal::Wish(offset) => offset as u64,
-        Refusal::Form(offset) => offset as u64,
-        Refusal::RelayCount => 0,
-        Refusal::LinkCount => 0,
-        Refusal::RelayRange(link) => link as u64,
-        Refusal::NotBelow(link) => link as u64,
-        Refusal::Repeated(link) => link as u64,
-        Refusal::TableRoom => 0,
-        Refusal::RouteCount => 0,
-        Refusal::EndRange => 0,
-        Refusal::SameEnds => 0,
-        Refusal::Room => 0,
-        Refusal::NotOneTree => 0,
-    }
-}
-
-// Reports success with two values, 0 for none.
-fn give(first: u64, second: u64, answer: &mut [u64; 2]) -> u32
-    ensures { λ r. ⌜ reported (done (first ∷ second ∷ [])) ≡ (r, now (answer .exit)) ⌝ }
-{
-    *answer = [first, second];
-    0
-}
-
-// Reports a refusal.
-fn refuse(refusal: Refusal, answer: &mut [u64; 2]) -> u32
-    ensures { λ r. ⌜ reported (refusalOf refusal) ≡ (r, now (answer .exit)) ⌝ }
-{
-    *answer = [place(refusal), 0];
-    code(refusal)
-}
+use text::ReadAnswer;
+use text::WriteAnswer;
 
 // The table check.
 #[no_mangle]
@@ -76,8 +24,8 @@ pub extern "C" fn nolkisei_check(n: u16, lows: &[u16], highs: &[u16], answer: &m
     ensures { λ r. ⌜ reported (tableCheck n (now (lows .entry)) (now (highs .entry))) ≡ (r, now (answer .exit)) ⌝ }
 {
     match network::table_check(n, lows, highs) {
-        Check::Accepted => give(0, 0, answer),
-        Check::Refused(refusal) => refuse(refusal, answer),
+        Check::Accepted => report::give(0, 0, answer),
+        Check::Refused(refusal) => report::refuse(refusal, answer),
     }
 }
 
@@ -87,7 +35,103 @@ pub extern "C" fn nolkisei_pair(a: u16, b: u16, answer: &mut [u64; 2]) -> u32
     ensures { λ r. ⌜ reported (pairAnswer a b) ≡ (r, now (answer .exit)) ⌝ }
 {
     match network::pair_number(Relay(a), Relay(b)) {
-        Pair::Number(number) => give(number as u64, 0, answer),
-        Pair::Refused(refusal) => refuse(refusal, answer),
+        Pair::Number(number) => report::give(number as u64, 0, answer),
+        Pair::Refused(refusal) => report::refuse(refusal, answer),
+    }
+}
+
+// Read: a text into a table.
+#[no_mangle]
+pub extern "C" fn nolkisei_read(
+    text: &[u8],
+    lows: &mut [u16],
+    highs: &mut [u16],
+    answer: &mut [u64; 2],
+) -> u32
+    ensures answer { λ r. ⌜ reported (readAnswer (now (text .entry)) (now (lows .entry)) (now (highs .entry))) ≡ (r, now (answer .exit)) ⌝ }
+    ensures lowList { λ _. ⌜ now (lows .exit) ≡ lowsAfter (now (text .entry)) (now (lows .entry)) (now (highs .entry)) ⌝ }
+    ensures highList { λ _. ⌜ now (highs .exit) ≡ highsAfter (now (text .entry)) (now (lows .entry)) (now (highs .entry)) ⌝ }
+{
+    match text::read(text, lows, highs) {
+        ReadAnswer::Table(n, m) => report::give(n as u64, m as u64, answer),
+        ReadAnswer::Refused(refusal) => report::refuse(refusal, answer),
+    }
+}
+
+// Write: the text of a table into the buffer.
+#[no_mangle]
+pub extern "C" fn nolkisei_write(
+    n: u16,
+    lows: &[u16],
+    highs: &[u16],
+    buffer: &mut [u8],
+    answer: &mut [u64; 2],
+) -> u32
+    ensures answer { λ r. ⌜ reported (writeAnswer n (now (lows .entry)) (now (highs .entry)) (now (buffer .entry))) ≡ (r, now (answer .exit)) ⌝ }
+    ensures bytes { λ _. ⌜ now (buffer .exit) ≡ bufferAfter n (now (lows .entry)) (now (highs .entry)) (now (buffer .entry)) ⌝ }
+{
+    match text::write(n, lows, highs, buffer) {
+        WriteAnswer::Length(size) => report::give(size as u64, 0, answer),
+        WriteAnswer::Refused(refusal) => report::refuse(refusal, answer),
+    }
+}
+
+// Order: the relay at each place and the place of each relay.
+#[no_mangle]
+pub extern "C" fn nolkisei_order(
+    n: u16,
+    lows: &[u16],
+    highs: &[u16],
+    relays: &mut [u16],
+    places: &mut [u16],
+    answer: &mut [u64; 2],
+) -> u32
+    ensures answer { λ r. ⌜ reported (orderAnswer n (now (lows .entry)) (now (highs .entry)) (now (relays .entry)) (now (places .entry)))
+        ≡ (r, now (answer .exit)) ⌝ }
+    ensures relays { λ _. ⌜ now (relays .exit)
+        ≡ relaysAfter n (now (lows .entry)) (now (highs .entry)) (now (relays .entry)) (now (places .entry)) ⌝ }
+    ensures places { λ _. ⌜ now (places .exit)
+        ≡ placesAfter n (now (lows .entry)) (now (highs .entry)) (now (relays .entry)) (now (places .entry)) ⌝ }
+{
+    match forests::order(n, lows, highs, relays, places) {
+        OrderAnswer::Done => report::give(0, 0, answer),
+        OrderAnswer::Refused(refusal) => report::refuse(refusal, answer),
+    }
+}
+
+// Split: the forest of each link.
+#[no_mangle]
+pub extern "C" fn nolkisei_split(
+    n: u16,
+    lows: &[u16],
+    highs: &[u16],
+    forests: &mut [u16],
+    answer: &mut [u64; 2],
+) -> u32
+    ensures answer { λ r. ⌜ reported (splitAnswer n (now (lows .entry)) (now (highs .entry)) (now (forests .entry))) ≡ (r, now (answer .exit)) ⌝ }
+    ensures forests { λ _. ⌜ now (forests .exit) ≡ forestsAfter n (now (lows .entry)) (now (highs .entry)) (now (forests .entry)) ⌝ }
+{
+    match forests::split(n, lows, highs, forests) {
+        SplitAnswer::Highest(forest) => report::give(forest as u64, 0, answer),
+        SplitAnswer::Refused(refusal) => report::refuse(refusal, answer),
+    }
+}
+
+// Cut: a mark for each link, 1 where it is kept.
+#[no_mangle]
+pub extern "C" fn nolkisei_cut(
+    n: u16,
+    lows: &[u16],
+    highs: &[u16],
+    k: u16,
+    marks: &mut [u16],
+    answer: &mut [u64; 2],
+) -> u32
+    ensures answer { λ r. ⌜ reported (cutAnswer n (now (lows .entry)) (now (highs .entry)) k (now (marks .entry))) ≡ (r, now (answer .exit)) ⌝ }
+    ensures marks { λ _. ⌜ now (marks .exit) ≡ marksAfter n (now (lows .entry)) (now (highs .entry)) k (now (marks .entry)) ⌝ }
+{
+    match forests::cut(n, lows, highs, k, marks) {
+        CutAnswer::Kept(count) => report::give(count as u64, 0, answer),
+        CutAnswer::Refused(refusal) => report::refuse(refusal, answer),
     }
 }

@@ -15,3 +15,7 @@ pub mod Stores
 pub mod WrittenOut
 pub mod Routed
 pub mod BetweenTurns
+pub mod OneTree
+pub mod Answered
+pub mod Answering
+pub mod RouteAnswers

@@ -24,7 +24,7 @@ holds-same k s t both old new same held =
       heldB = side-same k t (both .sideB) (λ i. old i .pathB) (λ i. new i .pathB) (λ i one le. ap (λ (x : Slot). x .pathB) (same i one le)) (held .heldB);
     }
 
-zeros-entry : (n i : ℕ) → _≡_ {A = ℕ} (getD (replicate n 0) i 0) 0
+pub zeros-entry : (n i : ℕ) → _≡_ {A = ℕ} (getD (replicate n 0) i 0) 0
 zeros-entry zero i = refl
 zeros-entry (suc n) zero = refl
 zeros-entry (suc n) (suc i) = zeros-entry n i

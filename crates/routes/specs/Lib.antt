@@ -3,3 +3,4 @@ pub mod Side
 pub mod Sides
 pub mod Writing
 pub mod Between
+pub mod Answers

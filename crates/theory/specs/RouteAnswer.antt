@@ -92,7 +92,10 @@ module _ (n : ℕ) (lows highs : List ℕ) (ok : Accepted n lows highs) (k : ℕ
     refusal true e none = absurd (none (one-tree-test n lows highs ok forests numbered k from to hf ht differ .1 e))
     refusal false e none = answer-by-test false e
 
-    pub delivers : RouteDelivers n lows highs forests marks k from to counts relays scratch
+    pub delivers : RouteDelivers n lows highs forests marks k from to
+        (routeAnswer n lows highs k from to counts relays scratch)
+        (countsAfter n lows highs k from to counts relays scratch)
+        (routeRelaysAfter n lows highs k from to counts relays scratch)
     delivers =
         record {
           inOneTree = delivered;

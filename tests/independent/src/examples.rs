@@ -98,6 +98,8 @@ fn two_ways_agree() {
         let (mut swift_relays, mut swift_places) = (relays.clone(), relays.clone());
         let mut swift_forests = vec![0; lows.len()];
         swift::scan(n, lows, highs, &mut swift_relays, &mut swift_places, &mut swift_forests);
+        assert_eq!((&relays, &forests), (&swift_relays, &swift_forests));
+        swift::scan_by::<swift::Blocks>(n, lows, highs, &mut swift_relays, &mut swift_places, &mut swift_forests);
         assert_eq!((relays, forests), (swift_relays, swift_forests));
         let (mut one, mut two) = ([7; 50_000], [7; 50_000]);
         assert_eq!(write(n, lows, highs, &mut one), swift::write(n, lows, highs, &mut two));

@@ -151,7 +151,7 @@ pub fn any(random: &mut Random, most: usize) -> Network {
 
 /// Damages a table, mostly so that the check refuses it.
 pub fn damage(random: &mut Random, net: &mut Network) {
-    let m = net.lows.len();
+    let m = net.lows.len().min(net.highs.len());
     let at = random.below(m);
     let value = *random.pick(&[0, 1, net.n.wrapping_sub(1), net.n, net.n.wrapping_add(1), 999, 1000, 65535]);
     match random.below(12) {

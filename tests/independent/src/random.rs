@@ -7,12 +7,12 @@ impl Random {
     pub fn new(seed: u64) -> Random {
         let mut random = Random((seed ^ 0x9e37_79b9_7f4a_7c15).max(1));
         for _ in 0..8 {
-            random.next();
+            random.draw();
         }
         random
     }
 
-    pub fn next(&mut self) -> u64 {
+    pub fn draw(&mut self) -> u64 {
         self.0 ^= self.0 << 13;
         self.0 ^= self.0 >> 7;
         self.0 ^= self.0 << 17;
@@ -21,7 +21,7 @@ impl Random {
 
     /// A number below `bound`; 0 if the bound is 0.
     pub fn below(&mut self, bound: usize) -> usize {
-        ((u128::from(self.next()) * bound as u128) >> 64) as usize
+        ((u128::from(self.draw()) * bound as u128) >> 64) as usize
     }
 
     /// A number from `low` to `high`, both included.
@@ -45,10 +45,10 @@ impl Random {
     }
 
     pub fn numbers(&mut self, length: usize) -> Vec<u16> {
-        (0..length).map(|_| self.next() as u16).collect()
+        (0..length).map(|_| self.draw() as u16).collect()
     }
 
     pub fn bytes(&mut self, length: usize) -> Vec<u8> {
-        (0..length).map(|_| self.next() as u8).collect()
+        (0..length).map(|_| self.draw() as u8).collect()
     }
 }

@@ -36,9 +36,85 @@ fn link(n: u16, seen: &mut [u64; 7805], index: usize, a: u16, b: u16) -> Result<
     Ok(())
 }
 
-/// Order, places and forest numbers in one pass: chains of links, a key for each relay.
-/// The key is the count of placed neighbours and then the lower relay number; 0 once placed.
-pub fn scan(n: u16, lows: &[u16], highs: &[u16], relays: &mut [u16], places: &mut [u16], forests: &mut [u16]) {
+/// Who is placed next: a key for each relay, the count of placed neighbours first and then the lower relay number; 0 once placed.
+pub trait Keys {
+    fn new(n: usize) -> Self;
+    /// Takes the relay with the greatest key out.
+    fn take(&mut self) -> usize;
+    /// One more placed neighbour: the count so far, or 0 for a placed relay.
+    fn raise(&mut self, relay: usize) -> u16;
+}
+
+fn start_keys(n: usize) -> [u32; 1024] {
+    std::array::from_fn(|relay| if relay < n { 1024 + (1023 - relay as u32) } else { 0 })
+}
+
+/// One array of keys, gone through for each place.
+pub struct Plain {
+    keys: [u32; 1024],
+    n: usize,
+}
+
+impl Keys for Plain {
+    fn new(n: usize) -> Plain {
+        Plain { keys: start_keys(n), n }
+    }
+
+    fn take(&mut self) -> usize {
+        let best = self.keys[..self.n].iter().copied().fold(0, u32::max);
+        let relay = 1023 - (best & 1023) as usize;
+        self.keys[relay] = 0;
+        relay
+    }
+
+    fn raise(&mut self, relay: usize) -> u16 {
+        let key = &mut self.keys[relay];
+        if *key == 0 {
+            return 0;
+        }
+        *key += 1024;
+        ((*key >> 10) - 1) as u16
+    }
+}
+
+/// Two levels: the greatest key of each block of 32 relays beside the keys.
+pub struct Blocks {
+    keys: [[u32; 32]; 32],
+    tops: [u32; 32],
+}
+
+fn top(keys: &[u32; 32]) -> u32 {
+    keys.iter().copied().fold(0, u32::max)
+}
+
+impl Keys for Blocks {
+    fn new(n: usize) -> Blocks {
+        let all = start_keys(n);
+        let keys = std::array::from_fn(|block| std::array::from_fn(|at| all[32 * block + at]));
+        Blocks { keys, tops: std::array::from_fn(|block| top(&keys[block])) }
+    }
+
+    fn take(&mut self) -> usize {
+        let relay = 1023 - (top(&self.tops) & 1023) as usize;
+        self.keys[relay / 32][relay % 32] = 0;
+        self.tops[relay / 32] = top(&self.keys[relay / 32]);
+        relay
+    }
+
+    fn raise(&mut self, relay: usize) -> u16 {
+        let key = &mut self.keys[relay / 32][relay % 32];
+        if *key == 0 {
+            return 0;
+        }
+        *key += 1024;
+        let top = &mut self.tops[relay / 32];
+        *top = (*top).max(*key);
+        ((*key >> 10) - 1) as u16
+    }
+}
+
+/// Order, places and forest numbers in one pass over chains of links.
+pub fn scan_by<K: Keys>(n: u16, lows: &[u16], highs: &[u16], relays: &mut [u16], places: &mut [u16], forests: &mut [u16]) {
     const NONE: u16 = u16::MAX;
     let size = usize::from(n);
     let mut first = [NONE; 1000];
@@ -49,28 +125,28 @@ pub fn scan(n: u16, lows: &[u16], highs: &[u16], relays: &mut [u16], places: &mu
             first[usize::from(relay)] = link as u16;
         }
     }
-    let mut keys = [0u32; 1000];
-    for (relay, key) in keys[..size].iter_mut().enumerate() {
-        *key = 1024 + (1023 - relay as u32);
-    }
-    for step in 0..size {
-        let best = keys[..size].iter().copied().fold(0, u32::max);
-        let relay = 1023 - (best & 1023) as usize;
-        keys[relay] = 0;
-        relays[step] = relay as u16;
+    let mut keys = K::new(size);
+    for (step, at_step) in relays[..size].iter_mut().enumerate() {
+        let relay = keys.take();
+        *at_step = relay as u16;
         places[relay] = step as u16 + 1;
         let mut at = first[relay];
         while at != NONE {
             let link = usize::from(at);
             let side = usize::from(usize::from(lows[link]) != relay);
             let other = usize::from(if side == 0 { highs[link] } else { lows[link] });
-            if keys[other] != 0 {
-                keys[other] += 1024;
-                forests[link] = ((keys[other] >> 10) - 1) as u16;
+            let forest = keys.raise(other);
+            if forest != 0 {
+                forests[link] = forest;
             }
             at = next[link][side];
         }
     }
+}
+
+/// The scan that the proved code makes, too.
+pub fn scan(n: u16, lows: &[u16], highs: &[u16], relays: &mut [u16], places: &mut [u16], forests: &mut [u16]) {
+    scan_by::<Plain>(n, lows, highs, relays, places, forests);
 }
 
 /// Order.
@@ -80,6 +156,16 @@ pub fn order(n: u16, lows: &[u16], highs: &[u16], relays: &mut [u16], places: &m
         return plain(12);
     }
     scan(n, lows, highs, relays, places, &mut [0; 3000]);
+    Ok(())
+}
+
+/// Order over keys in two levels.
+pub fn order_by_blocks(n: u16, lows: &[u16], highs: &[u16], relays: &mut [u16], places: &mut [u16]) -> Result<(), Refusal> {
+    check(n, lows, highs)?;
+    if relays.len() < usize::from(n) || places.len() < usize::from(n) {
+        return plain(12);
+    }
+    scan_by::<Blocks>(n, lows, highs, relays, places, &mut [0; 3000]);
     Ok(())
 }
 
@@ -253,4 +339,55 @@ pub fn write(n: u16, lows: &[u16], highs: &[u16], buffer: &mut [u8]) -> Result<u
     }
     put(buffer, &mut at, b"(end)\n");
     Ok(at)
+}
+
+fn sheet(input: &[u8]) -> Result<Vec<u8>, Refusal> {
+    let wish = |at: &mut usize| -> Result<Wish, Refusal> {
+        word(input, at, b"(want ")?;
+        let from = number(input, at)?;
+        word(input, at, b" ")?;
+        let to = number(input, at)?;
+        word(input, at, b" ")?;
+        let k = number(input, at)?;
+        word(input, at, b")\n")?;
+        Ok(Wish { k, from, to })
+    };
+    let mut at = 0;
+    let wish = wish(&mut at).map_err(|refusal| Refusal { number: 1, ..refusal })?;
+    let (mut lows, mut highs) = ([0; 3000], [0; 3000]);
+    let (n, m) = read(&input[at..], &mut lows, &mut highs)?;
+    let (lows, highs) = (&lows[..usize::from(m)], &highs[..usize::from(m)]);
+    let kept = cut(n, lows, highs, wish.k, &mut [0; 3000])?;
+    if wish.from >= n || wish.to >= n {
+        return plain(10);
+    }
+    if wish.from == wish.to {
+        return plain(11);
+    }
+    let Some(routes) = routes(n, lows, highs, wish) else { return plain(13) };
+    let mut sheet = vec![0; 4608];
+    let mut at = 0;
+    for (front, value) in [(&b"(sheet (from "[..], wish.from), (b") (to ", wish.to), (b") (k ", wish.k)] {
+        put(&mut sheet, &mut at, front);
+        put_number(&mut sheet, &mut at, value);
+    }
+    put(&mut sheet, &mut at, b"))\n");
+    for route in routes {
+        put(&mut sheet, &mut at, b"(route");
+        for relay in route {
+            put(&mut sheet, &mut at, b" ");
+            put_number(&mut sheet, &mut at, relay);
+        }
+        put(&mut sheet, &mut at, b")\n");
+    }
+    put(&mut sheet, &mut at, b"(kept ");
+    put_number(&mut sheet, &mut at, kept);
+    put(&mut sheet, &mut at, b")\n(end)\n");
+    sheet.truncate(at);
+    Ok(sheet)
+}
+
+/// What the planner prints for an input.
+pub fn plan(input: &[u8]) -> Vec<u8> {
+    sheet(input).unwrap_or_else(|Refusal { number, place }| format!("(refused {number} {place})\n").into_bytes())
 }

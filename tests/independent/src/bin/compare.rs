@@ -84,7 +84,7 @@ fn read(random: &mut Random, tally: &mut Tally, input: &[u8], links: usize) {
 }
 
 fn planned(random: &mut Random, tally: &mut Tally, input: &[u8]) {
-    let before = random.next() as u8;
+    let before = random.draw() as u8;
     let mut output = [before; SHEET];
     let length = library::plan(input, &mut output);
     let reference = plan::plan(input);
@@ -145,9 +145,14 @@ fn wish(random: &mut Random, net: &Network, numbers: &[u16]) -> Wish {
 fn routed(random: &mut Random, tally: &mut Tally, net: &Network, wish: Wish) {
     let Network { n, lows, highs } = net;
     let (k, size) = (usize::from(wish.k.min(40)), usize::from(*n));
-    let (mut counts, mut relays) = two_lists(random, k, (size + 2 * k).saturating_sub(2));
-    let room = length(random, k * size);
-    let mut scratch = random.numbers(room);
+    let lent = |random: &mut Random, exact: usize| {
+        let short = random.once_in(3);
+        let length = length(random, exact);
+        random.numbers(if short { length } else { length.max(exact) })
+    };
+    let mut counts = lent(random, k);
+    let mut relays = lent(random, (size + 2 * k).saturating_sub(2));
+    let mut scratch = lent(random, k * size);
     let mut theirs = (counts.clone(), relays.clone(), scratch.clone());
     let outcome = sweep::route(*n, lows, highs, wish, &mut counts, &mut relays, &mut scratch);
     let report = library::route(*n, lows, highs, wish, &mut theirs.0, &mut theirs.1, &mut theirs.2);

@@ -1,9 +1,9 @@
--- `nolkisei::code` meets its contract: each variant has its number. Assumes nothing.
+-- `nolkisei::report::code` meets its contract: each variant has its number. Assumes nothing.
 use mathlib.Core.Path.{sym, ap}
 use borrow.Author.Needs.{needs}
 use Rattle.network.specs.Refusals.{numberOf}
-use Rattle.nolkisei.proofs.code.Statement.{statement}
-use Rattle.nolkisei.proofs.code.Tie as tie
+use Rattle.nolkisei.proofs.report.code.Statement.{statement}
+use Rattle.nolkisei.proofs.report.code.Tie as tie
 
 enum-told : tie.Need-enum-told
 enum-told c = search needs

@@ -1,9 +1,9 @@
--- `nolkisei::place` meets its contract: each variant has its place. Assumes nothing.
+-- `nolkisei::report::place` meets its contract: each variant has its place. Assumes nothing.
 use mathlib.Core.Path.{sym, ap}
 use borrow.Author.Needs.{needs}
 use Rattle.network.specs.Refusals.{placeOf}
-use Rattle.nolkisei.proofs.place.Statement.{statement}
-use Rattle.nolkisei.proofs.place.Tie as tie
+use Rattle.nolkisei.proofs.report.place.Statement.{statement}
+use Rattle.nolkisei.proofs.report.place.Tie as tie
 
 enum-known-refusal : tie.Need-enum-known-refusal
 enum-known-refusal c = search needs

@@ -1,8 +1,8 @@
--- `nolkisei::refuse` meets its contract: the refusal's number and place. Assumes nothing.
+-- `nolkisei::report::refuse` meets its contract: the refusal's number and place. Assumes nothing.
 use borrow.Author.Needs.{needs}
 use Rattle.nolkisei.specs.Reported.{reported-refusal}
-use Rattle.nolkisei.proofs.refuse.Statement.{statement}
-use Rattle.nolkisei.proofs.refuse.Tie as tie
+use Rattle.nolkisei.proofs.report.refuse.Statement.{statement}
+use Rattle.nolkisei.proofs.report.refuse.Tie as tie
 
 place-requires : tie.Need-place-requires
 place-requires c κs = search needs

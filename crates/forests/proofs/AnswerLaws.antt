@@ -1,0 +1,163 @@
+-- The answers of Order, Split and Cut and their lists afterwards, way by way. Assumes nothing.
+use Prim.Native.Nat.{ℕ, _≤_, _<_}
+use mathlib.Core.Bool.{Bool, true, false, _||_}
+use mathlib.Core.List.{List, [], _∷_, _++_, map}
+use mathlib.Core.Path.{_≡_, refl, sym, _∙_, ap}
+use native.Mathlib.Omega.{arith}
+use borrow.Author.Tests.{lt-ltb, le-ltb}
+use lib.Dec.{ltb, leb}
+use lib.ListN.{length, take, drop, replicate, length-replicate, length-map}
+use lib.Seq.{take-at, drop-at}
+use Rattle.definitions.specs.Outcome.{pick, refused, done, refuseIf, andThen, ifDone, Answer}
+use Rattle.definitions.specs.Lists.{overwrite, outside, total, greatest}
+use Rattle.definitions.specs.Network.{tableCheck, Accepted}
+use Rattle.definitions.specs.Order.{orderOf, placesOf, orderAnswer, relaysAfter, placesAfter}
+use Rattle.definitions.specs.Forests.{
+  forestsOf,
+  splitAnswer,
+  forestsAfter,
+  markOf,
+  marksOf,
+  cutAnswer,
+  marksAfter,
+}
+use Rattle.lists.specs.Tests.{or-left, or-right, or-neither}
+use Rattle.network.specs.Answers.{refusalOf}
+use Rattle.network.specs.Refusals.{refusal-then, refusal-keeps}
+use Rattle.network.specs.declared.Refusal.{Refusal}
+use Rattle.theory.specs.Accepted.{accepted}
+use Rattle.theory.specs.ForestBound.{forests-length}
+
+-- Zeros for 1,000 relays or 3,000 links are enough.
+pub relay-room : (n : ℕ) (lows highs list : List ℕ) → Accepted n lows highs → list ≡ replicate 1000 0 → n ≤ length list
+relay-room n lows highs list ok e =
+    omega (arith, accepted n lows highs ok .few, ap length e ∙ length-replicate {A = ℕ} 1000 0)
+
+pub link-room : (n : ℕ) (lows highs list : List ℕ) → Accepted n lows highs → list ≡ replicate 3000 0 → length lows ≤ length list
+link-room n lows highs list ok e =
+    omega (arith, accepted n lows highs ok .short, ap length e ∙ length-replicate {A = ℕ} 3000 0)
+
+pub mark-small : (k forest : ℕ) → markOf k forest ≤ 1
+unfolding markOf
+mark-small k forest = go (leb forest k)
+  where
+    go : (b : Bool) → pick b 1 0 ≤ 1
+    go true = omega arith
+    go false = omega arith
+
+-- After a refusal of the table check the refusal stands, and no list changes.
+pub refusal-stands : (refusal : Refusal) (check : Answer) (next : List ℕ → Answer) → check ≡ refusalOf refusal
+    → refusalOf refusal ≡ andThen check next
+refusal-stands refusal check next e = sym (ap (λ c. andThen c next) e ∙ refusal-then refusal next)
+
+kept-by : (refusal : Refusal) (answer : Answer) (new old : List ℕ) → refusalOf refusal ≡ answer → old ≡ ifDone answer new old
+kept-by refusal answer new old e = sym (ap (λ a. ifDone a new old) (sym e) ∙ refusal-keeps (List ℕ) refusal new old)
+
+module _ (n : ℕ) (lows highs relays places : List ℕ) where
+  pub order-refused : (refusal : Refusal) → refusalOf refusal ≡ tableCheck n lows highs
+      → (refusalOf refusal ≡ orderAnswer n lows highs relays places)
+      × ((relays ≡ relaysAfter n lows highs relays places) × (places ≡ placesAfter n lows highs relays places))
+  unfolding orderAnswer relaysAfter placesAfter
+  order-refused refusal e =
+      let stands = refusal-stands refusal (tableCheck n lows highs) _ (sym e) in (
+        stands,
+        (
+          kept-by refusal (orderAnswer n lows highs relays places) _ relays stands,
+          kept-by refusal (orderAnswer n lows highs relays places) _ places stands,
+        ),
+      )
+
+  pub order-short : Accepted n lows highs → (ltb (length relays) n || ltb (length places) n) ≡ true
+      → (refused 12 0 ≡ orderAnswer n lows highs relays places)
+      × ((relays ≡ relaysAfter n lows highs relays places) × (places ≡ placesAfter n lows highs relays places))
+  unfolding orderAnswer relaysAfter placesAfter andThen refuseIf ifDone
+  order-short ok h = (rw (ok, h), (rw (ok, h), rw (ok, h)))
+
+  pub order-done : {relays′ places′ : List ℕ} → Accepted n lows highs → n ≤ length relays → n ≤ length places
+      → relays′ ≡ overwrite (orderOf n lows highs) relays → places′ ≡ overwrite (placesOf n (orderOf n lows highs)) places
+      → (done [] ≡ orderAnswer n lows highs relays places)
+      × ((relays′ ≡ relaysAfter n lows highs relays places) × (places′ ≡ placesAfter n lows highs relays places))
+  unfolding orderAnswer relaysAfter placesAfter andThen refuseIf ifDone
+  order-done ok h k r p =
+      let long = or-neither (ltb (length relays) n) (ltb (length places) n) (le-ltb (length relays) n h) (le-ltb (length places) n k) in
+      (rw (ok, long), (rw (ok, long) r, rw (ok, long) p))
+
+module _ (n : ℕ) (lows highs forests : List ℕ) where
+  pub split-refused : (refusal : Refusal) → refusalOf refusal ≡ tableCheck n lows highs
+      → (refusalOf refusal ≡ splitAnswer n lows highs forests) × (forests ≡ forestsAfter n lows highs forests)
+  unfolding splitAnswer forestsAfter
+  split-refused refusal e =
+      let stands = refusal-stands refusal (tableCheck n lows highs) _ (sym e) in
+      (stands, kept-by refusal (splitAnswer n lows highs forests) _ forests stands)
+
+  pub split-short : Accepted n lows highs → length forests < length lows
+      → (refused 12 0 ≡ splitAnswer n lows highs forests) × (forests ≡ forestsAfter n lows highs forests)
+  unfolding splitAnswer forestsAfter andThen refuseIf ifDone
+  split-short ok h =
+      let short = lt-ltb (length forests) (length lows) h in
+      (rw (ok, short), rw (ok, short))
+
+  pub front-forests : take (length lows) (overwrite (forestsOf n lows highs) forests) ≡ forestsOf n lows highs
+  unfolding overwrite
+  front-forests = take-at (forestsOf n lows highs) (drop (length (forestsOf n lows highs)) forests) (length lows) (forests-length n lows highs)
+
+  pub split-done : {forests′ : List ℕ} (highest : ℕ) → Accepted n lows highs → length lows ≤ length forests
+      → forests′ ≡ overwrite (forestsOf n lows highs) forests → highest ≡ greatest (take (length lows) forests′)
+      → (done (highest ∷ []) ≡ splitAnswer n lows highs forests) × (forests′ ≡ forestsAfter n lows highs forests)
+  unfolding splitAnswer forestsAfter andThen refuseIf ifDone
+  split-done highest ok h f e =
+      let long = le-ltb (length forests) (length lows) h in
+      let value : highest ≡ greatest (forestsOf n lows highs) =
+      e ∙ ap (λ l. greatest (take (length lows) l)) f ∙ ap greatest front-forests in
+      (rw (ok, long) (ap (λ x. done (x ∷ [])) value), rw (ok, long) f)
+
+pub outside-low : (k : ℕ) → k < 1 → outside 1 32 k ≡ true
+unfolding outside
+outside-low k h = or-left (ltb k 1) (ltb 32 k) (lt-ltb k 1 h)
+
+pub outside-high : (k : ℕ) → 32 < k → outside 1 32 k ≡ true
+unfolding outside
+outside-high k h = or-right (ltb k 1) (ltb 32 k) (lt-ltb 32 k h)
+
+pub inside : (k : ℕ) → 1 ≤ k → k ≤ 32 → outside 1 32 k ≡ false
+unfolding outside
+inside k h p = or-neither (ltb k 1) (ltb 32 k) (le-ltb k 1 h) (le-ltb 32 k p)
+
+module _ (n : ℕ) (lows highs : List ℕ) (k : ℕ) (marks : List ℕ) where
+  pub cut-refused : (refusal : Refusal) → refusalOf refusal ≡ tableCheck n lows highs
+      → (refusalOf refusal ≡ cutAnswer n lows highs k marks) × (marks ≡ marksAfter n lows highs k marks)
+  unfolding cutAnswer marksAfter
+  cut-refused refusal e =
+      let stands = refusal-stands refusal (tableCheck n lows highs) _ (sym e) in
+      (stands, kept-by refusal (cutAnswer n lows highs k marks) _ marks stands)
+
+  pub cut-count : Accepted n lows highs → outside 1 32 k ≡ true
+      → (refused 9 0 ≡ cutAnswer n lows highs k marks) × (marks ≡ marksAfter n lows highs k marks)
+  unfolding cutAnswer marksAfter andThen refuseIf ifDone
+  cut-count ok h = (rw (ok, h), rw (ok, h))
+
+  pub cut-short : Accepted n lows highs → outside 1 32 k ≡ false → length marks < length lows
+      → (refused 12 0 ≡ cutAnswer n lows highs k marks) × (marks ≡ marksAfter n lows highs k marks)
+  unfolding cutAnswer marksAfter andThen refuseIf ifDone
+  cut-short ok h p =
+      let short = lt-ltb (length marks) (length lows) p in
+      (rw (ok, h, short), rw (ok, h, short))
+
+  pub cut-done : {numbers marks′ : List ℕ} (kept : ℕ) → Accepted n lows highs → outside 1 32 k ≡ false
+      → length lows ≤ length marks → numbers ≡ overwrite (forestsOf n lows highs) marks
+      → kept ≡ total (map (markOf k) (take (length lows) numbers))
+      → marks′ ≡ map (markOf k) (take (length lows) numbers) ++ drop (length lows) numbers
+      → (done (kept ∷ []) ≡ cutAnswer n lows highs k marks) × (marks′ ≡ marksAfter n lows highs k marks)
+  unfolding cutAnswer marksAfter marksOf andThen refuseIf ifDone overwrite
+  cut-done {numbers} {marks′} kept ok h p f e m =
+      let long = le-ltb (length marks) (length lows) p in
+      let all = forestsOf n lows highs in
+      let front : take (length lows) numbers ≡ all = ap (take (length lows)) f ∙ front-forests n lows highs marks in
+      let value : kept ≡ total (map (markOf k) all) = e ∙ ap (λ l. total (map (markOf k) l)) front in
+      let rest : drop (length lows) numbers ≡ drop (length (map (markOf k) all)) marks =
+      ap (drop (length lows)) f
+      ∙ drop-at all (drop (length all) marks) (length lows) (forests-length n lows highs)
+      ∙ ap (λ j. drop j marks) (sym (length-map all (markOf k))) in (
+        rw (ok, h, long) (ap (λ x. done (x ∷ [])) value),
+        rw (ok, h, long) (m ∙ ap (λ l. map (markOf k) l ++ drop (length lows) numbers) front ∙ ap (λ l. map (markOf k) all ++ l) rest),
+      )

@@ -1,0 +1,79 @@
+-- Cut: a refused table, k out of range, a list too short, or all marks. Assumes nothing.
+use Rattle.theory.specs.Accepted.{accepted}
+use mathlib.Core.Path.{_≡_, sym, _∙_, ap}
+use native.Mathlib.Omega.{arith}
+use lib.ListN.{length}
+use denote.Ref.{now}
+use Rattle.definitions.specs.Network.{Accepted}
+use Rattle.network.specs.Answers.{checkOutcome}
+use Rattle.forests.proofs.AnswerLaws.{outside-low, outside-high, inside, cut-refused, cut-count, cut-short, cut-done}
+use borrow.Author.Needs.{needs}
+use Rattle.forests.proofs.cut.Statement.{statement}
+use Rattle.forests.proofs.cut.Tie as tie
+
+good : (c : tie.After-enum-told) → Accepted (c .before .before .before .before .before .before .args .n) (now (c .before .before .before .before .before .before .args .lows)) (now (c .before .before .before .before .before .before .args .highs))
+good c = sym (c .before .before .table-check .ensures) ∙ ap checkOutcome (c .enum-told .given .1)
+
+table-check-requires : tie.Need-table-check-requires
+table-check-requires c κs = search needs
+
+enum-known-refusal : tie.Need-enum-known-refusal
+enum-known-refusal c = search needs
+
+enum-told : tie.Need-enum-told
+enum-told c = search needs
+
+returns : tie.Need-returns
+returns c =
+    let a = c .before .before .before .before .before .before .before .args in
+    cut-count (a .n) (now (a .lows)) (now (a .highs)) (a .k) (now (a .marks)) (good (c .before)) (outside-low (a .k) (c .if1 .taken))
+
+returns-2 : tie.Need-returns-2
+returns-2 c =
+    let a = c .before .before .before .before .before .before .before .before .args in
+    cut-count (a .n) (now (a .lows)) (now (a .highs)) (a .k) (now (a .marks)) (good (c .before .before)) (outside-high (a .k) (c .if2 .taken))
+
+returns-3 : tie.Need-returns-3
+returns-3 c =
+    let a = c .before .before .before .before .before .before .before .before .before .args in
+    cut-short (a .n) (now (a .lows)) (now (a .highs)) (a .k) (now (a .marks)) (good (c .before .before .before)) (inside (a .k) (c .before .before .if1 .left) (c .before .if2 .left)) (c .if3 .taken)
+
+number-links-requires : tie.Need-number-links-requires
+number-links-requires c κs = (good (c .before .before .before .before), c .before .if3 .left)
+
+mark-links-requires : tie.Need-mark-links-requires
+mark-links-requires c κs =
+    let a = c .before .before .before .before .before .before .before .before .before .before .before .before .before .before .args in (
+      accepted (a .n) (now (a .lows)) (now (a .highs)) (good (c .before .before .before .before .before .before .before .before)) .short,
+      omega (arith, c .before .before .before .number-links .kept .1 .1 .1 .0, c .before .before .before .before .before .if3 .left),
+    )
+
+returns-4 : tie.Need-returns-4
+returns-4 c =
+    let a = c .before .before .before .before .before .before .before .args in
+    cut-refused (a .n) (now (a .lows)) (now (a .highs)) (a .k) (now (a .marks)) (c .before .refusal .given .0 .0) (sym (ap checkOutcome (c .before .refusal .given .1)) ∙ c .before .before .before .table-check .ensures)
+
+same-length : tie.Need-same-length
+same-length c = search needs
+
+returns-5 : tie.Need-returns-5
+returns-5 c =
+    let a = c .before .before .before .before .before .before .before .before .before .before .before .before .before .before .before .before .before .args in
+    cut-done (a .n) (now (a .lows)) (now (a .highs)) (a .k) (now (a .marks)) (c .before .before .mark-links .result) (good (c .before .before .before .before .before .before .before .before .before .before .before)) (inside (a .k) (c .before .before .before .before .before .before .before .before .before .before .if1 .left) (c .before .before .before .before .before .before .before .before .before .if2 .left)) (c .before .before .before .before .before .before .before .before .if3 .left)
+    (c .before .before .before .before .before .before .number-links .ensures) (c .before .before .mark-links .ensures .0) (c .before .before .mark-links .ensures .1)
+
+pub cut-spec : {M : Type 1} → statement M
+cut-spec =
+    tie.close
+    (tie.spec
+    table-check-requires
+    enum-known-refusal
+    enum-told
+    returns
+    returns-2
+    returns-3
+    number-links-requires
+    mark-links-requires
+    returns-4
+    same-length
+    returns-5)

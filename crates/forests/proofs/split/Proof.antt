@@ -1,0 +1,61 @@
+-- Split: a refused table, a list too short, or all forest numbers. Assumes nothing.
+use mathlib.Core.Path.{_≡_, sym, _∙_, ap}
+use native.Mathlib.Omega.{arith}
+use lib.ListN.{length}
+use denote.Ref.{now}
+use Rattle.definitions.specs.Network.{Accepted}
+use Rattle.network.specs.Answers.{checkOutcome}
+use Rattle.forests.proofs.AnswerLaws.{split-refused, split-short, split-done}
+use borrow.Author.Needs.{needs}
+use Rattle.forests.proofs.split.Statement.{statement}
+use Rattle.forests.proofs.split.Tie as tie
+
+good : (c : tie.After-enum-told) → Accepted (c .before .before .before .before .before .before .args .n) (now (c .before .before .before .before .before .before .args .lows)) (now (c .before .before .before .before .before .before .args .highs))
+good c = sym (c .before .before .table-check .ensures) ∙ ap checkOutcome (c .enum-told .given .1)
+
+table-check-requires : tie.Need-table-check-requires
+table-check-requires c κs = search needs
+
+enum-known-refusal : tie.Need-enum-known-refusal
+enum-known-refusal c = search needs
+
+enum-told : tie.Need-enum-told
+enum-told c = search needs
+
+returns : tie.Need-returns
+returns c =
+    let a = c .before .before .before .before .before .before .before .args in
+    split-short (a .n) (now (a .lows)) (now (a .highs)) (now (a .forests)) (good (c .before)) (c .if1 .taken)
+
+number-links-requires : tie.Need-number-links-requires
+number-links-requires c κs = (good (c .before .before), c .before .if1 .left)
+
+highest-requires : tie.Need-highest-requires
+highest-requires c κs = search needs
+
+returns-2 : tie.Need-returns-2
+returns-2 c =
+    let a = c .before .before .before .before .before .before .before .args in
+    split-refused (a .n) (now (a .lows)) (now (a .highs)) (now (a .forests)) (c .before .refusal .given .0 .0) (sym (ap checkOutcome (c .before .refusal .given .1)) ∙ c .before .before .before .table-check .ensures)
+
+same-length : tie.Need-same-length
+same-length c = search needs
+
+returns-3 : tie.Need-returns-3
+returns-3 c =
+    let a = c .before .before .before .before .before .before .before .before .before .before .before .before .before .args in
+    split-done (a .n) (now (a .lows)) (now (a .highs)) (now (a .forests)) (c .highest .result) (good (c .before .before .before .before .before .before .before)) (c .before .before .before .before .before .before .if1 .left) (c .before .before .before .before .number-links .ensures) (c .highest .ensures)
+
+pub split-spec : {M : Type 1} → statement M
+split-spec =
+    tie.close
+    (tie.spec
+    table-check-requires
+    enum-known-refusal
+    enum-told
+    returns
+    number-links-requires
+    highest-requires
+    returns-2
+    same-length
+    returns-3)

@@ -1,0 +1,51 @@
+// The highest forest number, and the marks of the cut.
+ghost use Prim.Native.Nat.{max, _≤_};
+ghost use mathlib.Core.List.{_++_, map};
+ghost use mathlib.Core.Path.{_≡_};
+ghost use lib.ListN.{length, take, drop};
+ghost use Rattle.definitions.specs.Lists.{total, greatest};
+ghost use Rattle.definitions.specs.Forests.{markOf};
+
+fn higher(a: u16, b: u16) -> u16
+    ensures { λ r. ⌜ r ≡ max a b ⌝ }
+{
+    if a < b { b } else { a }
+}
+
+// The highest of the first m numbers, 0 of none.
+pub fn highest(m: usize, forests: &[u16]) -> u16
+    requires { ⌜ m ≤ length (now forests) ⌝ }
+    ensures { λ r. ⌜ r ≡ greatest (take m (now (forests .entry))) ⌝ }
+{
+    let mut best = 0;
+    let mut i = 0;
+    while i < m {
+        best = higher(best, forests[i]);
+        i += 1;
+    }
+    best
+}
+
+// 1 for a link of the first k forests, which is kept, 0 for another.
+fn mark(k: u16, forest: u16) -> u16
+    ensures { λ r. ⌜ r ≡ markOf k forest ⌝ }
+{
+    if forest <= k { 1 } else { 0 }
+}
+
+// The first m forest numbers become marks; gives how many are kept.
+pub fn mark_links(m: usize, k: u16, marks: &mut [u16]) -> u16
+    requires { ⌜ (m ≤ 3000) × (m ≤ length (now marks)) ⌝ }
+    ensures { λ r. ⌜ r ≡ total (map (markOf k) (take m (now (marks .entry)))) ⌝ }
+    ensures { λ _. ⌜ now (marks .exit) ≡ map (markOf k) (take m (now (marks .entry))) ++ drop m (now (marks .entry)) ⌝ }
+{
+    let mut kept = 0;
+    let mut i = 0;
+    while i < m {
+        let it = mark(k, marks[i]);
+        marks[i] = it;
+        kept += it;
+        i += 1;
+    }
+    kept
+}

@@ -1,0 +1,162 @@
+-- What Route's inner functions ask of each other and answer, in the code's terms.
+use Prim.Native.Nat.{ℕ, _*_, _≤_, _<_}
+use mathlib.Core.Bool.{Bool, true, false}
+use mathlib.Core.List.{List, [], _∷_, map}
+use mathlib.Core.Path.{_≡_, refl, sym, _∙_, ap}
+use native.Mathlib.Nat.{zero-add}
+use native.Mathlib.Omega.{arith}
+use lib.ListN.{length, getD, replicate, length-replicate}
+use Rattle.definitions.specs.Outcome.{pick, refused, done}
+use Rattle.definitions.specs.Lists.{overwrite, zeroed, joinAll}
+use Rattle.definitions.specs.Network.{linked, Accepted}
+use Rattle.definitions.specs.Order.{orderOf, placeOf, relayAt, placesOf}
+use Rattle.definitions.specs.Forests.{forestsOf, forestOf}
+use Rattle.definitions.specs.Route.{routesOf, endsInOneTree}
+use Rattle.lists.specs.Tables.{length-table, getD-table}
+use Rattle.lists.specs.Overwritten.{getD-overwrite}
+use Rattle.theory.specs.Accepted.{accepted}
+use Rattle.theory.specs.Places.{relay-placed}
+use Rattle.forests.specs.Scan.{Scannable, Scanned}
+use Rattle.forests.specs.Left.{LeftInput}
+use Rattle.routes.specs.Side.{leftIn}
+use Rattle.routes.specs.Writing.{Written, written}
+use Rattle.routes.specs.Between.{joinedIn, betweenIn}
+use Rattle.routes.specs.Answers.{Answered, answered, answerIn, treeAnswer, Routable, Prepared}
+use Rattle.routes.proofs.Swept.{zeros-entry}
+use Rattle.routes.proofs.Answered.{front-relays, tree-tested, routes-written}
+
+pub scan-asks : (n : ℕ) (lows highs order places numbers : List ℕ) → Accepted n lows highs → length order ≡ 1000 → length places ≡ 1000
+    → numbers ≡ replicate 3000 0 → Scannable n lows highs order places numbers
+scan-asks n lows highs order places numbers ok orderLong placesLong e =
+    let proper = accepted n lows highs ok in
+    let long : length numbers ≡ 3000 = ap length e ∙ length-replicate {A = ℕ} 3000 0 in
+    record {
+      accepted = ok;
+      relayRoom = omega (arith, proper .few);
+      placeRoom = omega (arith, proper .few);
+      forestRoom = omega (arith, proper .short);
+    }
+
+-- The places' list gives the place of each relay.
+pub place-entry : (n : ℕ) (lows highs places places′ : List ℕ) → places′ ≡ overwrite (placesOf n (orderOf n lows highs)) places
+    → (r : ℕ) → r < n → getD places′ r 0 ≡ placeOf (orderOf n lows highs) r
+unfolding placesOf
+place-entry n lows highs places places′ e r less =
+    ap (λ (l : List ℕ). getD l r 0) e
+    ∙ getD-overwrite (placesOf n (orderOf n lows highs)) places r 0 (omega (arith, length-table (placeOf (orderOf n lows highs)) 0 n))
+    ∙ getD-table (placeOf (orderOf n lows highs)) 0 n r 0 less ∙ ap (placeOf (orderOf n lows highs)) (zero-add r)
+
+pub table-asks : (n k : ℕ) (lows highs order order′ places places′ numbers numbers′ table : List ℕ) → Accepted n lows highs
+    → Scanned n lows highs order order′ places places′ numbers numbers′
+    → length places′ ≡ 1000 → length numbers′ ≡ 3000 → k * n ≤ length table → table ≡ zeroed table
+    → LeftInput n k lows highs places′ numbers′ table
+unfolding zeroed forestsOf
+table-asks n k lows highs order order′ places places′ numbers numbers′ table ok scanned placesLong numbersLong room clear =
+    let proper = accepted n lows highs ok in
+    let forest = forestOf (linked lows highs) (orderOf n lows highs) lows highs in
+    record {
+      accepted = ok;
+      placeRoom = omega (arith, proper .few);
+      forestRoom = omega (arith, proper .short);
+      tableRoom = room;
+      place = place-entry n lows highs places places′ (scanned .thePlaces);
+      forest = λ i less.
+          ap (λ (l : List ℕ). getD l i 0) (scanned .theForests)
+          ∙ getD-overwrite (forestsOf n lows highs) numbers i 0 (omega (arith, length-table forest 0 (length lows)))
+          ∙ getD-table forest 0 (length lows) i 0 less ∙ ap forest (zero-add i);
+      zeros = λ j less. ap (λ (l : List ℕ). getD l j 0) clear ∙ zeros-entry (length table) j;
+    }
+
+module _ (left : ℕ → ℕ → ℕ) (k p q : ℕ) (order counts relays : List ℕ) (test : Bool) (e : test ≡ joinedIn left k p q) where
+  pub answer-some : (counts′ relays′ : List ℕ) (upto : ℕ) → test ≡ true → written counts′ relays′ upto ≡ betweenIn left k p q order counts relays
+      → answered counts′ relays′ (done (upto ∷ [])) ≡ answerIn left k p q order counts relays
+  unfolding answerIn
+  answer-some counts′ relays′ upto passes wrote =
+      rw (← e, passes) (ap (λ (w : Written). answered (w .countList) (w .relayList) (done (w .upto ∷ []))) wrote)
+
+  pub answer-none : test ≡ false → answered counts relays (refused 13 0) ≡ answerIn left k p q order counts relays
+  unfolding answerIn
+  answer-none fails = rw (← e, fails)
+
+-- The answer over the left table is that of the definition.
+module _ (n : ℕ) (lows highs : List ℕ) (k from to : ℕ) (counts relays scratch : List ℕ) (asked : Routable n lows highs k from to counts relays scratch)
+    (order order′ places places′ table table′ : List ℕ) (made : Prepared n k lows highs order order′ places places′ table table′)
+    (none : order ≡ replicate 1000 0) where
+  relays-same : relayAt order′ ≡ relayAt (orderOf n lows highs)
+  relays-same =
+      ap relayAt (made .theOrder) ∙ ap (λ (l : List ℕ). relayAt (overwrite (orderOf n lows highs) l)) none
+      ∙ front-relays (orderOf n lows highs) 1000
+
+  abbrev P : ℕ
+  P = placeOf (orderOf n lows highs) from
+
+  abbrev Q : ℕ
+  Q = placeOf (orderOf n lows highs) to
+
+  abbrev routes : List (List ℕ)
+  routes = routesOf n lows highs k from to
+
+  abbrev all : Written
+  all = betweenIn (leftIn table′ n) k P Q order′ counts relays
+
+  over-places : answerIn (leftIn table′ n) k P Q order′ counts relays ≡ treeAnswer n lows highs k from to counts relays
+  unfolding answerIn treeAnswer
+  over-places = go (joinedIn (leftIn table′ n) k P Q) refl
+    where
+      tree : joinedIn (leftIn table′ n) k P Q ≡ endsInOneTree n lows highs k from to
+      tree =
+          tree-tested n lows highs k from to (asked .accepted) (asked .one) (asked .few) (asked .source) (asked .goal) (asked .differ)
+          table table′ (made .theTable)
+
+      go : (b : Bool) → joinedIn (leftIn table′ n) k P Q ≡ b
+          → pick (joinedIn (leftIn table′ n) k P Q) (answered (all .countList) (all .relayList) (done (all .upto ∷ []))) (answered counts relays (refused 13 0))
+          ≡ pick (endsInOneTree n lows highs k from to)
+          (answered (overwrite (map length routes) counts) (overwrite (joinAll routes) relays) (done (length (joinAll routes) ∷ [])))
+          (answered counts relays (refused 13 0))
+      go true e =
+          rw (← tree, e)
+          (ap (λ (w : Written). answered (w .countList) (w .relayList) (done (w .upto ∷ [])))
+          (routes-written n lows highs k from to (asked .accepted) (asked .one) (asked .few) (asked .source) (asked .goal) (asked .differ)
+          table table′ (made .theTable) e order′ counts relays relays-same (asked .countRoom) (asked .relayRoom)))
+      go false e = rw (← tree, e)
+
+  pub answers-tree : (p q : ℕ) (result : Answered) → p ≡ getD places′ from 0 → q ≡ getD places′ to 0
+      → result ≡ answerIn (leftIn table′ n) k p q order′ counts relays → result ≡ treeAnswer n lows highs k from to counts relays
+  answers-tree p q result ep eq e =
+      let atP : p ≡ P = ep ∙ place-entry n lows highs places places′ (made .thePlaces) from (asked .source) in
+      let atQ : q ≡ Q = eq ∙ place-entry n lows highs places places′ (made .thePlaces) to (asked .goal) in
+      e ∙ ap (λ (x : ℕ). answerIn (leftIn table′ n) k x q order′ counts relays) atP
+      ∙ ap (λ (x : ℕ). answerIn (leftIn table′ n) k P x order′ counts relays) atQ ∙ over-places
+
+  -- The two places are places.
+  pub places-some : (p q : ℕ) → p ≡ getD places′ from 0 → q ≡ getD places′ to 0 → (0 < p) × (0 < q) × (k ≤ 32)
+  places-some p q ep eq =
+      let atP : p ≡ P = ep ∙ place-entry n lows highs places places′ (made .thePlaces) from (asked .source) in
+      let atQ : q ≡ Q = eq ∙ place-entry n lows highs places places′ (made .thePlaces) to (asked .goal) in
+      omega (arith, atP, atQ, relay-placed n lows highs from (asked .source) .0, relay-placed n lows highs to (asked .goal) .0, asked .few)
+
+zeroed-same : (one two : List ℕ) → length one ≡ length two → zeroed one ≡ zeroed two
+unfolding zeroed
+zeroed-same one two e = ap (λ (x : ℕ). replicate x 0) e
+
+pub zeroed-twice : (old mid last : List ℕ) → length mid ≡ length old → last ≡ zeroed mid → last ≡ zeroed old
+zeroed-twice old mid last e clear = clear ∙ zeroed-same mid old e
+
+-- What preparing asks, after scratch is cleared.
+pub prepare-asks : (n : ℕ) (lows highs : List ℕ) (k from to : ℕ) (counts relays scratch scratch′ order places : List ℕ)
+    → Routable n lows highs k from to counts relays scratch → order ≡ replicate 1000 0 → places ≡ replicate 1000 0
+    → scratch′ ≡ zeroed scratch → length scratch′ ≡ length scratch
+    → Accepted n lows highs × (((length order ≡ 1000) × (length places ≡ 1000)) × ((k * n ≤ length scratch′) × (scratch′ ≡ zeroed scratch′)))
+prepare-asks n lows highs k from to counts relays scratch scratch′ order places asked eo ep clear long = (
+  asked .accepted,
+  (
+    (ap length eo ∙ length-replicate {A = ℕ} 1000 0, ap length ep ∙ length-replicate {A = ℕ} 1000 0),
+    (omega (arith, asked .scratchRoom), zeroed-twice scratch′ scratch scratch′ (sym long) clear),
+  ),
+)
+
+-- A relay number stands within the places' list.
+pub place-asks : (n : ℕ) (lows highs places places′ : List ℕ) (r : ℕ) → Accepted n lows highs → places ≡ replicate 1000 0
+    → length places′ ≡ length places → r < n → r < length places′
+place-asks n lows highs places places′ r ok e long less =
+    omega (arith, accepted n lows highs ok .few, long, ap length e ∙ length-replicate {A = ℕ} 1000 0)

@@ -1,0 +1,36 @@
+-- `answer` meets its contract. Assumes nothing.
+use Rattle.routes.proofs.Answering.{answer-some, answer-none}
+use Rattle.routes.specs.Side.{leftIn}
+use borrow.Author.Needs.{needs}
+use Rattle.routes.proofs.answer.Statement.{statement}
+use Rattle.routes.proofs.answer.Tie as tie
+
+joined-requires : tie.Need-joined-requires
+joined-requires c κs = search needs
+
+between-requires : tie.Need-between-requires
+between-requires c κs = search needs
+
+same-length : tie.Need-same-length
+same-length c = search needs
+
+same-length-2 : tie.Need-same-length-2
+same-length-2 c = search needs
+
+returns : tie.Need-returns
+returns c =
+    let a = c .before .before .before .before .before .before .before .before .before .before .before .before .before .args in
+    answer-some (leftIn (a .table .now) (a .n)) (a .k) (a .p .0) (a .q .0) (a .order .now) (a .counts .now) (a .relays .now)
+    (c .before .before .before .before .before .before .before .before .joined .result) (c .before .before .before .before .before .before .before .before .joined .ensures) (c .before .before .before .before .between .last .1 .1 .1 .1 .1 .1 .0) (c .before .before .before .before .between .last .1 .1 .1 .1 .1 .1 .1 .0) (c .before .before .before .before .between .result)
+    (c .before .before .before .before .before .before .before .if1 .taken) (c .before .before .before .before .between .ensures)
+
+returns-2 : tie.Need-returns-2
+returns-2 c =
+    let a = c .before .before .before .before .before .before .args in
+    answer-none (leftIn (a .table .now) (a .n)) (a .k) (a .p .0) (a .q .0) (a .order .now) (a .counts .now) (a .relays .now)
+    (c .before .joined .result) (c .before .joined .ensures) (c .if1 .left)
+
+pub answer-spec : {M : Type 1} → statement M
+answer-spec =
+    tie.close
+    (tie.spec joined-requires between-requires same-length same-length-2 returns returns-2)

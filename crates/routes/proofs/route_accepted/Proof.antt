@@ -1,0 +1,107 @@
+-- `route_accepted` meets its contract. Assumes nothing.
+use Rattle.routes.proofs.Answering.{prepare-asks, place-asks, places-some, answers-tree, zeroed-twice}
+use Rattle.routes.specs.Answers.{routeOutcome, answered}
+use mathlib.Core.Path.{_∙_}
+use borrow.Author.Needs.{needs}
+use Rattle.routes.proofs.route_accepted.Statement.{statement}
+use Rattle.routes.proofs.route_accepted.Tie as tie
+
+no-relays-requires : tie.Need-no-relays-requires
+no-relays-requires c κs = search needs
+
+no-relays-requires-2 : tie.Need-no-relays-requires-2
+no-relays-requires-2 c κs = search needs
+
+clear-requires : tie.Need-clear-requires
+clear-requires c κs = search needs
+
+slice-aggregate-prepare : tie.Need-slice-aggregate-prepare
+slice-aggregate-prepare c = search needs
+
+slice-aggregate-prepare-2 : tie.Need-slice-aggregate-prepare-2
+slice-aggregate-prepare-2 c = search needs
+
+prepare-requires : tie.Need-prepare-requires
+prepare-requires c κs =
+    let a = c .before .before .before .before .before .before .before .before .before .before .before .before .before .before .args in
+    prepare-asks (a .n) (a .lows .now) (a .highs .now) (a .k) (a .from) (a .to) (a .counts .now) (a .relays .now) (a .scratch .now)
+    (c .before .before .before .before .before .clear .last .0) (c .before .before .before .before .before .before .before .before .no-relays .result) (c .before .before .before .before .before .before .before .no-relays2 .result) (c .before .before .before .before .before .before .before .before .before .before .before .before .before .before .pre) (c .before .before .before .before .before .before .before .before .no-relays .ensures) (c .before .before .before .before .before .before .before .no-relays2 .ensures)
+    (c .before .before .before .before .before .clear .ensures) (c .before .before .before .before .before .clear .kept .0)
+
+slice-aggregate-place-of : tie.Need-slice-aggregate-place-of
+slice-aggregate-place-of c = search needs
+
+place-of-requires : tie.Need-place-of-requires
+place-of-requires c κs =
+    let a = c .before .before .before .before .before .before .before .before .before .before .before .before .before .before .before .before .before .before .before .before .args in
+    place-asks (a .n) (a .lows .now) (a .highs .now) (c .before .before .before .before .before .before .before .before .before .before .before .before .before .no-relays2 .result) (c .before .before .before .before .before .prepare .last .1 .1 .1 .1 .1 .0) (a .from)
+    (c .before .before .before .before .before .before .before .before .before .before .before .before .before .before .before .before .before .before .before .before .pre .accepted) (c .before .before .before .before .before .before .before .before .before .before .before .before .before .no-relays2 .ensures) (c .before .before .before .before .before .prepare .kept .1 .1 .1 .1 .1 .0) (c .before .before .before .before .before .before .before .before .before .before .before .before .before .before .before .before .before .before .before .before .pre .source)
+
+slice-aggregate-place-of-2 : tie.Need-slice-aggregate-place-of-2
+slice-aggregate-place-of-2 c = search needs
+
+place-of-requires-2 : tie.Need-place-of-requires-2
+place-of-requires-2 c κs =
+    let a = c .before .before .before .before .before .before .before .before .before .before .before .before .before .before .before .before .before .before .before .before .before .before .args in
+    place-asks (a .n) (a .lows .now) (a .highs .now) (c .before .before .before .before .before .before .before .before .before .before .before .before .before .before .before .no-relays2 .result) (c .before .before .before .before .before .before .before .prepare .last .1 .1 .1 .1 .1 .0) (a .to)
+    (c .before .before .before .before .before .before .before .before .before .before .before .before .before .before .before .before .before .before .before .before .before .before .pre .accepted) (c .before .before .before .before .before .before .before .before .before .before .before .before .before .before .before .no-relays2 .ensures) (c .before .before .before .before .before .before .before .prepare .kept .1 .1 .1 .1 .1 .0) (c .before .before .before .before .before .before .before .before .before .before .before .before .before .before .before .before .before .before .before .before .before .before .pre .goal)
+
+slice-aggregate-answer : tie.Need-slice-aggregate-answer
+slice-aggregate-answer c = search needs
+
+answer-requires : tie.Need-answer-requires
+answer-requires c κs =
+    let a = c .before .before .before .before .before .before .before .before .before .before .before .before .before .before .before .before .before .before .before .before .before .before .before .before .before .before .before .args in
+    let made = c .before .before .before .before .before .before .before .before .before .before .before .before .prepare in
+    places-some (a .n) (a .lows .now) (a .highs .now) (a .k) (a .from) (a .to) (a .counts .now) (a .relays .now) (a .scratch .now) (c .before .before .before .before .before .before .before .before .before .before .before .before .before .before .before .before .before .before .before .before .before .before .before .before .before .before .before .pre)
+    (c .before .before .before .before .before .before .before .before .before .before .before .before .before .before .before .before .before .before .before .before .before .no-relays .result) (made .last .1 .1 .1 .1 .0) (c .before .before .before .before .before .before .before .before .before .before .before .before .before .before .before .before .before .before .before .before .no-relays2 .result) (made .last .1 .1 .1 .1 .1 .0)
+    (c .before .before .before .before .before .before .before .before .before .before .before .before .before .before .before .before .before .before .clear .last .0) (made .last .1 .1 .1 .1 .1 .1 .0) (made .ensures) (c .before .before .before .before .before .before .before .before .before .before .before .before .before .before .before .before .before .before .before .before .before .no-relays .ensures)
+    (c .before .before .before .before .before .before .place-of .result .0) (c .before .before .before .before .place-of2 .result .0) (c .before .before .before .before .before .before .place-of .ensures) (c .before .before .before .before .place-of2 .ensures)
+
+clear-requires-2 : tie.Need-clear-requires-2
+clear-requires-2 c κs = search needs
+
+same-length : tie.Need-same-length
+same-length c = search needs
+
+same-length-2 : tie.Need-same-length-2
+same-length-2 c = search needs
+
+same-length-3 : tie.Need-same-length-3
+same-length-3 c = search needs
+
+returns : tie.Need-returns
+returns c =
+    let a = c .before .before .before .before .before .before .before .before .before .before .before .before .before .before .before .before .before .before .before .before .before .before .before .before .before .before .before .before .before .before .before .before .before .before .before .before .args in
+    let made = c .before .before .before .before .before .before .before .before .before .before .before .before .before .before .before .before .before .before .before .before .before .prepare in (
+      answers-tree (a .n) (a .lows .now) (a .highs .now) (a .k) (a .from) (a .to) (a .counts .now) (a .relays .now) (a .scratch .now) (c .before .before .before .before .before .before .before .before .before .before .before .before .before .before .before .before .before .before .before .before .before .before .before .before .before .before .before .before .before .before .before .before .before .before .before .before .pre)
+          (c .before .before .before .before .before .before .before .before .before .before .before .before .before .before .before .before .before .before .before .before .before .before .before .before .before .before .before .before .before .before .no-relays .result) (made .last .1 .1 .1 .1 .0) (c .before .before .before .before .before .before .before .before .before .before .before .before .before .before .before .before .before .before .before .before .before .before .before .before .before .before .before .before .before .no-relays2 .result) (made .last .1 .1 .1 .1 .1 .0)
+          (c .before .before .before .before .before .before .before .before .before .before .before .before .before .before .before .before .before .before .before .before .before .before .before .before .before .before .before .clear .last .0) (made .last .1 .1 .1 .1 .1 .1 .0) (made .ensures) (c .before .before .before .before .before .before .before .before .before .before .before .before .before .before .before .before .before .before .before .before .before .before .before .before .before .before .before .before .before .before .no-relays .ensures)
+          (c .before .before .before .before .before .before .before .before .before .before .before .before .before .before .before .place-of .result .0) (c .before .before .before .before .before .before .before .before .before .before .before .before .before .place-of2 .result .0)
+          (answered (c .before .before .before .before .before .before .before .before .answer .last .1 .1 .1 .1 .1 .1 .0) (c .before .before .before .before .before .before .before .before .answer .last .1 .1 .1 .1 .1 .1 .1 .0) (routeOutcome (c .before .before .before .before .before .before .before .before .answer .result)))
+          (c .before .before .before .before .before .before .before .before .before .before .before .before .before .before .before .place-of .ensures) (c .before .before .before .before .before .before .before .before .before .before .before .before .before .place-of2 .ensures) (c .before .before .before .before .before .before .before .before .answer .ensures),
+      zeroed-twice (a .scratch .now) (made .last .1 .1 .1 .1 .1 .1 .0) (c .before .before .clear2 .last .0)
+          (made .kept .1 .1 .1 .1 .1 .1 .0 ∙ c .before .before .before .before .before .before .before .before .before .before .before .before .before .before .before .before .before .before .before .before .before .before .before .before .before .before .before .clear .kept .0) (c .before .before .clear2 .ensures),
+    )
+
+pub route-accepted-spec : {M : Type 1} → statement M
+route-accepted-spec =
+    tie.close
+    (tie.spec
+    no-relays-requires
+    no-relays-requires-2
+    clear-requires
+    slice-aggregate-prepare
+    slice-aggregate-prepare-2
+    prepare-requires
+    slice-aggregate-place-of
+    place-of-requires
+    slice-aggregate-place-of-2
+    place-of-requires-2
+    slice-aggregate-answer
+    answer-requires
+    clear-requires-2
+    same-length
+    same-length-2
+    same-length-3
+    returns)

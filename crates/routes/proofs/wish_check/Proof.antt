@@ -1,0 +1,113 @@
+-- `wish_check` meets its contract. Assumes nothing.
+use Rattle.routes.specs.Answers.{wishCheck}
+use Rattle.definitions.specs.Lists.{outside}
+use Rattle.definitions.specs.Outcome.{refuseIf}
+use borrow.Author.Tests.{lt-ltb, le-ltb, le-leb, lt-leb, eq-eqb, ne-eqb}
+use native.Mathlib.Nat.{mul-le-mul}
+use native.Mathlib.Omega.{arith}
+use borrow.Author.Needs.{needs}
+use Rattle.routes.proofs.wish_check.Statement.{statement}
+use Rattle.routes.proofs.wish_check.Tie as tie
+
+returns : tie.Need-returns
+unfolding wishCheck outside refuseIf
+returns c = simp (lt-ltb _ _ (c .if1 .taken))
+
+returns-2 : tie.Need-returns-2
+unfolding wishCheck outside refuseIf
+returns-2 c = simp (le-ltb _ _ (c .before .if1 .left), lt-ltb _ _ (c .if2 .taken))
+
+returns-3 : tie.Need-returns-3
+unfolding wishCheck outside refuseIf
+returns-3 c = simp (le-ltb _ _ (c .before .before .if1 .left), le-ltb _ _ (c .before .if2 .left), le-leb _ _ (c .if3 .taken))
+
+returns-4 : tie.Need-returns-4
+unfolding wishCheck outside refuseIf
+returns-4 c = simp (le-ltb _ _ (c .before .before .before .if1 .left), le-ltb _ _ (c .before .before .if2 .left), lt-leb _ _ (c .before .if3 .left), le-leb _ _ (c .if4 .taken))
+
+returns-5 : tie.Need-returns-5
+unfolding wishCheck outside refuseIf
+returns-5 c = simp (le-ltb _ _ (c .before .before .before .before .if1 .left), le-ltb _ _ (c .before .before .before .if2 .left), lt-leb _ _ (c .before .before .if3 .left), lt-leb _ _ (c .before .if4 .left), eq-eqb _ _ (c .if5 .taken))
+
+returns-6 : tie.Need-returns-6
+unfolding wishCheck outside refuseIf
+returns-6 c =
+    simp (
+      le-ltb _ _ (c .before .before .before .before .before .if1 .left),
+      le-ltb _ _ (c .before .before .before .before .if2 .left),
+      lt-leb _ _ (c .before .before .before .if3 .left),
+      lt-leb _ _ (c .before .before .if4 .left),
+      ne-eqb _ _ (c .before .if5 .left),
+      lt-ltb _ _ (c .if6 .taken),
+    )
+
+sub-if7 : tie.Need-sub-if7
+sub-if7 c = search needs
+
+mul-if7 : tie.Need-mul-if7
+mul-if7 c = search needs
+
+add-if7 : tie.Need-add-if7
+add-if7 c = search needs
+
+returns-7 : tie.Need-returns-7
+unfolding wishCheck outside refuseIf
+returns-7 c =
+    simp (
+      le-ltb _ _ (c .before .before .before .before .before .before .if1 .left),
+      le-ltb _ _ (c .before .before .before .before .before .if2 .left),
+      lt-leb _ _ (c .before .before .before .before .if3 .left),
+      lt-leb _ _ (c .before .before .before .if4 .left),
+      ne-eqb _ _ (c .before .before .if5 .left),
+      le-ltb _ _ (c .before .if6 .left),
+      lt-ltb _ _ (c .if7 .taken),
+    )
+
+mul-if8 : tie.Need-mul-if8
+mul-if8 c = omega (arith, mul-le-mul {n₁ = c .before .before .before .before .before .before .before .args .k} {m₁ = c .before .before .before .before .before .before .before .args .n} {n₂ = 32} {m₂ = 1000} (omega arith) (omega arith))
+
+returns-8 : tie.Need-returns-8
+unfolding wishCheck outside refuseIf
+returns-8 c =
+    simp (
+      le-ltb _ _ (c .before .before .before .before .before .before .before .if1 .left),
+      le-ltb _ _ (c .before .before .before .before .before .before .if2 .left),
+      lt-leb _ _ (c .before .before .before .before .before .if3 .left),
+      lt-leb _ _ (c .before .before .before .before .if4 .left),
+      ne-eqb _ _ (c .before .before .before .if5 .left),
+      le-ltb _ _ (c .before .before .if6 .left),
+      le-ltb _ _ (c .before .if7 .left),
+      lt-ltb _ _ (c .if8 .taken),
+    )
+
+returns-9 : tie.Need-returns-9
+unfolding wishCheck outside refuseIf
+returns-9 c =
+    simp (
+      le-ltb _ _ (c .before .before .before .before .before .before .before .if1 .left),
+      le-ltb _ _ (c .before .before .before .before .before .before .if2 .left),
+      lt-leb _ _ (c .before .before .before .before .before .if3 .left),
+      lt-leb _ _ (c .before .before .before .before .if4 .left),
+      ne-eqb _ _ (c .before .before .before .if5 .left),
+      le-ltb _ _ (c .before .before .if6 .left),
+      le-ltb _ _ (c .before .if7 .left),
+      le-ltb _ _ (c .if8 .left),
+    )
+
+pub wish-check-spec : {M : Type 1} → statement M
+wish-check-spec =
+    tie.close
+    (tie.spec
+    returns
+    returns-2
+    returns-3
+    returns-4
+    returns-5
+    returns-6
+    sub-if7
+    mul-if7
+    add-if7
+    returns-7
+    mul-if8
+    returns-8
+    returns-9)
