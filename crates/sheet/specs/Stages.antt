@@ -27,6 +27,7 @@ use Rattle.network.specs.Answers.{refusalOf}
 use Rattle.network.specs.Refusals.{numberOf, placeOf, refusal-is, refusal-then}
 use Rattle.network.specs.declared.Refusal.{Refusal}
 use Rattle.network.specs.declared.Refusal.the-variants.{Wish}
+use Rattle.sheet.specs.Front.{longer}
 use Rattle.sheet.specs.Lines.{sheetLines}
 use Rattle.sheet.specs.Planned.{sheetOf}
 use Rattle.sheet.specs.Routes.{length-routes}
@@ -102,10 +103,6 @@ module _
 
     sizes-count : length (map length (routesOf n lows highs k from to)) ≡ k
     sizes-count = length-map (routesOf n lows highs k from to) length ∙ length-routes n lows highs k from to
-
-    longer : (new old : List ℕ) → length new ≤ length (overwrite new old)
-    unfolding overwrite
-    longer new old = omega (arith, length-append new (drop (length new) old))
 
     first-counts : take k (countsAfter n lows highs k from to counts relays scratch) ≡ map length (routesOf n lows highs k from to)
     first-counts =
