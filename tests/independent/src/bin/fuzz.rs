@@ -2,7 +2,7 @@
 //! fuzz [SEED [SECONDS]]
 
 use independent::against::{Tally, certified, ordered, planned, read, routed, tables, want, wish, written};
-use independent::generate::{Network, any, damage, scratch};
+use independent::generate::{Network, alter, any, damage, scratch};
 use independent::random::Random;
 use independent::{forests, table, text};
 use std::collections::HashSet;
@@ -25,7 +25,8 @@ fn texts(random: &mut Random, tally: &mut Tally, pool: &mut Vec<Vec<u8>>, known:
     }
     planned(random, tally, &input);
     let line = input.iter().position(|&byte| byte == b'\n').map_or(0, |at| at + 1);
-    read(random, tally, &input[line..], 40);
+    let room = if random.once_in(4) { 40 } else { 400 };
+    read(random, tally, &input[line..], room);
     let (mut lows, mut highs) = ([0; 3000], [0; 3000]);
     let manner = manner(text::read(&input[line..], &mut lows, &mut highs).map(|_| input.len()));
     if input.len() < 2000 && known.insert(manner) {
@@ -33,24 +34,28 @@ fn texts(random: &mut Random, tally: &mut Tally, pool: &mut Vec<Vec<u8>>, known:
     }
 }
 
-fn networks(random: &mut Random, tally: &mut Tally, pool: &mut Vec<Network>, known: &mut HashSet<(u32, usize)>) {
+fn networks(random: &mut Random, tally: &mut Tally, pool: &mut Vec<Network>, known: &mut HashSet<(u16, u16, usize)>) {
     let mut net = random.pick(pool).clone();
-    for _ in 0..random.within(1, 3) {
+    for _ in 0..random.within(1, 5) {
+        alter(random, &mut net);
+    }
+    if random.once_in(3) {
         damage(random, &mut net);
     }
     tables(random, tally, &net);
     written(random, tally, &net);
     ordered(random, tally, &net);
-    let outcome = table::check(net.n, &net.lows, &net.highs);
-    if outcome.is_ok() {
+    if table::check(net.n, &net.lows, &net.highs).is_ok() {
         certified(random, tally, &net);
         let numbers = forests::numbers(net.n, &net.lows, &net.highs);
-        let wish = wish(random, &net, &numbers);
-        routed(random, tally, &net, wish);
-    }
-    let manner = manner(outcome.map(|()| 1 + net.lows.len()));
-    if known.insert(manner) {
-        pool.push(net);
+        for _ in 0..3 {
+            let wish = wish(random, &net, &numbers);
+            routed(random, tally, &net, wish);
+        }
+        let highest = numbers.iter().copied().max().unwrap_or(0);
+        if known.insert((net.n, highest, numbers.len() / 8)) {
+            pool.push(net);
+        }
     }
 }
 
