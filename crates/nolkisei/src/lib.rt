@@ -5,6 +5,7 @@ ghost use Rattle.definitions.specs.Network.{pairAnswer, tableCheck};
 ghost use Rattle.definitions.specs.Text.{readAnswer, lowsAfter, highsAfter, writeAnswer, bufferAfter};
 ghost use Rattle.definitions.specs.Order.{orderAnswer, relaysAfter, placesAfter};
 ghost use Rattle.definitions.specs.Forests.{splitAnswer, forestsAfter, cutAnswer, marksAfter};
+ghost use Rattle.definitions.specs.Route.{routeAnswer, countsAfter, routeRelaysAfter, scratchAfter};
 ghost use Rattle.nolkisei.specs.Reported.{reported};
 
 mod report;
@@ -15,6 +16,7 @@ use forests::SplitAnswer;
 use network::Check;
 use network::Pair;
 use network::Relay;
+use routes::RouteAnswer;
 use text::ReadAnswer;
 use text::WriteAnswer;
 
@@ -133,5 +135,34 @@ pub extern "C" fn nolkisei_cut(
     match forests::cut(n, lows, highs, k, marks) {
         CutAnswer::Kept(count) => report::give(count as u64, 0, answer),
         CutAnswer::Refused(refusal) => report::refuse(refusal, answer),
+    }
+}
+
+// Route: k routes between two relays.
+#[no_mangle]
+pub extern "C" fn nolkisei_route(
+    n: u16,
+    lows: &[u16],
+    highs: &[u16],
+    k: u16,
+    from: u16,
+    to: u16,
+    counts: &mut [u16],
+    relays: &mut [u16],
+    scratch: &mut [u16],
+    answer: &mut [u64; 2],
+) -> u32
+    ensures answer { λ r. ⌜ reported (routeAnswer n (now (lows .entry)) (now (highs .entry)) k from to (now (counts .entry)) (now (relays .entry)) (now (scratch .entry)))
+        ≡ (r, now (answer .exit)) ⌝ }
+    ensures counts { λ _. ⌜ now (counts .exit)
+        ≡ countsAfter n (now (lows .entry)) (now (highs .entry)) k from to (now (counts .entry)) (now (relays .entry)) (now (scratch .entry)) ⌝ }
+    ensures relays { λ _. ⌜ now (relays .exit)
+        ≡ routeRelaysAfter n (now (lows .entry)) (now (highs .entry)) k from to (now (counts .entry)) (now (relays .entry)) (now (scratch .entry)) ⌝ }
+    ensures scratch { λ _. ⌜ now (scratch .exit)
+        ≡ scratchAfter n (now (lows .entry)) (now (highs .entry)) k from to (now (counts .entry)) (now (relays .entry)) (now (scratch .entry)) ⌝ }
+{
+    match routes::route(n, lows, highs, k, from, to, counts, relays, scratch) {
+        RouteAnswer::Written(total) => report::give(total as u64, 0, answer),
+        RouteAnswer::Refused(refusal) => report::refuse(refusal, answer),
     }
 }

@@ -149,6 +149,47 @@ pub fn any(random: &mut Random, most: usize) -> Network {
     network(random, kind, size)
 }
 
+/// Changes an accepted table into another: a link less, a link more, two links or two relays exchanged.
+pub fn alter(random: &mut Random, net: &mut Network) {
+    let (n, m) = (usize::from(net.n), net.lows.len());
+    let (a, b) = (random.below(n) as u16, random.below(n) as u16);
+    match random.below(4) {
+        0 if m > 0 => {
+            let at = random.below(m);
+            net.lows.remove(at);
+            net.highs.remove(at);
+        }
+        1 if m > 0 => {
+            let (one, two) = (random.below(m), random.below(m));
+            net.lows.swap(one, two);
+            net.highs.swap(one, two);
+        }
+        2 => {
+            let renamed = |relay: u16| {
+                if relay == a {
+                    b
+                } else if relay == b {
+                    a
+                } else {
+                    relay
+                }
+            };
+            for (low, high) in net.lows.iter_mut().zip(&mut net.highs) {
+                let (one, two) = (renamed(*low), renamed(*high));
+                (*low, *high) = (one.min(two), one.max(two));
+            }
+        }
+        _ => {
+            let (low, high) = (a.min(b), a.max(b));
+            let taken = net.lows.iter().zip(&net.highs).any(|link| link == (&low, &high));
+            if a != b && !taken && m < 3000 {
+                net.lows.push(low);
+                net.highs.push(high);
+            }
+        }
+    }
+}
+
 /// Damages a table, mostly so that the check refuses it.
 pub fn damage(random: &mut Random, net: &mut Network) {
     let m = net.lows.len().min(net.highs.len());

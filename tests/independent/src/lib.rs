@@ -1,6 +1,8 @@
 //! Document 01 in plain Rust, by a second hand: nothing here was taken from the proved code or its definitions.
 //! The slow modules follow the paper's words; `swift` has the same results by the methods an ordinary program would use.
 
+#[cfg(feature = "library")]
+pub mod against;
 pub mod flow;
 pub mod forests;
 pub mod generate;

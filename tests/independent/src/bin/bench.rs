@@ -4,7 +4,7 @@
 use independent::flow::greatest;
 use independent::forests::{earlier, places};
 use independent::generate::Network;
-use independent::library::{self, SHEET};
+use independent::library;
 use independent::random::Random;
 use independent::sweep::Wish;
 use independent::{swift, text};
@@ -154,6 +154,19 @@ fn ends(net: &Network, k: u16) -> Option<(u16, u16)> {
     if widest.1 == 0 { None } else { Some((relays[widest.1 - 1], relays[widest.0 - 1])) }
 }
 
+#[cfg(feature = "plan")]
+fn planned(rows: &mut Vec<Row>, kind: &'static str, net: &Network, wish: Wish) {
+    let Network { n, lows, highs } = net;
+    let mut input = format!("(want {} {} {})\n", wish.from, wish.to, wish.k).into_bytes();
+    input.extend(text::text(*n, lows, highs).bytes());
+    let mut output = [0; library::SHEET];
+    let length = library::plan(&input, &mut output);
+    assert_eq!(&output[..length], swift::plan(&input));
+    let times = beside(&mut [&mut || run(library::plan(&input, &mut output)), &mut || run(swift::plan(&input))]);
+    let (n, m) = (usize::from(*n), lows.len());
+    rows.push(Row { kind, n, m, what: "plan, k 2".into(), library: times[0], plain: times[1], flow: None });
+}
+
 fn routes(rows: &mut Vec<Row>, kind: &'static str, net: &Network) {
     let Network { n, lows, highs } = net;
     let (size, m) = (usize::from(*n), lows.len());
@@ -178,14 +191,9 @@ fn routes(rows: &mut Vec<Row>, kind: &'static str, net: &Network) {
             plain: times[1],
             flow: Some(times[2]),
         });
+        #[cfg(feature = "plan")]
         if k == 2 {
-            let mut input = format!("(want {from} {to} {k})\n").into_bytes();
-            input.extend(text::text(*n, lows, highs).bytes());
-            let mut output = [0; SHEET];
-            let length = library::plan(&input, &mut output);
-            assert_eq!(&output[..length], swift::plan(&input));
-            let times = beside(&mut [&mut || run(library::plan(&input, &mut output)), &mut || run(swift::plan(&input))]);
-            rows.push(Row { kind, n: size, m, what: "plan, k 2".into(), library: times[0], plain: times[1], flow: None });
+            planned(rows, kind, net, wish);
         }
     }
 }
@@ -223,8 +231,10 @@ fn page(rows: &[Row]) -> String {
     let (row, ratio) = worst(rows, |row| row.flow.is_some(), |row| row.library / row.flow.unwrap());
     let shown = format!("{ratio:.2} times ({} {}, {})", row.kind, row.n, row.what);
     goal(&mut page, "`route` faster than the flow program", ratio < 1.0, &shown);
-    let (row, time) = worst(rows, |row| row.what.starts_with("plan"), |row| row.library);
-    goal(&mut page, "`plan` under 2 ms", time < 2000.0, &format!("{} µs ({} {})", micro(time), row.kind, row.n));
+    if cfg!(feature = "plan") {
+        let (row, time) = worst(rows, |row| row.what.starts_with("plan"), |row| row.library);
+        goal(&mut page, "`plan` under 2 ms", time < 2000.0, &format!("{} µs ({} {})", micro(time), row.kind, row.n));
+    }
     let (row, time) = worst(rows, |row| row.what == "read", |row| row.library);
     goal(&mut page, "`read` under 1 ms", time < 1000.0, &format!("{} µs ({} {})", micro(time), row.kind, row.n));
     for kind in KINDS {

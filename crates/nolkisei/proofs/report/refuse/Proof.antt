@@ -4,15 +4,24 @@ use Rattle.nolkisei.specs.Reported.{reported-refusal}
 use Rattle.nolkisei.proofs.report.refuse.Statement.{statement}
 use Rattle.nolkisei.proofs.report.refuse.Tie as tie
 
-place-requires : tie.Need-place-requires
-place-requires c κs = search needs
+refusal-place-requires : tie.Need-refusal-place-requires
+refusal-place-requires c κs = search needs
 
-code-requires : tie.Need-code-requires
-code-requires c κs = search needs
+refusal-number-requires : tie.Need-refusal-number-requires
+refusal-number-requires c κs = search needs
+
+cast-result : tie.Need-cast-result
+cast-result c = search needs
 
 returns : tie.Need-returns
 returns c =
-    reported-refusal (c .before .before .before .args .refusal) _ _ (c .code .ensures) (c .before .before .place .ensures)
+    reported-refusal
+    (c .before .before .before .args .refusal)
+    _
+    _
+    (c .refusal-number .ensures)
+    (c .before .before .refusal-place .ensures)
 
 pub refuse-spec : {M : Type 1} → statement M
-refuse-spec = tie.close (tie.spec place-requires code-requires returns)
+refuse-spec =
+    tie.close (tie.spec refusal-place-requires refusal-number-requires cast-result returns)
