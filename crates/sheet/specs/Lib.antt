@@ -6,3 +6,5 @@ pub mod Reach
 pub mod Planned
 pub mod Routes
 pub mod Longest
+pub mod Front
+pub mod Stages

@@ -1,5 +1,27 @@
 // The planner of document 01: from the bytes of the input to the bytes of the output.
+ghost use mathlib.Core.Path.{_≡_};
+ghost use lib.ListN.{length};
+ghost use Rattle.definitions.specs.Lists.{overwrite};
+ghost use Rattle.definitions.specs.Plan.{planText};
+use network::Refusal;
+use refusal::put_refusal;
+use stages::plan_network;
+use wish::WishScan;
+use wish::wish_line;
+
 pub mod print;
 mod refusal;
 mod rooms;
+mod stages;
 pub mod wish;
+
+// Prints the sheet or the refused line for an input, from the output's first byte on, and gives its length.
+pub fn plan(input: &[u8], output: &mut [u8; 4608]) -> usize
+    ensures length { λ r. ⌜ r ≡ length (planText (now (input .entry))) ⌝ }
+    ensures bytes { λ _. ⌜ now (output .exit) ≡ overwrite (planText (now (input .entry))) (now (output .entry)) ⌝ }
+{
+    match wish_line(input) {
+        WishScan::Departs(p) => put_refusal(output, Refusal::Wish(p)),
+        WishScan::Reads(from, to, k, p) => plan_network(output, &input[p..], from, to, k),
+    }
+}

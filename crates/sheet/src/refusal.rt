@@ -20,17 +20,50 @@ fn numbered(refusal: Refusal) -> RefusedLine
     match refusal {
         Refusal::Wish(place) => RefusedLine { number: 1, place },
         Refusal::Form(place) => RefusedLine { number: 2, place },
-        Refusal::RelayCount => RefusedLine { number: 3, place: 0 },
-        Refusal::LinkCount => RefusedLine { number: 4, place: 0 },
-        Refusal::RelayRange(link) => RefusedLine { number: 5, place: link },
-        Refusal::NotBelow(link) => RefusedLine { number: 6, place: link },
-        Refusal::Repeated(link) => RefusedLine { number: 7, place: link },
-        Refusal::TableRoom => RefusedLine { number: 8, place: 0 },
-        Refusal::RouteCount => RefusedLine { number: 9, place: 0 },
-        Refusal::EndRange => RefusedLine { number: 10, place: 0 },
-        Refusal::SameEnds => RefusedLine { number: 11, place: 0 },
-        Refusal::Room => RefusedLine { number: 12, place: 0 },
-        Refusal::NotOneTree => RefusedLine { number: 13, place: 0 },
+        Refusal::RelayCount => RefusedLine {
+            number: 3,
+            place: 0,
+        },
+        Refusal::LinkCount => RefusedLine {
+            number: 4,
+            place: 0,
+        },
+        Refusal::RelayRange(link) => RefusedLine {
+            number: 5,
+            place: link,
+        },
+        Refusal::NotBelow(link) => RefusedLine {
+            number: 6,
+            place: link,
+        },
+        Refusal::Repeated(link) => RefusedLine {
+            number: 7,
+            place: link,
+        },
+        Refusal::TableRoom => RefusedLine {
+            number: 8,
+            place: 0,
+        },
+        Refusal::RouteCount => RefusedLine {
+            number: 9,
+            place: 0,
+        },
+        Refusal::EndRange => RefusedLine {
+            number: 10,
+            place: 0,
+        },
+        Refusal::SameEnds => RefusedLine {
+            number: 11,
+            place: 0,
+        },
+        Refusal::Room => RefusedLine {
+            number: 12,
+            place: 0,
+        },
+        Refusal::NotOneTree => RefusedLine {
+            number: 13,
+            place: 0,
+        },
     }
 }
 

@@ -80,14 +80,14 @@ pub fn number(text: &[u8], at: usize) -> NumberScan
     ensures { λ r. ⌜ numberGives r ≡ scanNumber (now (text .entry)) at ⌝ }
 {
     let b = byte(text, at);
-    if b == 48 {
-        return NumberScan::Reads(0, at + 1);
-    }
-    if b < 49 {
+    if b < 48 {
         return NumberScan::Departs(at);
     }
     if 57 < b {
         return NumberScan::Departs(at);
+    }
+    if b < 49 {
+        return NumberScan::Reads(0, at + 1);
     }
     digits(text, (b - 48) as u16, at + 1)
 }

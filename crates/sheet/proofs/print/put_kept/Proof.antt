@@ -5,34 +5,24 @@ use Rattle.sheet.specs.Lines.{kept-written, kept-length}
 use borrow.Author.Needs.{needs}
 use Rattle.sheet.proofs.print.put_kept.Statement.{statement}
 use Rattle.sheet.proofs.print.put_kept.Tie as tie
-use Rattle.sheet.proofs.print.put_kept.Reads as reads
-use Rattle.sheet.proofs.print.put_kept.Lts as lts
-use Rattle.text.proofs.put.put_word.Reads as put-word-reads
-use Rattle.text.proofs.put.put_word_number.Reads as put-word-number-reads
 
--- src/print.rt:78:46
 slice-aggregate-put-word-number : tie.Need-slice-aggregate-put-word-number
 slice-aggregate-put-word-number c = search needs
 
--- src/print.rt:78:9
 put-word-number-requires : tie.Need-put-word-number-requires
 put-word-number-requires c κs = omega (arith, kept-length (c .before .before .before .args .kept))
 
--- src/print.rt:79:30
 slice-aggregate-put-word : tie.Need-slice-aggregate-put-word
 slice-aggregate-put-word c = search needs
 
--- src/print.rt:79:5
 put-word-requires : tie.Need-put-word-requires
 put-word-requires c κs =
     let one = c .before .before .before .before .put-word-number .ensures in
     omega (arith, kept-length (c .before .before .before .before .before .before .before .before .args .kept), one .ends, one .same)
 
--- src/print.rt:74:1
 same-length : tie.Need-same-length
 same-length c = search needs
 
--- src/print.rt:74:1
 returns : tie.Need-returns
 returns c =
     rw (kept-written (c .before .before .before .before .before .before .before .before .before .before .before .args .kept))

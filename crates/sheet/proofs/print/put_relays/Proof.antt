@@ -12,9 +12,6 @@ use Rattle.sheet.specs.Going.{Going, going-start, going-step, going-end}
 use Rattle.sheet.specs.Lines.{relays-step, relays-length, relays-end}
 use Rattle.sheet.proofs.print.put_relays.Statement.{statement}
 use Rattle.sheet.proofs.print.put_relays.Tie as tie
-use Rattle.sheet.proofs.print.put_relays.Reads as reads
-use Rattle.sheet.proofs.print.put_relays.Lts as lts
-use Rattle.text.proofs.put.put_word_number.Reads as put-word-number-reads
 
 abbrev Inv-loop : tie.InvT-loop
 Inv-loop output₀ at relays first last i₀ p₀ space output i p =
@@ -23,27 +20,21 @@ Inv-loop output₀ at relays first last i₀ p₀ space output i p =
 abbrev μ-loop : tie.MeasureT-loop
 μ-loop output₀ at relays first last i₀ p₀ space output i p = last - i
 
--- src/print.rt:34:5
 loop-holds : tie.Need-loop-holds Inv-loop μ-loop
 loop-holds c = (c .before .before .pre .0 .0, going-start _ _ _)
 
--- src/print.rt:35:21
 mul-relay : tie.Need-mul-relay Inv-loop μ-loop
 mul-relay c = search needs
 
--- src/print.rt:35:21
 shared-slice-read-relay : tie.Need-shared-slice-read-relay Inv-loop μ-loop
 shared-slice-read-relay c = omega (arith, c .before .before .before .before .before .pre .0 .1)
 
--- src/print.rt:35:21
 cast-relay : tie.Need-cast-relay Inv-loop μ-loop
 cast-relay c = omega (arith, c .shared-slice-known2 .given (c .before .before .loop .i))
 
--- src/print.rt:36:45
 slice-aggregate-put-word-number : tie.Need-slice-aggregate-put-word-number Inv-loop μ-loop
 slice-aggregate-put-word-number c = refl
 
--- src/print.rt:36:9
 put-word-number-requires : tie.Need-put-word-number-requires Inv-loop μ-loop
 put-word-number-requires c κs =
     let a = c .before .before .before .before .before .before .before .args in
@@ -51,29 +42,25 @@ put-word-number-requires c κs =
     let step = relays-length (a .relays .now) (at .i) (a .last) (omega arith) (c .before .before .before .before .before .before .before .pre .0 .1) in
     omega (arith, at .inv .1 .ends, at .inv .1 .same, c .before .before .before .before .before .before .before .pre .1)
 
--- src/print.rt:37:9
 add-i : tie.Need-add-i Inv-loop μ-loop
 add-i c = omega arith
 
--- src/print.rt:34:5
 loop-less : tie.Need-loop-less Inv-loop μ-loop
 loop-less c = omega arith
 
--- src/print.rt:34:5
 loop-again : tie.Need-loop-again Inv-loop μ-loop
 loop-again c =
     let a = c .before .before .before .before .before .before .before .before .before .before .args in
-    let at = c .before .before .before .before .before .before .before .loop in
-    (omega arith,
-    going-step _ _ _ _ _ _ _ _ _ _ (at .inv .1)
-    (relays-step (a .relays .now) (at .i) (a .last) (omega arith) (c .before .before .before .before .before .before .before .before .before .before .pre .0 .1))
-    (c .before .before .put-word-number .ensures))
+    let at = c .before .before .before .before .before .before .before .loop in (
+      omega arith,
+      going-step _ _ _ _ _ _ _ _ _ _ (at .inv .1)
+          (relays-step (a .relays .now) (at .i) (a .last) (omega arith) (c .before .before .before .before .before .before .before .before .before .before .pre .0 .1))
+          (c .before .before .put-word-number .ensures),
+    )
 
--- src/print.rt:27:1
 same-length : tie.Need-same-length Inv-loop μ-loop
 same-length c = c .before .loop .inv .1 .same
 
--- src/print.rt:27:1
 returns : tie.Need-returns Inv-loop μ-loop
 returns c =
     let a = c .before .before .before .before .args in

@@ -7,33 +7,24 @@ use Rattle.sheet.specs.Lines.{route-written, route-length}
 use borrow.Author.Needs.{needs}
 use Rattle.sheet.proofs.print.put_route.Statement.{statement}
 use Rattle.sheet.proofs.print.put_route.Tie as tie
-use Rattle.sheet.proofs.print.put_route.Reads as reads
-use Rattle.sheet.proofs.print.put_route.Lts as lts
-use Rattle.sheet.proofs.print.put_relays.Reads as put-relays-reads
-use Rattle.text.proofs.put.put_word.Reads as put-word-reads
 
--- src/print.rt:48:39
 slice-aggregate-put-word : tie.Need-slice-aggregate-put-word
 slice-aggregate-put-word c = search needs
 
--- src/print.rt:48:9
 put-word-requires : tie.Need-put-word-requires
 put-word-requires c κs =
     let a = c .before .before .before .before .args in
     omega (arith, route-length (slice (a .first) (a .last) (now (a .relays))), c .before .before .before .before .pre .1)
 
--- src/print.rt:49:9
 put-relays-requires : tie.Need-put-relays-requires
 put-relays-requires c κs =
     let a = c .before .before .before .before .before .before .before .before .args in
     let one = c .before .before .before .put-word .ensures in
     (c .before .before .before .before .before .before .before .before .pre .0, omega (arith, route-length (slice (a .first) (a .last) (now (a .relays))), c .before .before .before .before .before .before .before .before .pre .1, one .ends, one .same))
 
--- src/print.rt:50:30
 slice-aggregate-put-word-2 : tie.Need-slice-aggregate-put-word-2
 slice-aggregate-put-word-2 c = search needs
 
--- src/print.rt:50:5
 put-word-requires-2 : tie.Need-put-word-requires-2
 put-word-requires-2 c κs =
     let a = c .before .before .before .before .before .before .before .before .before .before .before .before .before .args in
@@ -41,11 +32,9 @@ put-word-requires-2 c κs =
     let two = c .before .before .before .before .put-relays .ensures in
     omega (arith, route-length (slice (a .first) (a .last) (now (a .relays))), c .before .before .before .before .before .before .before .before .before .before .before .before .before .pre .1, one .ends, one .same, two .ends, two .same)
 
--- src/print.rt:43:1
 same-length : tie.Need-same-length
 same-length c = search needs
 
--- src/print.rt:43:1
 returns : tie.Need-returns
 returns c =
     let a = c .before .before .before .before .before .before .before .before .before .before .before .before .before .before .before .before .args in

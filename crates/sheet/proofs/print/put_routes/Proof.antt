@@ -13,9 +13,6 @@ use Rattle.sheet.specs.Going.{Going, going-start, going-step, going-end}
 use Rattle.sheet.specs.Lines.{routesLeft, routes-step, routes-length, routes-end, sizes-step}
 use Rattle.sheet.proofs.print.put_routes.Statement.{statement}
 use Rattle.sheet.proofs.print.put_routes.Tie as tie
-use Rattle.sheet.proofs.print.put_routes.Reads as reads
-use Rattle.sheet.proofs.print.put_routes.Lts as lts
-use Rattle.sheet.proofs.print.put_route.Reads as put-route-reads
 
 abbrev Inv-loop : tie.InvT-loop
 Inv-loop output₀ at k counts relays i₀ first₀ p₀ output i first p =
@@ -25,33 +22,27 @@ Inv-loop output₀ at k counts relays i₀ first₀ p₀ output i first p =
 abbrev μ-loop : tie.MeasureT-loop
 μ-loop output₀ at k counts relays i₀ first₀ p₀ output i first p = k - i
 
--- src/print.rt:63:5
 loop-holds : tie.Need-loop-holds Inv-loop μ-loop
 unfolding routesLeft
 loop-holds c =
     let a = c .before .before .before .args in
     (omega arith, omega (arith, c .before .before .before .pre .1 .0), going-start _ _ _)
 
--- src/print.rt:64:20
 mul-size : tie.Need-mul-size Inv-loop μ-loop
 mul-size c = omega (arith, c .before .before .before .before .before .pre .0)
 
--- src/print.rt:64:20
 shared-slice-read-size : tie.Need-shared-slice-read-size Inv-loop μ-loop
 shared-slice-read-size c = omega (arith, c .before .before .before .before .before .before .pre .0)
 
--- src/print.rt:64:20
 cast-size : tie.Need-cast-size Inv-loop μ-loop
 cast-size c = omega (arith, c .shared-slice-known3 .given (c .before .before .loop .i))
 
--- src/print.rt:65:20
 add-last : tie.Need-add-last Inv-loop μ-loop
 add-last c =
     let a = c .before .before .before .before .before .before .args in
     let at = c .before .before .loop in
     omega (arith, at .inv .1, sizes-step (at .i) (a .k) (a .counts .now) (omega arith) (c .before .before .before .before .before .before .pre .0))
 
--- src/print.rt:66:9
 put-route-requires : tie.Need-put-route-requires Inv-loop μ-loop
 put-route-requires c κs =
     let a = c .before .before .before .before .before .before .before .args in
@@ -60,31 +51,27 @@ put-route-requires c κs =
     let step = routes-length (at .i) (a .k) (at .first) (a .counts .now) (a .relays .now) (omega arith) (c .before .before .before .before .before .before .before .pre .0) in
     ((omega arith, omega (arith, at .inv .1)), omega (arith, at .inv .2 .ends, at .inv .2 .same, c .before .before .before .before .before .before .before .pre .1 .1))
 
--- src/print.rt:68:9
 add-i : tie.Need-add-i Inv-loop μ-loop
 add-i c = omega arith
 
--- src/print.rt:63:5
 loop-less : tie.Need-loop-less Inv-loop μ-loop
 loop-less c = omega arith
 
--- src/print.rt:63:5
 loop-again : tie.Need-loop-again Inv-loop μ-loop
 loop-again c =
     let a = c .before .before .before .before .before .before .before .before .before .before .args in
     let at = c .before .before .before .before .before .before .loop in
-    let sizes = sizes-step (at .i) (a .k) (a .counts .now) (omega arith) (c .before .before .before .before .before .before .before .before .before .before .pre .0) in
-    (omega arith,
-    omega (arith, at .inv .1),
-    going-step _ _ _ _ _ _ _ _ _ _ (at .inv .2)
-    (routes-step (at .i) (a .k) (at .first) (a .counts .now) (a .relays .now) (omega arith) (c .before .before .before .before .before .before .before .before .before .before .pre .0))
-    (c .before .before .put-route .ensures))
+    let sizes = sizes-step (at .i) (a .k) (a .counts .now) (omega arith) (c .before .before .before .before .before .before .before .before .before .before .pre .0) in (
+      omega arith,
+      omega (arith, at .inv .1),
+      going-step _ _ _ _ _ _ _ _ _ _ (at .inv .2)
+          (routes-step (at .i) (a .k) (at .first) (a .counts .now) (a .relays .now) (omega arith) (c .before .before .before .before .before .before .before .before .before .before .pre .0))
+          (c .before .before .put-route .ensures),
+    )
 
--- src/print.rt:54:1
 same-length : tie.Need-same-length Inv-loop μ-loop
 same-length c = c .before .loop .inv .2 .same
 
--- src/print.rt:54:1
 returns : tie.Need-returns Inv-loop μ-loop
 returns c =
     let a = c .before .before .before .before .before .args in

@@ -8,14 +8,7 @@ use Rattle.sheet.specs.Lines.{sheetLines, sheet-lengths}
 use borrow.Author.Needs.{needs}
 use Rattle.sheet.proofs.print.put_sheet.Statement.{statement}
 use Rattle.sheet.proofs.print.put_sheet.Tie as tie
-use Rattle.sheet.proofs.print.put_sheet.Reads as reads
-use Rattle.sheet.proofs.print.put_sheet.Lts as lts
-use Rattle.sheet.proofs.print.put_kept.Reads as put-kept-reads
-use Rattle.sheet.proofs.print.put_routes.Reads as put-routes-reads
-use Rattle.sheet.proofs.print.put_wish.Reads as put-wish-reads
-use Rattle.text.proofs.put.put_end.Reads as put-end-reads
 
--- src/print.rt:105:9
 put-wish-requires : tie.Need-put-wish-requires
 put-wish-requires c κs =
     let a = c .before .before .before .before .args in
@@ -23,7 +16,6 @@ put-wish-requires c κs =
     let room = c .before .before .before .before .pre .1 .1 in
     omega arith
 
--- src/print.rt:106:9
 put-routes-requires : tie.Need-put-routes-requires
 put-routes-requires c κs =
     let a = c .before .before .before .before .before .before .before .before .args in
@@ -32,7 +24,6 @@ put-routes-requires c κs =
     let one = c .before .before .before .put-wish .ensures in
     (c .before .before .before .before .before .before .before .before .pre .0, (c .before .before .before .before .before .before .before .before .pre .1 .0, omega (arith, one .ends, one .same)))
 
--- src/print.rt:107:9
 put-kept-requires : tie.Need-put-kept-requires
 put-kept-requires c κs =
     let a = c .before .before .before .before .before .before .before .before .before .before .before .before .args in
@@ -42,7 +33,6 @@ put-kept-requires c κs =
     let two = c .before .before .before .put-routes .ensures in
     omega (arith, one .ends, one .same, two .ends, two .same)
 
--- src/print.rt:108:5
 put-end-requires : tie.Need-put-end-requires
 put-end-requires c κs =
     let a = c .before .before .before .before .before .before .before .before .before .before .before .before .before .before .before .before .args in
@@ -53,11 +43,9 @@ put-end-requires c κs =
     let three = c .before .before .before .put-kept .ensures in
     omega (arith, one .ends, one .same, two .ends, two .same, three .ends, three .same)
 
--- src/print.rt:91:1
 same-length : tie.Need-same-length
 same-length c = search needs
 
--- src/print.rt:91:1
 returns : tie.Need-returns
 unfolding sheetLines
 returns c =

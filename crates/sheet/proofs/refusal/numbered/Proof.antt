@@ -5,110 +5,82 @@ use Rattle.network.specs.Answers.{refusalOf}
 use borrow.Author.Needs.{needs}
 use Rattle.sheet.proofs.refusal.numbered.Statement.{statement}
 use Rattle.sheet.proofs.refusal.numbered.Tie as tie
-use Rattle.sheet.proofs.refusal.numbered.Reads as reads
-use Rattle.sheet.proofs.refusal.numbered.Lts as lts
 
--- src/refusal.rt:21:23
 enum-known-refusal : tie.Need-enum-known-refusal
 enum-known-refusal c = search needs
 
--- src/refusal.rt:22:23
 enum-known-refusal-2 : tie.Need-enum-known-refusal-2
 enum-known-refusal-2 c = search needs
 
--- src/refusal.rt:23:32
 enum-told : tie.Need-enum-told
 enum-told c = search needs
 
--- src/refusal.rt:24:31
 enum-told-2 : tie.Need-enum-told-2
 enum-told-2 c = search needs
 
--- src/refusal.rt:25:29
 enum-known-refusal-3 : tie.Need-enum-known-refusal-3
 enum-known-refusal-3 c = search needs
 
--- src/refusal.rt:26:27
 enum-known-refusal-4 : tie.Need-enum-known-refusal-4
 enum-known-refusal-4 c = search needs
 
--- src/refusal.rt:27:27
 enum-known-refusal-5 : tie.Need-enum-known-refusal-5
 enum-known-refusal-5 c = search needs
 
--- src/refusal.rt:28:31
 enum-told-3 : tie.Need-enum-told-3
 enum-told-3 c = search needs
 
--- src/refusal.rt:29:32
 enum-told-4 : tie.Need-enum-told-4
 enum-told-4 c = search needs
 
--- src/refusal.rt:30:30
 enum-told-5 : tie.Need-enum-told-5
 enum-told-5 c = search needs
 
--- src/refusal.rt:31:30
 enum-told-6 : tie.Need-enum-told-6
 enum-told-6 c = search needs
 
--- src/refusal.rt:32:26
 enum-told-7 : tie.Need-enum-told-7
 enum-told-7 c = search needs
 
--- src/refusal.rt:33:32
 enum-told-8 : tie.Need-enum-told-8
 enum-told-8 c = search needs
 
--- src/refusal.rt:17:1
 returns : tie.Need-returns
 returns c = sym (ap (refusalOf {A = Sheet}) (c .before .refusal .given .1))
 
--- src/refusal.rt:17:1
 returns-2 : tie.Need-returns-2
 returns-2 c = sym (ap (refusalOf {A = Sheet}) (c .before .refusal2 .given .1))
 
--- src/refusal.rt:17:1
 returns-3 : tie.Need-returns-3
 returns-3 c = sym (ap (refusalOf {A = Sheet}) (c .enum-told .given .1))
 
--- src/refusal.rt:17:1
 returns-4 : tie.Need-returns-4
 returns-4 c = sym (ap (refusalOf {A = Sheet}) (c .enum-told2 .given .1))
 
--- src/refusal.rt:17:1
 returns-5 : tie.Need-returns-5
 returns-5 c = sym (ap (refusalOf {A = Sheet}) (c .before .refusal3 .given .1))
 
--- src/refusal.rt:17:1
 returns-6 : tie.Need-returns-6
 returns-6 c = sym (ap (refusalOf {A = Sheet}) (c .before .refusal4 .given .1))
 
--- src/refusal.rt:17:1
 returns-7 : tie.Need-returns-7
 returns-7 c = sym (ap (refusalOf {A = Sheet}) (c .before .refusal5 .given .1))
 
--- src/refusal.rt:17:1
 returns-8 : tie.Need-returns-8
 returns-8 c = sym (ap (refusalOf {A = Sheet}) (c .enum-told3 .given .1))
 
--- src/refusal.rt:17:1
 returns-9 : tie.Need-returns-9
 returns-9 c = sym (ap (refusalOf {A = Sheet}) (c .enum-told4 .given .1))
 
--- src/refusal.rt:17:1
 returns-10 : tie.Need-returns-10
 returns-10 c = sym (ap (refusalOf {A = Sheet}) (c .enum-told5 .given .1))
 
--- src/refusal.rt:17:1
 returns-11 : tie.Need-returns-11
 returns-11 c = sym (ap (refusalOf {A = Sheet}) (c .enum-told6 .given .1))
 
--- src/refusal.rt:17:1
 returns-12 : tie.Need-returns-12
 returns-12 c = sym (ap (refusalOf {A = Sheet}) (c .enum-told7 .given .1))
 
--- src/refusal.rt:17:1
 returns-13 : tie.Need-returns-13
 returns-13 c = sym (ap (refusalOf {A = Sheet}) (c .enum-told8 .given .1))
 

@@ -9,27 +9,19 @@ use Rattle.text.specs.Put.{Put}
 use borrow.Author.Needs.{needs}
 use Rattle.sheet.proofs.refusal.put_refusal.Statement.{statement}
 use Rattle.sheet.proofs.refusal.put_refusal.Tie as tie
-use Rattle.sheet.proofs.refusal.put_refusal.Reads as reads
-use Rattle.sheet.proofs.refusal.put_refusal.Lts as lts
-use Rattle.sheet.proofs.print.put_refused.Reads as put-refused-reads
-use Rattle.sheet.proofs.refusal.numbered.Reads as numbered-reads
 
--- src/refusal.rt:42:9
 numbered-requires : tie.Need-numbered-requires
 numbered-requires c κs = search needs
 
--- src/refusal.rt:43:5
 put-refused-requires : tie.Need-put-refused-requires
 unfolding printed
 put-refused-requires c κs =
     subst (λ (outcome : Outcome Sheet). length (printed outcome) ≤ length (now (c .before .before .before .args .output)))
     (sym (c .before .numbered .ensures)) (c .before .before .before .pre)
 
--- src/refusal.rt:38:1
 same-length : tie.Need-same-length
 same-length c = search needs
 
--- src/refusal.rt:38:1
 returns : tie.Need-returns
 unfolding printed
 returns c =

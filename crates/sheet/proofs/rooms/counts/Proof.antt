@@ -3,10 +3,7 @@ use mathlib.Core.Path.{refl}
 use Rattle.definitions.specs.Plan.{room}
 use Rattle.sheet.proofs.rooms.counts.Statement.{statement}
 use Rattle.sheet.proofs.rooms.counts.Tie as tie
-use Rattle.sheet.proofs.rooms.counts.Reads as reads
-use Rattle.sheet.proofs.rooms.counts.Lts as lts
 
--- src/rooms.rt:13:1
 returns : tie.Need-returns
 unfolding room
 returns c = refl

@@ -3,10 +3,7 @@ use mathlib.Core.Path.{refl}
 use Rattle.definitions.specs.Plan.{room}
 use Rattle.sheet.proofs.rooms.links.Statement.{statement}
 use Rattle.sheet.proofs.rooms.links.Tie as tie
-use Rattle.sheet.proofs.rooms.links.Reads as reads
-use Rattle.sheet.proofs.rooms.links.Lts as lts
 
--- src/rooms.rt:6:1
 returns : tie.Need-returns
 unfolding room
 returns c = refl

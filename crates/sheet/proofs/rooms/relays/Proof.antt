@@ -3,10 +3,7 @@ use mathlib.Core.Path.{refl}
 use Rattle.definitions.specs.Plan.{room}
 use Rattle.sheet.proofs.rooms.relays.Statement.{statement}
 use Rattle.sheet.proofs.rooms.relays.Tie as tie
-use Rattle.sheet.proofs.rooms.relays.Reads as reads
-use Rattle.sheet.proofs.rooms.relays.Lts as lts
 
--- src/rooms.rt:20:1
 returns : tie.Need-returns
 unfolding room
 returns c = refl

@@ -3,10 +3,7 @@ use mathlib.Core.Path.{refl}
 use Rattle.definitions.specs.Plan.{room}
 use Rattle.sheet.proofs.rooms.scratch.Statement.{statement}
 use Rattle.sheet.proofs.rooms.scratch.Tie as tie
-use Rattle.sheet.proofs.rooms.scratch.Reads as reads
-use Rattle.sheet.proofs.rooms.scratch.Lts as lts
 
--- src/rooms.rt:27:1
 returns : tie.Need-returns
 unfolding room
 returns c = refl

@@ -7,42 +7,30 @@ use Rattle.sheet.specs.Wish.{number-word-departs, number-word-reads}
 use borrow.Author.Needs.{needs}
 use Rattle.sheet.proofs.wish.number_word.Statement.{statement}
 use Rattle.sheet.proofs.wish.number_word.Tie as tie
-use Rattle.sheet.proofs.wish.number_word.Reads as reads
-use Rattle.sheet.proofs.wish.number_word.Lts as lts
-use Rattle.text.proofs.scan.number.Reads as number-reads
-use Rattle.text.proofs.scan.word.Reads as word-reads
 
--- src/wish.rt:26:11
 number-requires : tie.Need-number-requires
 number-requires c κs = search needs
 
--- src/wish.rt:27:29
 enum-known-p : tie.Need-enum-known-p
 enum-known-p c = search needs
 
--- src/wish.rt:28:27
 enum-known-x : tie.Need-enum-known-x
 enum-known-x c = search needs
 
--- src/wish.rt:28:42
 word-requires : tie.Need-word-requires
 word-requires c κs = search needs
 
--- src/wish.rt:29:31
 enum-known-q : tie.Need-enum-known-q
 enum-known-q c = search needs
 
--- src/wish.rt:30:29
 enum-known-q-2 : tie.Need-enum-known-q-2
 enum-known-q-2 c = search needs
 
--- src/wish.rt:22:1
 returns : tie.Need-returns
 returns c =
     let a = c .before .before .before .before .before .before .args in
     sym (number-word-departs (now (a .text)) (now (a .letters)) (a .at) _ (sym (c .before .before .before .number .ensures) ∙ ap numberGives (c .before .p .given .1)))
 
--- src/wish.rt:22:1
 returns-2 : tie.Need-returns-2
 unfolding withFront
 returns-2 c =
@@ -51,7 +39,6 @@ returns-2 c =
     (number-word-reads (now (a .text)) (now (a .letters)) (a .at) _ _ (sym (c .before .before .before .before .before .before .before .number .ensures) ∙ ap numberGives (c .before .before .before .before .before .x .given .1))
     ∙ ap (withFront _) (sym (c .before .before .before .word .ensures) ∙ ap wordGives (c .before .q .given .1)))
 
--- src/wish.rt:22:1
 returns-3 : tie.Need-returns-3
 unfolding withFront
 returns-3 c =

@@ -8,60 +8,44 @@ use Rattle.sheet.specs.Wish.{wish-departs, wish-reads}
 use borrow.Author.Needs.{needs}
 use Rattle.sheet.proofs.wish.wish_line.Statement.{statement}
 use Rattle.sheet.proofs.wish.wish_line.Tie as tie
-use Rattle.sheet.proofs.wish.wish_line.Reads as reads
-use Rattle.sheet.proofs.wish.wish_line.Lts as lts
-use Rattle.sheet.proofs.wish.number_word.Reads as number-word-reads
-use Rattle.text.proofs.scan.pair_line.Reads as pair-line-reads
 
--- src/wish.rt:38:34
 slice-aggregate-pair-line : tie.Need-slice-aggregate-pair-line
 slice-aggregate-pair-line c = search needs
 
--- src/wish.rt:38:45
 slice-aggregate-pair-line-2 : tie.Need-slice-aggregate-pair-line-2
 slice-aggregate-pair-line-2 c = search needs
 
--- src/wish.rt:38:51
 slice-aggregate-pair-line-3 : tie.Need-slice-aggregate-pair-line-3
 slice-aggregate-pair-line-3 c = search needs
 
--- src/wish.rt:38:11
 pair-line-requires : tie.Need-pair-line-requires
 unfolding noZero
 pair-line-requires c κs = (refl, (refl, refl))
 
--- src/wish.rt:39:27
 enum-known-p : tie.Need-enum-known-p
 enum-known-p c = search needs
 
--- src/wish.rt:40:25
 enum-known-from : tie.Need-enum-known-from
 enum-known-from c = search needs
 
--- src/wish.rt:40:66
 slice-aggregate-number-word : tie.Need-slice-aggregate-number-word
 slice-aggregate-number-word c = search needs
 
--- src/wish.rt:40:47
 number-word-requires : tie.Need-number-word-requires
 unfolding noZero
 number-word-requires c κs = refl
 
--- src/wish.rt:41:33
 enum-known-q : tie.Need-enum-known-q
 enum-known-q c = search needs
 
--- src/wish.rt:42:31
 enum-known-k : tie.Need-enum-known-k
 enum-known-k c = search needs
 
--- src/wish.rt:35:1
 returns : tie.Need-returns
 returns c =
     let a = c .before .before .before .before .before .before .before .before .args in
     sym (wish-departs (now (a .input)) _ (sym (c .before .before .before .pair-line .ensures) ∙ ap pairGives (c .before .p .given .1)))
 
--- src/wish.rt:35:1
 returns-2 : tie.Need-returns-2
 unfolding withFront
 returns-2 c =
@@ -70,7 +54,6 @@ returns-2 c =
     (wish-reads (now (a .input)) _ _ (sym (c .before .before .before .before .before .before .before .before .pair-line .ensures) ∙ ap pairGives (c .before .before .before .before .before .before .from .given .1))
     ∙ ap (withFront _) (sym (c .before .before .before .number-word .ensures) ∙ ap numberGives (c .before .q .given .1)))
 
--- src/wish.rt:35:1
 returns-3 : tie.Need-returns-3
 unfolding withFront
 returns-3 c =

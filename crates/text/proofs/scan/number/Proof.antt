@@ -1,10 +1,11 @@
 -- `text::scan::number` meets its contract: each way out is one range of the first byte. Assumes nothing.
-use mathlib.Core.Path.{refl, sym, _∙_}
+use mathlib.Core.Path.{_≡_, refl, sym, _∙_}
 use native.Mathlib.Omega.{arith}
 use borrow.Author.Needs.{needs}
 use denote.Ref.{now}
-use Rattle.text_theory.specs.Numbers.{byte-within}
+use Rattle.definitions.specs.Form.{byteAt}
 use Rattle.lists.specs.Ranges.{below, above}
+use Rattle.text_theory.specs.Numbers.{byte-within}
 use Rattle.text.specs.Numbers.{number-zero, number-departs, number-digits}
 use Rattle.text.proofs.scan.number.Statement.{statement}
 use Rattle.text.proofs.scan.number.Tie as tie
@@ -12,34 +13,32 @@ use Rattle.text.proofs.scan.number.Tie as tie
 byte-requires : tie.Need-byte-requires
 byte-requires c κs = search needs
 
-add-t5 : tie.Need-add-t5
-add-t5 c =
-    let a = c .before .before .before .args in
-    omega (arith, byte-within (now (a .text)) (a .at) (omega (arith, c .before .byte .ensures, c .if1 .taken)))
-
 returns : tie.Need-returns
 returns c =
     let a = c .before .before .before .args in
-    sym (number-zero (now (a .text)) (a .at) (sym (c .before .byte .ensures) ∙ c .if1 .taken))
+    let b = c .before .byte in
+    sym
+    (number-departs (now (a .text)) (a .at) (λ e. omega (arith, b .ensures))
+    (rw (b .ensures) at (below 49 57 (b .result) (omega arith))))
 
 returns-2 : tie.Need-returns-2
 returns-2 c =
     let a = c .before .before .before .before .args in
     let b = c .before .before .byte in
     sym
-    (number-departs (now (a .text)) (a .at) (λ e. c .before .if1 .left (b .ensures ∙ e))
-    (rw (b .ensures) at (below 49 57 (b .result) (c .if2 .taken))))
+    (number-departs (now (a .text)) (a .at) (λ e. omega (arith, b .ensures))
+    (rw (b .ensures) at (above 49 57 (b .result) (omega arith) (c .if2 .taken))))
+
+add-t5 : tie.Need-add-t5
+add-t5 c =
+    let a = c .before .before .before .before .before .args in
+    omega (arith, byte-within (now (a .text)) (a .at) (omega (arith, c .before .before .before .byte .ensures)))
 
 returns-3 : tie.Need-returns-3
 returns-3 c =
     let a = c .before .before .before .before .before .args in
-    let b = c .before .before .before .byte in
-    sym
-    (number-departs (now (a .text)) (a .at) (λ e. c .before .before .if1 .left (b .ensures ∙ e))
-    (rw (b .ensures) at (above 49 57 (b .result) (c .before .if2 .left) (c .if3 .taken))))
-
-sub-digits : tie.Need-sub-digits
-sub-digits c = search needs
+    let zero : byteAt (now (a .text)) (a .at) ≡ 48 = omega (arith, c .before .before .before .byte .ensures) in
+    sym (number-zero (now (a .text)) (a .at) zero)
 
 cast-digits : tie.Need-cast-digits
 cast-digits c = search needs
@@ -68,11 +67,10 @@ number-spec =
     tie.close
     (tie.spec
     byte-requires
-    add-t5
     returns
     returns-2
+    add-t5
     returns-3
-    sub-digits
     cast-digits
     add-digits
     digits-requires

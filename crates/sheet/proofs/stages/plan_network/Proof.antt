@@ -1,0 +1,117 @@
+-- `sheet::stages::plan_network` meets its contract: Read refuses, or Cut goes on with the table in the front of its lists.
+-- Assumes nothing.
+use mathlib.Core.Path.{sym, _∙_, ap}
+use denote.Ref.{now}
+use lib.Seq.{length-take-le}
+use Rattle.text.specs.Answers.{readOutcome}
+use Rattle.sheet.specs.Stages.{fits-as, put-as, read-refused, read-done}
+use borrow.Author.Needs.{needs}
+use Rattle.sheet.proofs.stages.plan_network.Statement.{statement}
+use Rattle.sheet.proofs.stages.plan_network.Tie as tie
+
+links-requires : tie.Need-links-requires
+links-requires c κs = search needs
+
+links-requires-2 : tie.Need-links-requires-2
+links-requires-2 c κs = search needs
+
+slice-aggregate-read : tie.Need-slice-aggregate-read
+slice-aggregate-read c = search needs
+
+slice-aggregate-read-2 : tie.Need-slice-aggregate-read-2
+slice-aggregate-read-2 c = search needs
+
+read-requires : tie.Need-read-requires
+read-requires c κs = search needs
+
+enum-known-refusal : tie.Need-enum-known-refusal
+enum-known-refusal c = search needs
+
+put-refusal-requires : tie.Need-put-refusal-requires
+put-refusal-requires c κs =
+    let a = c .before .before .before .before .before .before .before .before .before .before .before .before .before .args in
+    fits-as _ _ _ (read-refused (now (a .text)) _ _ (a .from) (a .to) (a .k) (c .before .before .refusal .given .0 .0) (c .before .before .before .before .before .before .before .before .before .before .links .ensures) (c .before .before .before .before .before .before .before .before .before .links2 .ensures)
+    (sym (c .before .before .before .before .before .before .read .ensures .0) ∙ ap readOutcome (c .before .before .refusal .given .1))) (c .before .before .before .before .before .before .before .before .before .before .before .before .before .pre)
+
+enum-known-n : tie.Need-enum-known-n
+enum-known-n c = search needs
+
+cast-size : tie.Need-cast-size
+cast-size c = search needs
+
+array-share-prefix-lows : tie.Need-array-share-prefix-lows
+array-share-prefix-lows c =
+    let a = c .before .before .before .before .before .before .before .before .before .before .before .before .before .args in
+    let table = read-done (now (a .text)) _ _ _ _ _ _ (c .before .before .before .before .before .before .before .before .before .before .links .ensures) (c .before .before .before .before .before .before .before .before .before .links2 .ensures)
+    (sym (c .before .before .before .before .before .before .read .ensures .0) ∙ ap readOutcome (c .before .before .n .given .1)) (c .before .before .before .before .before .before .read .ensures .1 .0) (c .before .before .before .before .before .before .read .ensures .1 .1) in
+    table .inLows
+
+slice-aggregate-plan-cut : tie.Need-slice-aggregate-plan-cut
+slice-aggregate-plan-cut c =
+    let a = c .before .before .before .before .before .before .before .before .before .before .before .before .before .before .args in
+    let table = read-done (now (a .text)) _ _ _ _ _ _ (c .before .before .before .before .before .before .before .before .before .before .before .links .ensures) (c .before .before .before .before .before .before .before .before .before .before .links2 .ensures)
+    (sym (c .before .before .before .before .before .before .before .read .ensures .0) ∙ ap readOutcome (c .before .before .before .n .given .1)) (c .before .before .before .before .before .before .before .read .ensures .1 .0) (c .before .before .before .before .before .before .before .read .ensures .1 .1) in
+    sym (length-take-le _ _ (table .inLows))
+
+array-share-prefix-highs : tie.Need-array-share-prefix-highs
+array-share-prefix-highs c =
+    let a = c .before .before .before .before .before .before .before .before .before .before .before .before .before .before .args in
+    let table = read-done (now (a .text)) _ _ _ _ _ _ (c .before .before .before .before .before .before .before .before .before .before .before .links .ensures) (c .before .before .before .before .before .before .before .before .before .before .links2 .ensures)
+    (sym (c .before .before .before .before .before .before .before .read .ensures .0) ∙ ap readOutcome (c .before .before .before .n .given .1)) (c .before .before .before .before .before .before .before .read .ensures .1 .0) (c .before .before .before .before .before .before .before .read .ensures .1 .1) in
+    table .inHighs
+
+slice-aggregate-plan-cut-2 : tie.Need-slice-aggregate-plan-cut-2
+slice-aggregate-plan-cut-2 c =
+    let a = c .before .before .before .before .before .before .before .before .before .before .before .before .before .before .before .args in
+    let table = read-done (now (a .text)) _ _ _ _ _ _ (c .before .before .before .before .before .before .before .before .before .before .before .before .links .ensures) (c .before .before .before .before .before .before .before .before .before .before .before .links2 .ensures)
+    (sym (c .before .before .before .before .before .before .before .before .read .ensures .0) ∙ ap readOutcome (c .before .before .before .before .n .given .1)) (c .before .before .before .before .before .before .before .before .read .ensures .1 .0) (c .before .before .before .before .before .before .before .before .read .ensures .1 .1) in
+    sym (length-take-le _ _ (table .inHighs))
+
+plan-cut-requires : tie.Need-plan-cut-requires
+plan-cut-requires c κs =
+    let a = c .before .before .before .before .before .before .before .before .before .before .before .before .before .before .before .args in
+    let table = read-done (now (a .text)) _ _ _ _ _ _ (c .before .before .before .before .before .before .before .before .before .before .before .before .links .ensures) (c .before .before .before .before .before .before .before .before .before .before .before .links2 .ensures)
+    (sym (c .before .before .before .before .before .before .before .before .read .ensures .0) ∙ ap readOutcome (c .before .before .before .before .n .given .1)) (c .before .before .before .before .before .before .before .before .read .ensures .1 .0) (c .before .before .before .before .before .before .before .before .read .ensures .1 .1) in
+    fits-as _ _ _ (table .stage (a .from) (a .to) (a .k)) (c .before .before .before .before .before .before .before .before .before .before .before .before .before .before .before .pre)
+
+same-length : tie.Need-same-length
+same-length c = search needs
+
+returns : tie.Need-returns
+returns c =
+    let a = c .before .before .before .before .before .before .before .before .before .before .before .before .before .before .before .before .args in
+    put-as _ _ _ _ _ (read-refused (now (a .text)) _ _ (a .from) (a .to) (a .k) (c .before .before .before .before .before .refusal .given .0 .0) (c .before .before .before .before .before .before .before .before .before .before .before .before .before .links .ensures) (c .before .before .before .before .before .before .before .before .before .before .before .before .links2 .ensures)
+    (sym (c .before .before .before .before .before .before .before .before .before .read .ensures .0) ∙ ap readOutcome (c .before .before .before .before .before .refusal .given .1))) (c .before .before .put-refusal .ensures)
+
+same-length-2 : tie.Need-same-length-2
+same-length-2 c = search needs
+
+returns-2 : tie.Need-returns-2
+returns-2 c =
+    let a = c .before .before .before .before .before .before .before .before .before .before .before .before .before .before .before .before .before .before .args in
+    let table = read-done (now (a .text)) _ _ _ _ _ _ (c .before .before .before .before .before .before .before .before .before .before .before .before .before .before .before .links .ensures) (c .before .before .before .before .before .before .before .before .before .before .before .before .before .before .links2 .ensures)
+    (sym (c .before .before .before .before .before .before .before .before .before .before .before .read .ensures .0) ∙ ap readOutcome (c .before .before .before .before .before .before .before .n .given .1)) (c .before .before .before .before .before .before .before .before .before .before .before .read .ensures .1 .0) (c .before .before .before .before .before .before .before .before .before .before .before .read .ensures .1 .1) in
+    put-as _ _ _ _ _ (table .stage (a .from) (a .to) (a .k)) (c .before .before .plan-cut .ensures)
+
+pub plan-network-spec : {M : Type 1} → statement M
+plan-network-spec =
+    tie.close
+    (tie.spec
+    links-requires
+    links-requires-2
+    slice-aggregate-read
+    slice-aggregate-read-2
+    read-requires
+    enum-known-refusal
+    put-refusal-requires
+    enum-known-n
+    cast-size
+    array-share-prefix-lows
+    slice-aggregate-plan-cut
+    array-share-prefix-highs
+    slice-aggregate-plan-cut-2
+    plan-cut-requires
+    same-length
+    returns
+    same-length-2
+    returns-2)

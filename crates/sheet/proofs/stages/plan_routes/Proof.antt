@@ -1,0 +1,106 @@
+-- `sheet::stages::plan_routes` meets its contract: Route refuses, or the sheet has its routes. Assumes nothing.
+use Prim.Native.Nat.{ℕ, _≤_}
+use mathlib.Core.List.{List}
+use mathlib.Core.Path.{sym, _∙_, ap, subst}
+use denote.Ref.{now}
+use lib.ListN.{length}
+use Rattle.text.specs.Put.{Put}
+use Rattle.routes.specs.Answers.{routeOutcome}
+use Rattle.sheet.specs.Stages.{fits-as, put-as, routes-refused, routes-written}
+use borrow.Author.Needs.{needs}
+use Rattle.sheet.proofs.stages.plan_routes.Statement.{statement}
+use Rattle.sheet.proofs.stages.plan_routes.Tie as tie
+
+counts-requires : tie.Need-counts-requires
+counts-requires c κs = search needs
+
+relays-requires : tie.Need-relays-requires
+relays-requires c κs = search needs
+
+scratch-requires : tie.Need-scratch-requires
+scratch-requires c κs = search needs
+
+slice-aggregate-route : tie.Need-slice-aggregate-route
+slice-aggregate-route c = search needs
+
+slice-aggregate-route-2 : tie.Need-slice-aggregate-route-2
+slice-aggregate-route-2 c = search needs
+
+slice-aggregate-route-3 : tie.Need-slice-aggregate-route-3
+slice-aggregate-route-3 c = search needs
+
+route-requires : tie.Need-route-requires
+route-requires c κs = search needs
+
+enum-known-refusal : tie.Need-enum-known-refusal
+enum-known-refusal c = search needs
+
+put-refusal-requires : tie.Need-put-refusal-requires
+put-refusal-requires c κs =
+    let a = c .before .before .before .before .before .before .before .before .before .before .before .before .before .before .before .before .before .args in
+    fits-as _ _ _ (routes-refused (a .n) (now (a .lows)) (now (a .highs)) (a .from) (a .to) (a .k) (a .kept) _ _ _
+    (c .before .before .before .before .before .before .before .before .before .before .before .before .before .counts .ensures) (c .before .before .before .before .before .before .before .before .before .before .before .before .relays .ensures) (c .before .before .before .before .before .before .before .before .before .before .before .scratch .ensures) (c .before .before .refusal .given .0 .0)
+    (sym (c .before .before .before .before .before .before .before .route .ensures .0) ∙ ap routeOutcome (c .before .before .refusal .given .1))) (c .before .before .before .before .before .before .before .before .before .before .before .before .before .before .before .before .before .pre)
+
+enum-told : tie.Need-enum-told
+enum-told c = search needs
+
+slice-aggregate-put-sheet : tie.Need-slice-aggregate-put-sheet
+slice-aggregate-put-sheet c = search needs
+
+slice-aggregate-put-sheet-2 : tie.Need-slice-aggregate-put-sheet-2
+slice-aggregate-put-sheet-2 c = search needs
+
+put-sheet-requires : tie.Need-put-sheet-requires
+put-sheet-requires c κs =
+    let a = c .before .before .before .before .before .before .before .before .before .before .before .before .before .before .before .before .before .before .args in
+    let routed = routes-written (a .n) (now (a .lows)) (now (a .highs)) (a .from) (a .to) (a .k) (a .kept) _ _ _
+    (c .before .before .before .before .before .before .before .before .before .before .before .before .before .before .counts .ensures) (c .before .before .before .before .before .before .before .before .before .before .before .before .before .relays .ensures) (c .before .before .before .before .before .before .before .before .before .before .before .before .scratch .ensures) _ _ _
+    (sym (c .before .before .before .before .before .before .before .before .route .ensures .0) ∙ ap routeOutcome (c .before .before .before .enum-told .given .1))
+    (c .before .before .before .before .before .before .before .before .route .ensures .1 .0) (c .before .before .before .before .before .before .before .before .route .ensures .1 .1 .0) in
+    (routed .sizes, (routed .within, subst (λ (lines : List ℕ). length lines ≤ length (now (a .output))) (routed .lines) (c .before .before .before .before .before .before .before .before .before .before .before .before .before .before .before .before .before .before .pre)))
+
+same-length : tie.Need-same-length
+same-length c = search needs
+
+returns : tie.Need-returns
+returns c =
+    let a = c .before .before .before .before .before .before .before .before .before .before .before .before .before .before .before .before .before .before .before .before .args in
+    put-as _ _ _ _ _ (routes-refused (a .n) (now (a .lows)) (now (a .highs)) (a .from) (a .to) (a .k) (a .kept) _ _ _
+    (c .before .before .before .before .before .before .before .before .before .before .before .before .before .before .before .before .counts .ensures) (c .before .before .before .before .before .before .before .before .before .before .before .before .before .before .before .relays .ensures) (c .before .before .before .before .before .before .before .before .before .before .before .before .before .before .scratch .ensures) (c .before .before .before .before .before .refusal .given .0 .0)
+    (sym (c .before .before .before .before .before .before .before .before .before .before .route .ensures .0) ∙ ap routeOutcome (c .before .before .before .before .before .refusal .given .1))) (c .before .before .put-refusal .ensures)
+
+same-length-2 : tie.Need-same-length-2
+same-length-2 c = search needs
+
+returns-2 : tie.Need-returns-2
+returns-2 c =
+    let a = c .before .before .before .before .before .before .before .before .before .before .before .before .before .before .before .before .before .before .before .before .before .args in
+    let routed = routes-written (a .n) (now (a .lows)) (now (a .highs)) (a .from) (a .to) (a .k) (a .kept) _ _ _
+    (c .before .before .before .before .before .before .before .before .before .before .before .before .before .before .before .before .before .counts .ensures) (c .before .before .before .before .before .before .before .before .before .before .before .before .before .before .before .before .relays .ensures) (c .before .before .before .before .before .before .before .before .before .before .before .before .before .before .before .scratch .ensures) _ _ _
+    (sym (c .before .before .before .before .before .before .before .before .before .before .before .route .ensures .0) ∙ ap routeOutcome (c .before .before .before .before .before .before .enum-told .given .1))
+    (c .before .before .before .before .before .before .before .before .before .before .before .route .ensures .1 .0) (c .before .before .before .before .before .before .before .before .before .before .before .route .ensures .1 .1 .0) in
+    subst (λ (lines : List ℕ). Put (now (a .output)) 0 lines (c .before .before .put-sheet .last .0) (c .before .before .put-sheet .result))
+    (sym (routed .lines)) (c .before .before .put-sheet .ensures)
+
+pub plan-routes-spec : {M : Type 1} → statement M
+plan-routes-spec =
+    tie.close
+    (tie.spec
+    counts-requires
+    relays-requires
+    scratch-requires
+    slice-aggregate-route
+    slice-aggregate-route-2
+    slice-aggregate-route-3
+    route-requires
+    enum-known-refusal
+    put-refusal-requires
+    enum-told
+    slice-aggregate-put-sheet
+    slice-aggregate-put-sheet-2
+    put-sheet-requires
+    same-length
+    returns
+    same-length-2
+    returns-2)

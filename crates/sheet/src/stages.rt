@@ -1,0 +1,93 @@
+// The planner's stages, the last one first: each prints the refusal that it meets, or hands on to the next.
+ghost use mathlib.Core.Path.{_≡_};
+ghost use Prim.Native.Nat.{_≤_};
+ghost use lib.ListN.{length};
+ghost use Rattle.definitions.specs.Plan.{sheetFor, printed};
+ghost use Rattle.text.specs.Put.{Put};
+ghost use Rattle.sheet.specs.Stages.{networkOf, routeStage, readStage};
+use crate::print::put_sheet;
+use crate::refusal::put_refusal;
+use crate::rooms;
+use forests::CutAnswer;
+use forests::cut;
+use routes::RouteAnswer;
+use routes::route;
+use text::ReadAnswer;
+use text::read;
+
+// Route, and the sheet with its routes.
+fn plan_routes(
+    output: &mut [u8],
+    n: u16,
+    lows: &[u16],
+    highs: &[u16],
+    from: u16,
+    to: u16,
+    k: u16,
+    kept: u16,
+) -> usize
+    requires { ⌜ length (printed (routeStage from to k (networkOf n (now lows) (now highs)) kept)) ≤ length (now output) ⌝ }
+    ensures { λ r. ⌜ Put (now (output .entry)) 0 (printed (routeStage from to k (networkOf n (now (lows .entry)) (now (highs .entry))) kept)) (now (output .exit)) r ⌝ }
+{
+    let mut counts = rooms::counts();
+    let mut relays = rooms::relays();
+    let mut scratch = rooms::scratch();
+    match route(
+        n,
+        lows,
+        highs,
+        k,
+        from,
+        to,
+        &mut counts,
+        &mut relays,
+        &mut scratch,
+    ) {
+        RouteAnswer::Refused(refusal) => put_refusal(output, refusal),
+        RouteAnswer::Written(_) => put_sheet(
+            output,
+            from as usize,
+            to as usize,
+            k as usize,
+            &counts,
+            &relays,
+            kept as usize,
+        ),
+    }
+}
+
+// Cut, and what follows.
+fn plan_cut(
+    output: &mut [u8],
+    n: u16,
+    lows: &[u16],
+    highs: &[u16],
+    from: u16,
+    to: u16,
+    k: u16,
+) -> usize
+    requires { ⌜ length (printed (sheetFor from to k (networkOf n (now lows) (now highs)))) ≤ length (now output) ⌝ }
+    ensures { λ r. ⌜ Put (now (output .entry)) 0 (printed (sheetFor from to k (networkOf n (now (lows .entry)) (now (highs .entry))))) (now (output .exit)) r ⌝ }
+{
+    let mut marks = rooms::links();
+    match cut(n, lows, highs, k, &mut marks) {
+        CutAnswer::Refused(refusal) => put_refusal(output, refusal),
+        CutAnswer::Kept(kept) => plan_routes(output, n, lows, highs, from, to, k, kept),
+    }
+}
+
+// Read, and what follows.
+pub(crate) fn plan_network(output: &mut [u8], text: &[u8], from: u16, to: u16, k: u16) -> usize
+    requires { ⌜ length (printed (readStage (now text) from to k)) ≤ length (now output) ⌝ }
+    ensures { λ r. ⌜ Put (now (output .entry)) 0 (printed (readStage (now (text .entry)) from to k)) (now (output .exit)) r ⌝ }
+{
+    let mut lows = rooms::links();
+    let mut highs = rooms::links();
+    match read(text, &mut lows, &mut highs) {
+        ReadAnswer::Refused(refusal) => put_refusal(output, refusal),
+        ReadAnswer::Table(n, m) => {
+            let size = m as usize;
+            plan_cut(output, n, &lows[..size], &highs[..size], from, to, k)
+        }
+    }
+}

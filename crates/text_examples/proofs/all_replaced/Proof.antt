@@ -1,0 +1,61 @@
+-- `text_examples::all_replaced` meets its contract: the text and the lists keep their lengths. Assumes nothing.
+use Prim.Native.Nat.{_-_, _≤_}
+use mathlib.Core.Path.{_≡_}
+use lib.ListN.{length}
+use borrow.Author.Needs.{needs}
+use Rattle.text_examples.proofs.all_replaced.Statement.{statement}
+use Rattle.text_examples.proofs.all_replaced.Tie as tie
+
+abbrev Inv-loop : tie.InvT-loop
+Inv-loop bytes input₀ lows₀ highs₀ j₀ input lows highs j =
+    (j ≤ length bytes) × (length input ≡ length input₀) × (length lows ≡ length lows₀) × (length highs ≡ length highs₀)
+
+abbrev μ-loop : tie.MeasureT-loop
+μ-loop bytes input₀ lows₀ highs₀ j₀ input lows highs j = length bytes - j
+
+loop-holds : tie.Need-loop-holds Inv-loop μ-loop
+loop-holds c = search needs
+
+shared-slice-read-replaced : tie.Need-shared-slice-read-replaced Inv-loop μ-loop
+shared-slice-read-replaced c = search needs
+
+replaced-requires : tie.Need-replaced-requires Inv-loop μ-loop
+replaced-requires c κs = search needs
+
+add-j : tie.Need-add-j Inv-loop μ-loop
+add-j c = search needs
+
+loop-less : tie.Need-loop-less Inv-loop μ-loop
+loop-less c = search needs
+
+loop-again : tie.Need-loop-again Inv-loop μ-loop
+loop-again c = search needs
+
+same-length : tie.Need-same-length Inv-loop μ-loop
+same-length c = search needs
+
+same-length-2 : tie.Need-same-length-2 Inv-loop μ-loop
+same-length-2 c = search needs
+
+same-length-3 : tie.Need-same-length-3 Inv-loop μ-loop
+same-length-3 c = search needs
+
+returns : tie.Need-returns Inv-loop μ-loop
+returns c = search needs
+
+pub all-replaced-spec : {M : Type 1} → statement M
+all-replaced-spec =
+    tie.close
+    (tie.spec
+    Inv-loop
+    μ-loop
+    loop-holds
+    shared-slice-read-replaced
+    replaced-requires
+    add-j
+    loop-less
+    loop-again
+    same-length
+    same-length-2
+    same-length-3
+    returns)

@@ -1,0 +1,73 @@
+-- `text_examples::prefixes` meets its contract: the lists keep their lengths. Assumes nothing.
+use Prim.Native.Nat.{_-_, _≤_}
+use mathlib.Core.Path.{_≡_}
+use lib.ListN.{length}
+use borrow.Author.Needs.{needs}
+use Rattle.text_examples.proofs.prefixes.Statement.{statement}
+use Rattle.text_examples.proofs.prefixes.Tie as tie
+
+abbrev Inv-loop : tie.InvT-loop
+Inv-loop input lows₀ highs₀ k₀ t6 lows highs k =
+    (k ≤ length input) × (length lows ≡ length lows₀) × (length highs ≡ length highs₀) × (length t6 ≡ 1)
+
+abbrev μ-loop : tie.MeasureT-loop
+μ-loop input lows₀ highs₀ k₀ t6 lows highs k = length input - k
+
+slice-aggregate-write-all : tie.Need-slice-aggregate-write-all Inv-loop μ-loop
+slice-aggregate-write-all c = search needs
+
+write-all-requires : tie.Need-write-all-requires Inv-loop μ-loop
+write-all-requires c κs = search needs
+
+loop-holds : tie.Need-loop-holds Inv-loop μ-loop
+loop-holds c = search needs
+
+prefix-requires : tie.Need-prefix-requires Inv-loop μ-loop
+prefix-requires c κs = search needs
+
+add-k : tie.Need-add-k Inv-loop μ-loop
+add-k c = search needs
+
+loop-less : tie.Need-loop-less Inv-loop μ-loop
+loop-less c = search needs
+
+loop-again : tie.Need-loop-again Inv-loop μ-loop
+loop-again c = search needs
+
+code-requires : tie.Need-code-requires Inv-loop μ-loop
+code-requires c κs = search needs
+
+slice-aggregate-write-all-2 : tie.Need-slice-aggregate-write-all-2 Inv-loop μ-loop
+slice-aggregate-write-all-2 c = search needs
+
+write-all-requires-2 : tie.Need-write-all-requires-2 Inv-loop μ-loop
+write-all-requires-2 c κs = search needs
+
+same-length : tie.Need-same-length Inv-loop μ-loop
+same-length c = search needs
+
+same-length-2 : tie.Need-same-length-2 Inv-loop μ-loop
+same-length-2 c = search needs
+
+returns : tie.Need-returns Inv-loop μ-loop
+returns c = search needs
+
+pub prefixes-spec : {M : Type 1} → statement M
+prefixes-spec =
+    tie.close
+    (tie.spec
+    Inv-loop
+    μ-loop
+    slice-aggregate-write-all
+    write-all-requires
+    loop-holds
+    prefix-requires
+    add-k
+    loop-less
+    loop-again
+    code-requires
+    slice-aggregate-write-all-2
+    write-all-requires-2
+    same-length
+    same-length-2
+    returns)
