@@ -7,6 +7,7 @@ pub mod Lines
 pub mod Put
 pub mod Answers
 pub mod Written
+pub mod Marks
 pub mod Rows
 pub mod Read
 pub mod Tables

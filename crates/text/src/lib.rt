@@ -9,7 +9,6 @@ ghost use Rattle.definitions.specs.Text.{
   readAnswer,
   lowsAfter,
   highsAfter,
-  linkLines,
   textOf,
   writeAnswer,
   bufferAfter,
@@ -24,6 +23,7 @@ pub mod rows;
 pub mod scan;
 
 use network::Refusal;
+use put::WriteMark;
 use rows::Step;
 use scan::Due;
 use scan::PairScan;
@@ -56,32 +56,18 @@ fn text_length(n: u16, lows: &[u16], highs: &[u16]) -> usize
     total
 }
 
-// The link lines of a table.
-fn put_links(buffer: &mut [u8], at: usize, lows: &[u16], highs: &[u16]) -> usize
-    requires { ⌜ length (now lows) ≡ length (now highs) ⌝ }
-    requires { ⌜ at + length (linkLines (now lows) (now highs) 0 (length (now lows))) ≤ length (now buffer) ⌝ }
-    ensures { λ r. ⌜ Put (now (buffer .entry)) at (linkLines (now (lows .entry)) (now (highs .entry)) 0 (length (now (lows .entry)))) (now (buffer .exit)) r ⌝ }
-{
-    let mut p = at;
-    let mut i: usize = 0;
-    while i < lows.len() {
-        let low = lows[i] as usize;
-        let high = highs[i] as usize;
-        p = put::put_link(buffer, p, low, high);
-        i += 1;
-    }
-    p
-}
-
-// The whole text of a table, from the buffer's first byte on.
+// The whole text of a table, from the buffer's first byte on: one write mark moves over it, form by form.
 fn put_text(buffer: &mut [u8], n: u16, lows: &[u16], highs: &[u16]) -> usize
-    requires { ⌜ length (now lows) ≡ length (now highs) ⌝ }
     requires { ⌜ length (textOf n (now lows) (now highs)) ≤ length (now buffer) ⌝ }
     ensures { λ r. ⌜ Put (now (buffer .entry)) 0 (textOf n (now (lows .entry)) (now (highs .entry))) (now (buffer .exit)) r ⌝ }
 {
-    let p = put::put_header(buffer, 0, n as usize, lows.len());
-    let q = put_links(buffer, p, lows, highs);
-    put::put_end(buffer, q)
+    let mut mark = WriteMark { next: 0, links: 0 };
+    put::move_mark(buffer, &mut mark, Due::Header, n, lows, highs);
+    while mark.links < lows.len() {
+        put::move_mark(buffer, &mut mark, Due::Link, n, lows, highs);
+    }
+    put::move_mark(buffer, &mut mark, Due::End, n, lows, highs);
+    mark.next
 }
 
 // Writes the text of a table into the buffer.

@@ -3,11 +3,19 @@
 ghost use mathlib.Core.List.{[], _∷_};
 ghost use mathlib.Core.Path.{_≡_};
 ghost use Prim.Native.Nat.{_+_, _≤_};
-ghost use lib.ListN.{length};
+ghost use lib.ListN.{length, getD};
 ghost use Rattle.definitions.specs.Form.{word, numeral, decimal, writeForm};
 ghost use Rattle.definitions.specs.Text.{headerForm, linkForm, endForm};
+ghost use Rattle.text.specs.Marks.{Fits, Moved};
 ghost use Rattle.text.specs.Put.{Put};
 ghost use Rattle.text.specs.Scans.{pairForm};
+use crate::scan::Due;
+
+// Where the writer stands: the next offset, and how many links are written.
+pub struct WriteMark {
+    pub next: usize,
+    pub links: usize,
+}
 
 // How many digits a number has.
 pub fn width(x: usize) -> usize
@@ -118,4 +126,59 @@ pub fn link_length(a: usize, b: usize) -> usize
     ensures { λ r. ⌜ (r ≡ length (writeForm linkForm (a ∷ b ∷ []))) × (r ≤ 19) ⌝ }
 {
     9 + width(a) + width(b)
+}
+
+// An entry of a list; past its end 0.
+fn entry(list: &[u16], i: usize) -> usize
+    ensures { λ r. ⌜ r ≡ getD (now (list .entry)) i 0 ⌝ }
+{
+    if i < list.len() { list[i] as usize } else { 0 }
+}
+
+// The form that is due at a mark, and the mark behind it.
+pub fn put_form(
+    buffer: &mut [u8],
+    mark: WriteMark,
+    due: Due,
+    n: u16,
+    lows: &[u16],
+    highs: &[u16],
+) -> WriteMark
+    requires { ⌜ Fits (now buffer) mark due n (now lows) (now highs) ⌝ }
+    ensures { λ r. ⌜ Moved (now (buffer .entry)) mark due n (now (lows .entry)) (now (highs .entry)) (now (buffer .exit)) r ⌝ }
+{
+    match due {
+        Due::Header => WriteMark {
+            next: put_header(buffer, mark.next, n as usize, lows.len()),
+            links: mark.links,
+        },
+        Due::Link => {
+            let low = entry(lows, mark.links);
+            let high = entry(highs, mark.links);
+            let links = mark.links + 1;
+            WriteMark {
+                next: put_link(buffer, mark.next, low, high),
+                links: links,
+            }
+        }
+        Due::End => WriteMark {
+            next: put_end(buffer, mark.next),
+            links: mark.links,
+        },
+    }
+}
+
+// Writes the form that is due at the mark, and moves the mark behind it.
+pub fn move_mark(
+    buffer: &mut [u8],
+    mark: &mut WriteMark,
+    due: Due,
+    n: u16,
+    lows: &[u16],
+    highs: &[u16],
+)
+    requires { ⌜ Fits (now buffer) (now mark) due n (now lows) (now highs) ⌝ }
+    ensures { λ _. ⌜ Moved (now (buffer .entry)) (now (mark .entry)) due n (now (lows .entry)) (now (highs .entry)) (now (buffer .exit)) (now (mark .exit)) ⌝ }
+{
+    *mark = put_form(buffer, *mark, due, n, lows, highs);
 }

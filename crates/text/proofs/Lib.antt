@@ -1,0 +1,3 @@
+-- Laws that the proofs by hand share.
+pub mod Again
+pub mod Lending

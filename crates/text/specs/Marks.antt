@@ -1,0 +1,143 @@
+-- The write mark: what moving it over a form of a network's text writes, and how a text is written form by form.
+-- Assumes nothing.
+use Prim.Native.Nat.{ℕ, _+_, _-_, _≤_, _<_}
+use mathlib.Core.List.{List, [], _∷_, _++_, append-assoc}
+use mathlib.Core.Path.{_≡_, sym, _∙_, ap}
+use native.Mathlib.Omega.{arith}
+use lib.ListN.{length, getD, length-append}
+use lib.Seq.{sets}
+use Rattle.definitions.specs.Form.{writeForm}
+use Rattle.definitions.specs.Text.{headerForm, linkForm, endForm, linkLines, textOf}
+use Rattle.text.specs.declared.put.WriteMark.{WriteMark}
+use Rattle.text.specs.declared.scan.Due.{Due}
+use Rattle.text.specs.declared.scan.Due.the-variants as dues
+use Rattle.text.specs.Put.{Put, put-rest}
+use Rattle.text.specs.Written.{links-step, length-links-step, links-end, length-text}
+
+-- The bytes of the form that is due behind i links.
+abbrev pub dueText : Due → ℕ → List ℕ → List ℕ → ℕ → List ℕ
+dueText dues.Header n lows highs i = writeForm headerForm (n ∷ length lows ∷ [])
+dueText dues.Link n lows highs i = writeForm linkForm (getD lows i 0 ∷ getD highs i 0 ∷ [])
+dueText dues.End n lows highs i = writeForm endForm []
+
+abbrev pub linksAfter : Due → ℕ → ℕ
+linksAfter dues.Header i = i
+linksAfter dues.Link i = i + 1
+linksAfter dues.End i = i
+
+-- The buffer has the room for the form.
+pub record Fits (buffer : List ℕ) (mark : WriteMark) (due : Due) (n : ℕ) (lows highs : List ℕ) : Type 0 where
+  pub within : mark .links ≤ length lows
+  pub room : mark .next + length (dueText due n lows highs (mark .links)) ≤ length buffer
+
+-- The form stands at the mark, and the mark behind it.
+pub record Moved
+    (before : List ℕ) (mark : WriteMark) (due : Due) (n : ℕ) (lows highs after : List ℕ) (moved : WriteMark)
+    : Type 0 where
+  pub put : Put before (mark .next) (dueText due n lows highs (mark .links)) after (moved .next)
+  pub counts : moved .links ≡ linksAfter due (mark .links)
+
+-- The room for the form, where it is known which one is due.
+pub due-room : {buffer : List ℕ} {mark : WriteMark} {due : Due} {n : ℕ} {lows highs : List ℕ} (form : Due) → due ≡ form
+    → Fits buffer mark due n lows highs → mark .next + length (dueText form n lows highs (mark .links)) ≤ length buffer
+due-room form e fits = rw (sym e) (fits .room)
+
+-- A link's line, from the two numbers that were looked up.
+pub entries-line : (lows highs : List ℕ) (i low high : ℕ) → low ≡ getD lows i 0 → high ≡ getD highs i 0
+    → writeForm linkForm (low ∷ high ∷ []) ≡ writeForm linkForm (getD lows i 0 ∷ getD highs i 0 ∷ [])
+entries-line lows highs i low high e f = rw (e, f)
+
+-- A writing of the same bytes.
+pub same-bytes : {before after written wanted : List ℕ} {at next : ℕ} → written ≡ wanted → Put before at written after next
+    → Put before at wanted after next
+same-bytes e put = rw (sym e) put
+
+-- Before the first form.
+abbrev pub first : WriteMark
+first = record { next = 0; links = 0 }
+
+-- ---- the text of a table, from the buffer `start` on
+module _ (n : ℕ) (lows highs start : List ℕ) where
+  -- What is left of the text behind i links.
+  abbrev pub left : ℕ → List ℕ
+  left i = linkLines lows highs i (length lows - i) ++ writeForm endForm []
+
+  -- Behind the header and some of the links: the whole run of stores is that of what is left, on the buffer as it is.
+  pub record Standing (buffer : List ℕ) (mark : WriteMark) : Type 0 where
+    pub within : mark .links ≤ length lows
+    pub same : length buffer ≡ length start
+    pub ends : mark .next + length (left (mark .links)) ≡ length (textOf n lows highs)
+    pub bytes : sets start 0 (textOf n lows highs) ≡ sets buffer (mark .next) (left (mark .links))
+
+  module _ (enough : length (textOf n lows highs) ≤ length start) where
+    pub header-fits : Fits start first dues.Header n lows highs
+    header-fits = record { within = omega arith; room = omega (arith, length-text n lows highs) }
+
+    pub link-fits : (buffer : List ℕ) (mark : WriteMark) → Standing buffer mark → mark .links < length lows
+        → Fits buffer mark dues.Link n lows highs
+    link-fits buffer mark s h =
+        record {
+          within = s .within;
+          room = omega (
+            arith,
+            s .same,
+            s .ends,
+            length-append (linkLines lows highs (mark .links) (length lows - mark .links)) (writeForm endForm []),
+            length-links-step lows highs (mark .links) (length lows) h,
+          );
+        }
+
+    pub end-fits : (buffer : List ℕ) (mark : WriteMark) → Standing buffer mark → Fits buffer mark dues.End n lows highs
+    end-fits buffer mark s =
+        record {
+          within = s .within;
+          room = omega (
+            arith,
+            s .same,
+            s .ends,
+            length-append (linkLines lows highs (mark .links) (length lows - mark .links)) (writeForm endForm []),
+          );
+        }
+
+  pub header-moved : (buffer : List ℕ) (mark : WriteMark) → Moved start first dues.Header n lows highs buffer mark
+      → Standing buffer mark
+  unfolding textOf
+  header-moved buffer mark m =
+      let e : length lows - 0 ≡ length lows = omega arith in
+      record {
+        within = omega (arith, m .counts);
+        same = m .put .same;
+        ends = rw (m .counts, e) (omega (
+          arith,
+          m .put .ends,
+          length-append (writeForm headerForm (n ∷ length lows ∷ [])) (linkLines lows highs 0 (length lows) ++ writeForm endForm []),
+        ));
+        bytes = rw (m .counts, e) (put-rest start _ buffer _ 0 (mark .next) (m .put));
+      }
+
+  pub link-moved : (buffer after : List ℕ) (mark moved : WriteMark) → Standing buffer mark → mark .links < length lows
+      → Moved buffer mark dues.Link n lows highs after moved → Standing after moved
+  link-moved buffer after mark moved s h m =
+      let step = links-step lows highs (mark .links) (length lows) h in
+      let form = writeForm linkForm (getD lows (mark .links) 0 ∷ getD highs (mark .links) 0 ∷ []) in
+      let rest = linkLines lows highs (mark .links + 1) (length lows - (mark .links + 1)) in
+      let whole : left (mark .links) ≡ form ++ (rest ++ writeForm endForm []) =
+      ap (λ (l : List ℕ). l ++ writeForm endForm []) step ∙ append-assoc form rest (writeForm endForm []) in
+      record {
+        within = omega (arith, m .counts);
+        same = m .put .same ∙ s .same;
+        ends = rw (m .counts) (omega (arith, s .ends, m .put .ends, ap length whole, length-append form (rest ++ writeForm endForm [])));
+        bytes = rw (m .counts)
+            (s .bytes ∙ (ap (sets buffer (mark .next)) whole ∙ put-rest buffer form after (rest ++ writeForm endForm []) (mark .next) (moved .next) (m .put)));
+      }
+
+  pub end-moved : (buffer after : List ℕ) (mark moved : WriteMark) → Standing buffer mark → length lows ≤ mark .links
+      → Moved buffer mark dues.End n lows highs after moved → Put start 0 (textOf n lows highs) after (moved .next)
+  end-moved buffer after mark moved s h m =
+      let whole : left (mark .links) ≡ writeForm endForm [] =
+      ap (λ (l : List ℕ). l ++ writeForm endForm []) (links-end lows highs (mark .links) (length lows) h) in
+      record {
+        bytes = m .put .bytes ∙ sym (s .bytes ∙ ap (sets buffer (mark .next)) whole);
+        ends = omega (arith, s .ends, m .put .ends, ap length whole);
+        same = m .put .same ∙ s .same;
+      }
