@@ -1,5 +1,5 @@
 /* Nolkisei for C: the operations of document 01 on plain lists. Link libnolkisei.a (rt staticlib nolkisei); it needs
- * memset and memcpy alone, allocates nothing and keeps nothing between calls.
+ * memset alone of libc, allocates nothing and keeps nothing between calls.
  *
  * A network has n relays (1 to 1,000), numbered from 0, and m links (0 to 3,000). A table is two lists, lows and highs:
  * link i joins relay lows[i] to relay highs[i], lows[i] below highs[i], no pair twice. Every list goes with its length,
@@ -84,7 +84,7 @@ uint32_t nolkisei_route(uint16_t n, const uint16_t *lows, size_t lows_length, co
                         uint16_t k, uint16_t from, uint16_t to, uint16_t *counts, size_t counts_length, uint16_t *relays,
                         size_t relays_length, uint16_t *scratch, size_t scratch_length, uint64_t answer[2]);
 
-/* The planner program: a wish line and a network text in, a sheet or a refused line out.
+/* The planner program: a wish line and a network text in, a sheet or a refused line out. Not in the library yet.
  * Writes at most 4,608 bytes to `output`, which has room for as many, and returns how many it wrote. */
 size_t nolkisei_plan(const uint8_t *input, size_t input_length, uint8_t output[4608]);
 
