@@ -40,14 +40,17 @@ same-length-7 c = search needs
 
 returns : tie.Need-returns
 returns c =
-    together _ _ _ _ _ _ _ _ _ _ _ _ _ _ _ _ _ _ _ _
-    (c .before .before .before .before .before .before .before .before .before .before .before .before .before .before .before .before .before .before .before .before .before .before .order .ensures .1 .0)
-    (c .before .before .before .before .before .before .before .before .before .before .before .before .before .before .before .before .before .before .before .before .before .before .order .ensures .1 .1)
-    (c .before .before .before .before .before .before .before .before .before .before .before .before .before .before .before .before .split .ensures .1)
-    (c .before .before .before .before .before .before .before .before .before .before .before .before .cut .ensures .1)
-    (c .before .before .before .before .before .before .route .ensures .0)
-    (c .before .before .before .before .before .before .route .ensures .1 .0)
-    (c .before .before .before .before .before .before .route .ensures .1 .1 .0)
+    let atRoute = c .before .before .before .before .before .before in
+    let atCut = atRoute .before .before .before .before .before .before in
+    let atSplit = atCut .before .before .before .before in
+    let atOrder = atSplit .before .before .before .before .before .before in
+    let order = atOrder .order .ensures in
+    let split = atSplit .split .ensures in
+    let cut = atCut .cut .ensures in
+    let route = atRoute .route .ensures in
+    let demand = together _ _ _ _ _ _ _ _ _ _ _ _ _ _ _ _ _ _ _ _
+    (order .1 .0) (order .1 .1) (split .1) (cut .1) (route .0) (route .1 .0) (route .1 .1 .0) in
+    (order .0, (order .1 .0, (order .1 .1, (split .0, (split .1, (cut .0, (cut .1, (route .0, (route .1 .0, (route .1 .1 .0, (route .1 .1 .1, demand)))))))))))
 
 pub all-four-spec : {M : Type 1} → statement M
 all-four-spec =
