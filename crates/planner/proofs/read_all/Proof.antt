@@ -25,15 +25,22 @@ same-length c = c .before .before .before .read-more .ensures .1 ∙ c .before .
 
 returns : tie.Need-returns Inv-loop μ-loop
 returns c =
-    let within : c .before .before .before .before .before .before .loop .size ≤ length (c .before .before .before .read-more .last .0) = omega (arith, c .before .before .before .read-more .ensures .0) in
+    let atReadMore = c .before .before .before in
+    let atLoop = atReadMore .before .before .before in
+    let within : atLoop .loop .size ≤ length (atReadMore .read-more .last .0) = omega (arith, atReadMore .read-more .ensures .0) in
     (within, sym (length-take-le _ _ within))
 
 same-length-2 : tie.Need-same-length-2 Inv-loop μ-loop
-same-length-2 c = c .before .before .before .before .before .read-more .ensures .1 ∙ c .before .before .before .before .before .before .before .before .loop .inv .1
+same-length-2 c =
+    let atReadMore = c .before .before .before .before .before in
+    let atLoop = atReadMore .before .before .before in
+    atReadMore .read-more .ensures .1 ∙ atLoop .loop .inv .1
 
 returns-2 : tie.Need-returns-2 Inv-loop μ-loop
 returns-2 c =
-    let within : c .before .before .before .before .before .before .before .before .loop .size ≤ length (c .before .before .before .before .before .read-more .last .0) = omega (arith, c .before .before .before .before .before .read-more .ensures .0) in
+    let atReadMore = c .before .before .before .before .before in
+    let atLoop = atReadMore .before .before .before in
+    let within : atLoop .loop .size ≤ length (atReadMore .read-more .last .0) = omega (arith, atReadMore .read-more .ensures .0) in
     (within, sym (length-take-le _ _ within))
 
 add-size : tie.Need-add-size Inv-loop μ-loop
@@ -43,7 +50,10 @@ loop-less : tie.Need-loop-less Inv-loop μ-loop
 loop-less c = omega (arith, c .before .before .before .before .before .before .read-more .ensures)
 
 loop-again : tie.Need-loop-again Inv-loop μ-loop
-loop-again c = (c .before .before .before .before .before .before .read-more .ensures .0, c .before .before .before .before .before .before .read-more .ensures .1 ∙ c .before .before .before .before .before .before .before .before .before .loop .inv .1)
+loop-again c =
+    let atReadMore = c .before .before .before .before .before .before in
+    let atLoop = atReadMore .before .before .before in
+    (atReadMore .read-more .ensures .0, atReadMore .read-more .ensures .1 ∙ atLoop .loop .inv .1)
 
 same-length-3 : tie.Need-same-length-3 Inv-loop μ-loop
 same-length-3 c = c .before .loop .inv .1

@@ -19,10 +19,15 @@ same-length-2 c = search needs
 
 returns : tie.Need-returns
 returns c =
-    let a = c .before .before .before .before .before .before .before .before .before .before .before .before .before .args in
+    let atBetween = c .before .before .before .before in
+    let atIf1 = atBetween .before .before .before in
+    let atJoined = atIf1 .before in
+    let start = atJoined .before .before .before .before .before in
+    let a = start .args in
     answer-some (leftIn (a .table .now) (a .n)) (a .k) (a .p .0) (a .q .0) (a .order .now) (a .counts .now) (a .relays .now)
-    (c .before .before .before .before .before .before .before .before .joined .result) (c .before .before .before .before .before .before .before .before .joined .ensures) (c .before .before .before .before .between .last .1 .1 .1 .1 .1 .1 .0) (c .before .before .before .before .between .last .1 .1 .1 .1 .1 .1 .1 .0) (c .before .before .before .before .between .result)
-    (c .before .before .before .before .before .before .before .if1 .taken) (c .before .before .before .before .between .ensures)
+    (atJoined .joined .result) (atJoined .joined .ensures) (atBetween .between .last .1 .1 .1 .1 .1 .1 .0)
+    (atBetween .between .last .1 .1 .1 .1 .1 .1 .1 .0) (atBetween .between .result)
+    (atIf1 .if1 .taken) (atBetween .between .ensures)
 
 returns-2 : tie.Need-returns-2
 returns-2 c =

@@ -15,22 +15,27 @@ slice-aggregate-scan c = search needs
 
 scan-requires : tie.Need-scan-requires
 scan-requires c κs =
-    let a = c .before .before .before .before .before .before .before .before .before .args in
-    scan-asks (a .n) (a .lows .now) (a .highs .now) (a .order .now) (a .places .now) (c .before .before .before .no-links .result)
-    (c .before .before .before .before .before .before .before .before .before .pre .0) (c .before .before .before .before .before .before .before .before .before .pre .1 .0 .0) (c .before .before .before .before .before .before .before .before .before .pre .1 .0 .1) (c .before .before .before .no-links .ensures)
+    let atNoLinks = c .before .before .before in
+    let start = atNoLinks .before .before .before .before .before .before in
+    let a = start .args in
+    scan-asks (a .n) (a .lows .now) (a .highs .now) (a .order .now) (a .places .now) (atNoLinks .no-links .result)
+    (start .pre .0) (start .pre .1 .0 .0) (start .pre .1 .0 .1) (atNoLinks .no-links .ensures)
 
 slice-aggregate-left-table : tie.Need-slice-aggregate-left-table
 slice-aggregate-left-table c = search needs
 
 left-table-requires : tie.Need-left-table-requires
 left-table-requires c κs =
-    let a = c .before .before .before .before .before .before .before .before .before .before .before .before .before .before .before .before .before .before .args in
-    let s = c .before .before .before .before .before .before .before .before .scan in
+    let atScan = c .before .before .before .before .before .before .before .before in
+    let atNoLinks = atScan .before .before .before .before in
+    let start = atNoLinks .before .before .before .before .before .before in
+    let a = start .args in
+    let s = atScan .scan in
     table-asks (a .n) (a .k) (a .lows .now) (a .highs .now) (a .order .now) (s .last .1 .1 .1 .0) (a .places .now) (s .last .1 .1 .1 .1 .0)
-    (c .before .before .before .before .before .before .before .before .before .before .before .before .no-links .result) (s .last .1 .1 .1 .1 .1 .0) (a .table .now) (c .before .before .before .before .before .before .before .before .before .before .before .before .before .before .before .before .before .before .pre .0) (s .ensures)
-    (s .kept .1 .1 .1 .1 .0 ∙ c .before .before .before .before .before .before .before .before .before .before .before .before .before .before .before .before .before .before .pre .1 .0 .1)
-    (s .kept .1 .1 .1 .1 .1 .0 ∙ ap length (c .before .before .before .before .before .before .before .before .before .before .before .before .no-links .ensures) ∙ length-replicate {A = ℕ} 3000 0)
-    (c .before .before .before .before .before .before .before .before .before .before .before .before .before .before .before .before .before .before .pre .1 .1 .0) (c .before .before .before .before .before .before .before .before .before .before .before .before .before .before .before .before .before .before .pre .1 .1 .1)
+    (atNoLinks .no-links .result) (s .last .1 .1 .1 .1 .1 .0) (a .table .now) (start .pre .0) (s .ensures)
+    (s .kept .1 .1 .1 .1 .0 ∙ start .pre .1 .0 .1)
+    (s .kept .1 .1 .1 .1 .1 .0 ∙ ap length (atNoLinks .no-links .ensures) ∙ length-replicate {A = ℕ} 3000 0)
+    (start .pre .1 .1 .0) (start .pre .1 .1 .1)
 
 same-length : tie.Need-same-length
 same-length c = search needs

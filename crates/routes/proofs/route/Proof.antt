@@ -19,8 +19,10 @@ enum-told c = search needs
 
 wish-check-requires : tie.Need-wish-check-requires
 wish-check-requires c κs =
-    let a = c .before .before .before .before .before .before .before .before .args in
-    accepted (a .n) (a .lows .now) (a .highs .now) (sym (c .before .before .table-check .ensures) ∙ ap checkOutcome (c .enum-told .given .1)) .few
+    let start = c .before .before .before .before .before .before .before .before in
+    let a = start .args in
+    accepted (a .n) (a .lows .now) (a .highs .now)
+    (sym (c .before .before .table-check .ensures) ∙ ap checkOutcome (c .enum-told .given .1)) .few
 
 enum-known-refusal-2 : tie.Need-enum-known-refusal-2
 enum-known-refusal-2 c = search needs
@@ -30,23 +32,34 @@ enum-told-2 c = search needs
 
 route-accepted-requires : tie.Need-route-accepted-requires
 route-accepted-requires c κs =
-    let a = c .before .before .before .before .before .before .before .before .before .before .before .before .before .before .args in
+    let atEnumTold2 = c .before .before .before in
+    let atWishCheck = atEnumTold2 .before .before in
+    let atEnumTold = atWishCheck .before in
+    let atTableCheck = atEnumTold .before .before in
+    let start = atTableCheck .before .before .before .before .before .before in
+    let a = start .args in
     wish-passed (a .n) (a .lows .now) (a .highs .now) (a .k) (a .from) (a .to) (a .counts .now) (a .relays .now) (a .scratch .now)
-    (sym (c .before .before .before .before .before .before .before .before .table-check .ensures) ∙ ap checkOutcome (c .before .before .before .before .before .before .enum-told .given .1))
-    (sym (c .before .before .before .before .before .wish-check .ensures) ∙ ap checkOutcome (c .before .before .before .enum-told2 .given .1))
+    (sym (atTableCheck .table-check .ensures) ∙ ap checkOutcome (atEnumTold .enum-told .given .1))
+    (sym (atWishCheck .wish-check .ensures) ∙ ap checkOutcome (atEnumTold2 .enum-told2 .given .1))
 
 returns : tie.Need-returns
 returns c =
-    let a = c .before .before .before .before .before .before .before .before .before .args in
+    let atTableCheck = c .before .before .before in
+    let start = atTableCheck .before .before .before .before .before .before in
+    let a = start .args in
     table-refused (a .n) (a .lows .now) (a .highs .now) (a .k) (a .from) (a .to) (a .counts .now) (a .relays .now) (a .scratch .now)
-    (c .before .refusal .given .0 .0) (sym (ap checkOutcome (c .before .refusal .given .1)) ∙ c .before .before .before .table-check .ensures)
+    (c .before .refusal .given .0 .0) (sym (ap checkOutcome (c .before .refusal .given .1)) ∙ atTableCheck .table-check .ensures)
 
 returns-2 : tie.Need-returns-2
 returns-2 c =
-    let a = c .before .before .before .before .before .before .before .before .before .before .before .before .args in
+    let atWishCheck = c .before .before .before in
+    let atEnumTold = atWishCheck .before in
+    let atTableCheck = atEnumTold .before .before in
+    let start = atTableCheck .before .before .before .before .before .before in
+    let a = start .args in
     wish-refused (a .n) (a .lows .now) (a .highs .now) (a .k) (a .from) (a .to) (a .counts .now) (a .relays .now) (a .scratch .now)
-    (sym (c .before .before .before .before .before .before .table-check .ensures) ∙ ap checkOutcome (c .before .before .before .before .enum-told .given .1))
-    (c .before .refusal2 .given .0 .0) (sym (ap checkOutcome (c .before .refusal2 .given .1)) ∙ c .before .before .before .wish-check .ensures)
+    (sym (atTableCheck .table-check .ensures) ∙ ap checkOutcome (atEnumTold .enum-told .given .1))
+    (c .before .refusal2 .given .0 .0) (sym (ap checkOutcome (c .before .refusal2 .given .1)) ∙ atWishCheck .wish-check .ensures)
 
 same-length : tie.Need-same-length
 same-length c = search needs
@@ -59,12 +72,19 @@ same-length-3 c = search needs
 
 returns-3 : tie.Need-returns-3
 returns-3 c =
-    let a = c .before .before .before .before .before .before .before .before .before .before .before .before .before .before .before .before .before .before .before .before .before .args in
-    let called = c .before .before .before .before .before .before .route-accepted in
+    let atRouteAccepted = c .before .before .before .before .before .before in
+    let atEnumTold2 = atRouteAccepted .before .before .before .before in
+    let atWishCheck = atEnumTold2 .before .before in
+    let atEnumTold = atWishCheck .before in
+    let atTableCheck = atEnumTold .before .before in
+    let start = atTableCheck .before .before .before .before .before .before in
+    let a = start .args in
+    let called = atRouteAccepted .route-accepted in
     route-answered (a .n) (a .lows .now) (a .highs .now) (a .k) (a .from) (a .to) (a .counts .now) (a .relays .now) (a .scratch .now)
-    (sym (c .before .before .before .before .before .before .before .before .before .before .before .before .before .before .before .table-check .ensures) ∙ ap checkOutcome (c .before .before .before .before .before .before .before .before .before .before .before .before .before .enum-told .given .1))
-    (sym (c .before .before .before .before .before .before .before .before .before .before .before .before .wish-check .ensures) ∙ ap checkOutcome (c .before .before .before .before .before .before .before .before .before .before .enum-told2 .given .1))
-    (routeOutcome (called .result)) (called .last .1 .1 .1 .1 .1 .1 .0) (called .last .1 .1 .1 .1 .1 .1 .1 .0) (called .last .1 .1 .1 .1 .1 .1 .1 .1 .0)
+    (sym (atTableCheck .table-check .ensures) ∙ ap checkOutcome (atEnumTold .enum-told .given .1))
+    (sym (atWishCheck .wish-check .ensures) ∙ ap checkOutcome (atEnumTold2 .enum-told2 .given .1))
+    (routeOutcome (called .result)) (called .last .1 .1 .1 .1 .1 .1 .0) (called .last .1 .1 .1 .1 .1 .1 .1 .0)
+    (called .last .1 .1 .1 .1 .1 .1 .1 .1 .0)
     (called .ensures .0) (called .ensures .1)
 
 pub route-spec : {M : Type 1} → statement M

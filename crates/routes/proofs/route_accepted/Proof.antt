@@ -23,40 +23,60 @@ slice-aggregate-prepare-2 c = search needs
 
 prepare-requires : tie.Need-prepare-requires
 prepare-requires c κs =
-    let a = c .before .before .before .before .before .before .before .before .before .before .before .before .before .before .args in
+    let atClear = c .before .before .before .before .before in
+    let atNoRelays2 = atClear .before .before in
+    let atNoRelays = atNoRelays2 .before in
+    let start = atNoRelays .before .before .before .before .before .before in
+    let a = start .args in
     prepare-asks (a .n) (a .lows .now) (a .highs .now) (a .k) (a .from) (a .to) (a .counts .now) (a .relays .now) (a .scratch .now)
-    (c .before .before .before .before .before .clear .last .0) (c .before .before .before .before .before .before .before .before .no-relays .result) (c .before .before .before .before .before .before .before .no-relays2 .result) (c .before .before .before .before .before .before .before .before .before .before .before .before .before .before .pre) (c .before .before .before .before .before .before .before .before .no-relays .ensures) (c .before .before .before .before .before .before .before .no-relays2 .ensures)
-    (c .before .before .before .before .before .clear .ensures) (c .before .before .before .before .before .clear .kept .0)
+    (atClear .clear .last .0) (atNoRelays .no-relays .result) (atNoRelays2 .no-relays2 .result) (start .pre)
+    (atNoRelays .no-relays .ensures) (atNoRelays2 .no-relays2 .ensures)
+    (atClear .clear .ensures) (atClear .clear .kept .0)
 
 slice-aggregate-place-of : tie.Need-slice-aggregate-place-of
 slice-aggregate-place-of c = search needs
 
 place-of-requires : tie.Need-place-of-requires
 place-of-requires c κs =
-    let a = c .before .before .before .before .before .before .before .before .before .before .before .before .before .before .before .before .before .before .before .before .args in
-    place-asks (a .n) (a .lows .now) (a .highs .now) (c .before .before .before .before .before .before .before .before .before .before .before .before .before .no-relays2 .result) (c .before .before .before .before .before .prepare .last .1 .1 .1 .1 .1 .0) (a .from)
-    (c .before .before .before .before .before .before .before .before .before .before .before .before .before .before .before .before .before .before .before .before .pre .accepted) (c .before .before .before .before .before .before .before .before .before .before .before .before .before .no-relays2 .ensures) (c .before .before .before .before .before .prepare .kept .1 .1 .1 .1 .1 .0) (c .before .before .before .before .before .before .before .before .before .before .before .before .before .before .before .before .before .before .before .before .pre .source)
+    let atPrepare = c .before .before .before .before .before in
+    let atNoRelays2 = atPrepare .before .before .before .before .before .before .before .before in
+    let start = atNoRelays2 .before .before .before .before .before .before .before in
+    let a = start .args in
+    place-asks (a .n) (a .lows .now) (a .highs .now) (atNoRelays2 .no-relays2 .result) (atPrepare .prepare .last .1 .1 .1 .1 .1 .0)
+    (a .from)
+    (start .pre .accepted) (atNoRelays2 .no-relays2 .ensures) (atPrepare .prepare .kept .1 .1 .1 .1 .1 .0) (start .pre .source)
 
 slice-aggregate-place-of-2 : tie.Need-slice-aggregate-place-of-2
 slice-aggregate-place-of-2 c = search needs
 
 place-of-requires-2 : tie.Need-place-of-requires-2
 place-of-requires-2 c κs =
-    let a = c .before .before .before .before .before .before .before .before .before .before .before .before .before .before .before .before .before .before .before .before .before .before .args in
-    place-asks (a .n) (a .lows .now) (a .highs .now) (c .before .before .before .before .before .before .before .before .before .before .before .before .before .before .before .no-relays2 .result) (c .before .before .before .before .before .before .before .prepare .last .1 .1 .1 .1 .1 .0) (a .to)
-    (c .before .before .before .before .before .before .before .before .before .before .before .before .before .before .before .before .before .before .before .before .before .before .pre .accepted) (c .before .before .before .before .before .before .before .before .before .before .before .before .before .before .before .no-relays2 .ensures) (c .before .before .before .before .before .before .before .prepare .kept .1 .1 .1 .1 .1 .0) (c .before .before .before .before .before .before .before .before .before .before .before .before .before .before .before .before .before .before .before .before .before .before .pre .goal)
+    let atPrepare = c .before .before .before .before .before .before .before in
+    let atNoRelays2 = atPrepare .before .before .before .before .before .before .before .before in
+    let start = atNoRelays2 .before .before .before .before .before .before .before in
+    let a = start .args in
+    place-asks (a .n) (a .lows .now) (a .highs .now) (atNoRelays2 .no-relays2 .result) (atPrepare .prepare .last .1 .1 .1 .1 .1 .0) (a .to)
+    (start .pre .accepted) (atNoRelays2 .no-relays2 .ensures) (atPrepare .prepare .kept .1 .1 .1 .1 .1 .0) (start .pre .goal)
 
 slice-aggregate-answer : tie.Need-slice-aggregate-answer
 slice-aggregate-answer c = search needs
 
 answer-requires : tie.Need-answer-requires
 answer-requires c κs =
-    let a = c .before .before .before .before .before .before .before .before .before .before .before .before .before .before .before .before .before .before .before .before .before .before .before .before .before .before .before .args in
-    let made = c .before .before .before .before .before .before .before .before .before .before .before .before .prepare in
-    places-some (a .n) (a .lows .now) (a .highs .now) (a .k) (a .from) (a .to) (a .counts .now) (a .relays .now) (a .scratch .now) (c .before .before .before .before .before .before .before .before .before .before .before .before .before .before .before .before .before .before .before .before .before .before .before .before .before .before .before .pre)
-    (c .before .before .before .before .before .before .before .before .before .before .before .before .before .before .before .before .before .before .before .before .before .no-relays .result) (made .last .1 .1 .1 .1 .0) (c .before .before .before .before .before .before .before .before .before .before .before .before .before .before .before .before .before .before .before .before .no-relays2 .result) (made .last .1 .1 .1 .1 .1 .0)
-    (c .before .before .before .before .before .before .before .before .before .before .before .before .before .before .before .before .before .before .clear .last .0) (made .last .1 .1 .1 .1 .1 .1 .0) (made .ensures) (c .before .before .before .before .before .before .before .before .before .before .before .before .before .before .before .before .before .before .before .before .before .no-relays .ensures)
-    (c .before .before .before .before .before .before .place-of .result .0) (c .before .before .before .before .place-of2 .result .0) (c .before .before .before .before .before .before .place-of .ensures) (c .before .before .before .before .place-of2 .ensures)
+    let atPlaceOf2 = c .before .before .before .before in
+    let atPlaceOf = atPlaceOf2 .before .before in
+    let atPrepare = atPlaceOf .before .before .before .before .before .before in
+    let atClear = atPrepare .before .before .before .before .before .before in
+    let atNoRelays2 = atClear .before .before in
+    let atNoRelays = atNoRelays2 .before in
+    let start = atNoRelays .before .before .before .before .before .before in
+    let a = start .args in
+    let made = atPrepare .prepare in
+    places-some (a .n) (a .lows .now) (a .highs .now) (a .k) (a .from) (a .to) (a .counts .now) (a .relays .now) (a .scratch .now)
+    (start .pre)
+    (atNoRelays .no-relays .result) (made .last .1 .1 .1 .1 .0) (atNoRelays2 .no-relays2 .result) (made .last .1 .1 .1 .1 .1 .0)
+    (atClear .clear .last .0) (made .last .1 .1 .1 .1 .1 .1 .0) (made .ensures) (atNoRelays .no-relays .ensures)
+    (atPlaceOf .place-of .result .0) (atPlaceOf2 .place-of2 .result .0) (atPlaceOf .place-of .ensures) (atPlaceOf2 .place-of2 .ensures)
 
 clear-requires-2 : tie.Need-clear-requires-2
 clear-requires-2 c κs = search needs
@@ -72,16 +92,25 @@ same-length-3 c = search needs
 
 returns : tie.Need-returns
 returns c =
-    let a = c .before .before .before .before .before .before .before .before .before .before .before .before .before .before .before .before .before .before .before .before .before .before .before .before .before .before .before .before .before .before .before .before .before .before .before .before .args in
-    let made = c .before .before .before .before .before .before .before .before .before .before .before .before .before .before .before .before .before .before .before .before .before .prepare in (
-      answers-tree (a .n) (a .lows .now) (a .highs .now) (a .k) (a .from) (a .to) (a .counts .now) (a .relays .now) (a .scratch .now) (c .before .before .before .before .before .before .before .before .before .before .before .before .before .before .before .before .before .before .before .before .before .before .before .before .before .before .before .before .before .before .before .before .before .before .before .before .pre)
-          (c .before .before .before .before .before .before .before .before .before .before .before .before .before .before .before .before .before .before .before .before .before .before .before .before .before .before .before .before .before .before .no-relays .result) (made .last .1 .1 .1 .1 .0) (c .before .before .before .before .before .before .before .before .before .before .before .before .before .before .before .before .before .before .before .before .before .before .before .before .before .before .before .before .before .no-relays2 .result) (made .last .1 .1 .1 .1 .1 .0)
-          (c .before .before .before .before .before .before .before .before .before .before .before .before .before .before .before .before .before .before .before .before .before .before .before .before .before .before .before .clear .last .0) (made .last .1 .1 .1 .1 .1 .1 .0) (made .ensures) (c .before .before .before .before .before .before .before .before .before .before .before .before .before .before .before .before .before .before .before .before .before .before .before .before .before .before .before .before .before .before .no-relays .ensures)
-          (c .before .before .before .before .before .before .before .before .before .before .before .before .before .before .before .place-of .result .0) (c .before .before .before .before .before .before .before .before .before .before .before .before .before .place-of2 .result .0)
-          (answered (c .before .before .before .before .before .before .before .before .answer .last .1 .1 .1 .1 .1 .1 .0) (c .before .before .before .before .before .before .before .before .answer .last .1 .1 .1 .1 .1 .1 .1 .0) (routeOutcome (c .before .before .before .before .before .before .before .before .answer .result)))
-          (c .before .before .before .before .before .before .before .before .before .before .before .before .before .before .before .place-of .ensures) (c .before .before .before .before .before .before .before .before .before .before .before .before .before .place-of2 .ensures) (c .before .before .before .before .before .before .before .before .answer .ensures),
+    let atAnswer = c .before .before .before .before .before .before .before .before in
+    let atPlaceOf2 = atAnswer .before .before .before .before .before in
+    let atPlaceOf = atPlaceOf2 .before .before in
+    let atPrepare = atPlaceOf .before .before .before .before .before .before in
+    let atClear = atPrepare .before .before .before .before .before .before in
+    let atNoRelays2 = atClear .before .before in
+    let atNoRelays = atNoRelays2 .before in
+    let start = atNoRelays .before .before .before .before .before .before in
+    let a = start .args in
+    let made = atPrepare .prepare in (
+      answers-tree (a .n) (a .lows .now) (a .highs .now) (a .k) (a .from) (a .to) (a .counts .now) (a .relays .now) (a .scratch .now)
+          (start .pre)
+          (atNoRelays .no-relays .result) (made .last .1 .1 .1 .1 .0) (atNoRelays2 .no-relays2 .result) (made .last .1 .1 .1 .1 .1 .0)
+          (atClear .clear .last .0) (made .last .1 .1 .1 .1 .1 .1 .0) (made .ensures) (atNoRelays .no-relays .ensures)
+          (atPlaceOf .place-of .result .0) (atPlaceOf2 .place-of2 .result .0)
+          (answered (atAnswer .answer .last .1 .1 .1 .1 .1 .1 .0) (atAnswer .answer .last .1 .1 .1 .1 .1 .1 .1 .0) (routeOutcome (atAnswer .answer .result)))
+          (atPlaceOf .place-of .ensures) (atPlaceOf2 .place-of2 .ensures) (atAnswer .answer .ensures),
       zeroed-twice (a .scratch .now) (made .last .1 .1 .1 .1 .1 .1 .0) (c .before .before .clear2 .last .0)
-          (made .kept .1 .1 .1 .1 .1 .1 .0 ∙ c .before .before .before .before .before .before .before .before .before .before .before .before .before .before .before .before .before .before .before .before .before .before .before .before .before .before .before .clear .kept .0) (c .before .before .clear2 .ensures),
+          (made .kept .1 .1 .1 .1 .1 .1 .0 ∙ atClear .clear .kept .0) (c .before .before .clear2 .ensures),
     )
 
 pub route-accepted-spec : {M : Type 1} → statement M

@@ -23,11 +23,18 @@ returns-3 c = simp (le-ltb _ _ (c .before .before .if1 .left), le-ltb _ _ (c .be
 
 returns-4 : tie.Need-returns-4
 unfolding wishCheck outside refuseIf
-returns-4 c = simp (le-ltb _ _ (c .before .before .before .if1 .left), le-ltb _ _ (c .before .before .if2 .left), lt-leb _ _ (c .before .if3 .left), le-leb _ _ (c .if4 .taken))
+returns-4 c =
+    let atIf1 = c .before .before .before in
+    simp
+    (le-ltb _ _ (atIf1 .if1 .left), le-ltb _ _ (c .before .before .if2 .left), lt-leb _ _ (c .before .if3 .left), le-leb _ _ (c .if4 .taken))
 
 returns-5 : tie.Need-returns-5
 unfolding wishCheck outside refuseIf
-returns-5 c = simp (le-ltb _ _ (c .before .before .before .before .if1 .left), le-ltb _ _ (c .before .before .before .if2 .left), lt-leb _ _ (c .before .before .if3 .left), lt-leb _ _ (c .before .if4 .left), eq-eqb _ _ (c .if5 .taken))
+returns-5 c =
+    let atIf2 = c .before .before .before in
+    let atIf1 = atIf2 .before in
+    simp
+    (le-ltb _ _ (atIf1 .if1 .left), le-ltb _ _ (atIf2 .if2 .left), lt-leb _ _ (c .before .before .if3 .left), lt-leb _ _ (c .before .if4 .left), eq-eqb _ _ (c .if5 .taken))
 
 returns-6 : tie.Need-returns-6
 unfolding wishCheck outside refuseIf
@@ -64,7 +71,9 @@ returns-7 c =
     )
 
 mul-if8 : tie.Need-mul-if8
-mul-if8 c = omega (arith, mul-le-mul {n₁ = c .before .before .before .before .before .before .before .args .k} {m₁ = c .before .before .before .before .before .before .before .args .n} {n₂ = 32} {m₂ = 1000} (omega arith) (omega arith))
+mul-if8 c =
+    let start = c .before .before .before .before .before .before .before in
+    omega (arith, mul-le-mul {n₁ = start .args .k} {m₁ = start .args .n} {n₂ = 32} {m₂ = 1000} (omega arith) (omega arith))
 
 returns-8 : tie.Need-returns-8
 unfolding wishCheck outside refuseIf

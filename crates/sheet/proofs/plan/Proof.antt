@@ -23,9 +23,12 @@ enum-known-p c = search needs
 put-refusal-requires : tie.Need-put-refusal-requires
 unfolding planText
 put-refusal-requires c κs =
-    let a = c .before .before .before .before .before .before .args in
+    let atWishLine = c .before .before .before .before in
+    let start = atWishLine .before .before in
+    let a = start .args in
     let bound : length (printed (planned (now (a .input)))) ≤ 4608 = plan-length demand-three (now (a .input)) in
-    let line = fits-as _ _ _ (wish-departed (now (a .input)) _ (sym (c .before .before .before .before .wish-line .ensures) ∙ ap wishGives (c .before .before .p .given .1))) bound in
+    let line = fits-as _ _ _
+    (wish-departed (now (a .input)) _ (sym (atWishLine .wish-line .ensures) ∙ ap wishGives (c .before .before .p .given .1))) bound in
     omega arith
 
 enum-known-from : tie.Need-enum-known-from
@@ -33,13 +36,17 @@ enum-known-from c = search needs
 
 sub-plan-network : tie.Need-sub-plan-network
 sub-plan-network c =
-    let a = c .before .before .before .before .before .before .args in
-    wish-taken (now (a .input)) _ _ _ _ (sym (c .before .before .before .before .wish-line .ensures) ∙ ap wishGives (c .before .before .from .given .1)) .0
+    let atWishLine = c .before .before .before .before in
+    let start = atWishLine .before .before in
+    let a = start .args in
+    wish-taken (now (a .input)) _ _ _ _ (sym (atWishLine .wish-line .ensures) ∙ ap wishGives (c .before .before .from .given .1)) .0
 
 part-plan-network-start : tie.Need-part-plan-network-start
 part-plan-network-start c =
-    let a = c .before .before .before .before .before .before .args in
-    wish-taken (now (a .input)) _ _ _ _ (sym (c .before .before .before .before .wish-line .ensures) ∙ ap wishGives (c .before .before .from .given .1)) .0
+    let atWishLine = c .before .before .before .before in
+    let start = atWishLine .before .before in
+    let a = start .args in
+    wish-taken (now (a .input)) _ _ _ _ (sym (atWishLine .wish-line .ensures) ∙ ap wishGives (c .before .before .from .given .1)) .0
 
 part-plan-network-end : tie.Need-part-plan-network-end
 part-plan-network-end c = search needs
@@ -47,22 +54,32 @@ part-plan-network-end c = search needs
 plan-network-requires : tie.Need-plan-network-requires
 unfolding planText
 plan-network-requires c κs =
-    let a = c .before .before .before .before .before .before .before .args in
+    let atFrom = c .before .before .before in
+    let atWishLine = atFrom .before .before in
+    let start = atWishLine .before .before in
+    let a = start .args in
     let bound : length (printed (planned (now (a .input)))) ≤ 4608 = plan-length demand-three (now (a .input)) in
-    let lines = fits-as _ _ _ (wish-taken (now (a .input)) _ _ _ _ (sym (c .before .before .before .before .before .wish-line .ensures) ∙ ap wishGives (c .before .before .before .from .given .1)) .1) bound in
+    let lines = fits-as _ _ _
+    (wish-taken (now (a .input)) _ _ _ _ (sym (atWishLine .wish-line .ensures) ∙ ap wishGives (atFrom .from .given .1)) .1) bound in
     omega arith
 
 returns : tie.Need-returns
 returns c =
-    let a = c .before .before .before .before .before .before .before .args in
+    let atP = c .before .before .before in
+    let atWishLine = atP .before .before in
+    let start = atWishLine .before .before in
+    let a = start .args in
     plan-put (now (a .input)) _ _ _ (omega (arith, plan-length demand-three (now (a .input))))
-    (put-as _ _ _ _ _ (wish-departed (now (a .input)) _ (sym (c .before .before .before .before .before .wish-line .ensures) ∙ ap wishGives (c .before .before .before .p .given .1))) (c .put-refusal .ensures))
+    (put-as _ _ _ _ _ (wish-departed (now (a .input)) _ (sym (atWishLine .wish-line .ensures) ∙ ap wishGives (atP .p .given .1))) (c .put-refusal .ensures))
 
 returns-2 : tie.Need-returns-2
 returns-2 c =
-    let a = c .before .before .before .before .before .before .before .before .args in
+    let atFrom = c .before .before .before .before in
+    let atWishLine = atFrom .before .before in
+    let start = atWishLine .before .before in
+    let a = start .args in
     plan-put (now (a .input)) _ _ _ (omega (arith, plan-length demand-three (now (a .input))))
-    (put-as _ _ _ _ _ (wish-taken (now (a .input)) _ _ _ _ (sym (c .before .before .before .before .before .before .wish-line .ensures) ∙ ap wishGives (c .before .before .before .before .from .given .1)) .1) (c .plan-network .ensures))
+    (put-as _ _ _ _ _ (wish-taken (now (a .input)) _ _ _ _ (sym (atWishLine .wish-line .ensures) ∙ ap wishGives (atFrom .from .given .1)) .1) (c .plan-network .ensures))
 
 pub plan-spec : {M : Type 1} → statement M
 plan-spec =

@@ -22,8 +22,10 @@ left-requires c κs = tt
 
 returns : tie.Need-returns Inv-loop μ-loop
 returns c =
-    let a = c .before .before .before .before .before .args in
-    sym (c .before .before .before .loop .inv ∙ alive-stop (leftIn (a .table .now) (a .n)) (a .k) (a .t) (c .before .before .before .loop .v) (c .before .left .result)
+    let atLoop = c .before .before .before in
+    let start = atLoop .before .before in
+    let a = start .args in
+    sym (atLoop .loop .inv ∙ alive-stop (leftIn (a .table .now) (a .n)) (a .k) (a .t) (atLoop .loop .v) (c .before .left .result)
     (omega arith) (c .before .left .ensures) (c .if1 .taken))
 
 sub-v : tie.Need-sub-v Inv-loop μ-loop
@@ -34,8 +36,10 @@ loop-less c = omega arith
 
 loop-again : tie.Need-loop-again Inv-loop μ-loop
 loop-again c =
-    let a = c .before .before .before .before .before .args in
-    c .before .before .before .loop .inv ∙ alive-turn (leftIn (a .table .now) (a .n)) (a .k) (a .t) (c .before .before .before .loop .v) (c .before .left .result)
+    let atLoop = c .before .before .before in
+    let start = atLoop .before .before in
+    let a = start .args in
+    atLoop .loop .inv ∙ alive-turn (leftIn (a .table .now) (a .n)) (a .k) (a .t) (atLoop .loop .v) (c .before .left .result)
     (omega arith) (c .before .left .ensures) (c .if1 .left)
 
 returns-2 : tie.Need-returns-2 Inv-loop μ-loop

@@ -19,7 +19,11 @@ same-length-2 c = search needs
 
 returns : tie.Need-returns
 unfolding betweenIn
-returns c = rw (lt-ltb (c .before .before .before .before .before .before .before .before .before .before .before .before .before .before .args .q .0) (c .before .before .before .before .before .before .before .before .before .before .before .before .before .before .args .p .0) (c .before .before .before .before .before .before .before .if1 .taken)) (c .before .before .before .before .fall .ensures)
+returns c =
+    let atFall = c .before .before .before .before in
+    let atIf1 = atFall .before .before .before in
+    let start = atIf1 .before .before .before .before .before .before .before in
+    rw (lt-ltb (start .args .q .0) (start .args .p .0) (atIf1 .if1 .taken)) (atFall .fall .ensures)
 
 same-length-3 : tie.Need-same-length-3
 same-length-3 c = search needs
@@ -29,7 +33,11 @@ same-length-4 c = search needs
 
 returns-2 : tie.Need-returns-2
 unfolding betweenIn
-returns-2 c = rw (le-ltb (c .before .before .before .before .before .before .before .before .before .before .before .before .before .before .args .q .0) (c .before .before .before .before .before .before .before .before .before .before .before .before .before .before .args .p .0) (c .before .before .before .before .before .before .before .if1 .left)) (c .before .before .before .before .rise .ensures)
+returns-2 c =
+    let atRise = c .before .before .before .before in
+    let atIf1 = atRise .before .before .before in
+    let start = atIf1 .before .before .before .before .before .before .before in
+    rw (le-ltb (start .args .q .0) (start .args .p .0) (atIf1 .if1 .left)) (atRise .rise .ensures)
 
 pub between-spec : {M : Type 1} → statement M
 between-spec =

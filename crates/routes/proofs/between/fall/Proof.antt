@@ -37,11 +37,17 @@ same-length-2 c = search needs
 
 returns : tie.Need-returns
 returns c =
-    let a = c .before .before .before .before .before .before .before .before .before .before .before .before .before .before .before .before .before .before .before .before .args in
+    let atWriteRoutes = c .before .before .before .before in
+    let atSweep = atWriteRoutes .before .before .before .before .before .before .before in
+    let atNoPaths2 = atSweep .before .before .before in
+    let atNoPaths = atNoPaths2 .before in
+    let start = atNoPaths .before .before .before .before .before in
+    let a = start .args in
     fell (leftIn (a .table .now) (a .n)) (a .k) (a .s .0) (a .t .0) (a .order .now) (a .counts .now) (a .relays .now)
-    (c .before .before .before .before .write-routes .last .0) (c .before .before .before .before .write-routes .last .1 .0) (c .before .before .before .before .before .before .before .before .before .before .before .before .before .before .before .no-paths .result) (c .before .before .before .before .before .before .before .before .before .before .before .before .before .before .no-paths2 .result)
-    (c .before .before .before .before .before .before .before .before .before .before .before .sweep .last .0) (c .before .before .before .before .before .before .before .before .before .before .before .sweep .last .1 .0) (c .before .before .before .before .write-routes .result)
-    (c .before .before .before .before .before .before .before .before .before .before .before .before .before .before .before .no-paths .ensures) (c .before .before .before .before .before .before .before .before .before .before .before .before .before .before .no-paths2 .ensures) (c .before .before .before .before .before .before .before .before .before .before .before .sweep .ensures) (c .before .before .before .before .write-routes .ensures)
+    (atWriteRoutes .write-routes .last .0) (atWriteRoutes .write-routes .last .1 .0) (atNoPaths .no-paths .result)
+    (atNoPaths2 .no-paths2 .result)
+    (atSweep .sweep .last .0) (atSweep .sweep .last .1 .0) (atWriteRoutes .write-routes .result)
+    (atNoPaths .no-paths .ensures) (atNoPaths2 .no-paths2 .ensures) (atSweep .sweep .ensures) (atWriteRoutes .write-routes .ensures)
 
 pub fall-spec : {M : Type 1} → statement M
 fall-spec =

@@ -13,11 +13,15 @@ alive-requires-2 c κs = search needs
 
 returns : tie.Need-returns
 unfolding joinedIn
-returns c = rw (lt-ltb (c .before .before .before .before .before .args .q .0) (c .before .before .before .before .before .args .p .0) (c .before .if1 .taken)) (c .alive .ensures)
+returns c =
+    let start = c .before .before .before .before .before in
+    rw (lt-ltb (start .args .q .0) (start .args .p .0) (c .before .if1 .taken)) (c .alive .ensures)
 
 returns-2 : tie.Need-returns-2
 unfolding joinedIn
-returns-2 c = rw (le-ltb (c .before .before .before .before .before .args .q .0) (c .before .before .before .before .before .args .p .0) (c .before .if1 .left)) (c .alive2 .ensures)
+returns-2 c =
+    let start = c .before .before .before .before .before in
+    rw (le-ltb (start .args .q .0) (start .args .p .0) (c .before .if1 .left)) (c .alive2 .ensures)
 
 pub joined-spec : {M : Type 1} → statement M
 joined-spec = tie.close (tie.spec alive-requires alive-requires-2 returns returns-2)

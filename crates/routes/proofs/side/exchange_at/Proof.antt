@@ -18,8 +18,11 @@ same-length c = search needs
 returns : tie.Need-returns
 unfolding tradeAt
 returns c =
-    let a = c .before .before .before .before .before .before .before .before .before .args in
-    rw (eq-eqb (endIn (a .side .now) (a .i)) (a .v) (sym (c .before .before .before .before .before .end-of .ensures) ∙ c .before .before .before .before .if1 .taken))
+    let atIf1 = c .before .before .before .before in
+    let atEndOf = atIf1 .before in
+    let start = atEndOf .before .before .before .before in
+    let a = start .args in
+    rw (eq-eqb (endIn (a .side .now) (a .i)) (a .v) (sym (atEndOf .end-of .ensures) ∙ atIf1 .if1 .taken))
     (c .before .before .exchange .ensures)
 
 same-length-2 : tie.Need-same-length-2

@@ -39,10 +39,14 @@ same-length-3 c = search needs
 returns-3 : tie.Need-returns-3
 unfolding advance
 returns-3 c =
-    let a = c .before .before .before .before .before .before .before .before .before .before .args in
+    let atIf2 = c .before .before .before .before in
+    let atIf1 = atIf2 .before in
+    let atEndOf = atIf1 .before in
+    let start = atEndOf .before .before .before .before in
+    let a = start .args in
     rw (
-      eq-eqb (endIn (a .side .now) (a .j)) (a .v) (sym (c .before .before .before .before .before .before .end-of .ensures) ∙ c .before .before .before .before .before .if1 .left),
-      ne-eqb (a .other) (a .v) (c .before .before .before .before .if2 .left),
+      eq-eqb (endIn (a .side .now) (a .j)) (a .v) (sym (atEndOf .end-of .ensures) ∙ atIf1 .if1 .left),
+      ne-eqb (a .other) (a .v) (atIf2 .if2 .left),
     )
     (c .before .before .extend .ensures)
 

@@ -14,7 +14,9 @@ returns c = rw (eq-eqb (c .before .before .args .i) 0 (c .if1 .taken))
 
 returns-2 : tie.Need-returns-2
 unfolding leftIn
-returns-2 c = rw (ne-eqb (c .before .before .before .args .i) 0 (c .before .if1 .left), eq-eqb (c .before .before .before .args .v) 0 (c .if2 .taken))
+returns-2 c =
+    let start = c .before .before .before in
+    rw (ne-eqb (start .args .i) 0 (c .before .if1 .left), eq-eqb (start .args .v) 0 (c .if2 .taken))
 
 returns-3 : tie.Need-returns-3
 unfolding leftIn
@@ -26,13 +28,17 @@ sub-row : tie.Need-sub-row
 sub-row c = search needs
 
 mul-row : tie.Need-mul-row
-mul-row c = omega (arith, mul-le-mul {n₁ = c .before .before .before .before .args .i - 1} {m₁ = c .before .before .before .before .args .n} {n₂ = 65535} {m₂ = 65535} (omega arith) (omega arith))
+mul-row c =
+    let start = c .before .before .before .before in
+    omega (arith, mul-le-mul {n₁ = start .args .i - 1} {m₁ = start .args .n} {n₂ = 65535} {m₂ = 65535} (omega arith) (omega arith))
 
 sub-get : tie.Need-sub-get
 sub-get c = search needs
 
 add-get : tie.Need-add-get
-add-get c = omega (arith, mul-le-mul {n₁ = c .before .before .before .before .args .i - 1} {m₁ = c .before .before .before .before .args .n} {n₂ = 65535} {m₂ = 65535} (omega arith) (omega arith))
+add-get c =
+    let start = c .before .before .before .before in
+    omega (arith, mul-le-mul {n₁ = start .args .i - 1} {m₁ = start .args .n} {n₂ = 65535} {m₂ = 65535} (omega arith) (omega arith))
 
 get-requires : tie.Need-get-requires
 get-requires c κs = search needs
@@ -40,8 +46,10 @@ get-requires c κs = search needs
 returns-4 : tie.Need-returns-4
 unfolding leftIn
 returns-4 c =
-    let a = c .before .before .before .before .before .args in
-    rw (ne-eqb (a .i) 0 (c .before .before .before .if1 .left), ne-eqb (a .v) 0 (c .before .before .if2 .left), le-ltb (a .n) (a .v) (c .before .if3 .left))
+    let atIf1 = c .before .before .before in
+    let start = atIf1 .before .before in
+    let a = start .args in
+    rw (ne-eqb (a .i) 0 (atIf1 .if1 .left), ne-eqb (a .v) 0 (c .before .before .if2 .left), le-ltb (a .n) (a .v) (c .before .if3 .left))
     (c .get .ensures)
 
 pub left-spec : {M : Type 1} → statement M

@@ -32,12 +32,14 @@ loop-less c = omega arith
 
 loop-again : tie.Need-loop-again Inv-loop μ-loop
 loop-again c =
-    let a = c .before .before .before .before .before .before .before .before .args in
+    let atLoop = c .before .before .before .before .before in
+    let start = atLoop .before .before .before in
+    let a = start .args in
     let L = leftIn (a .table .now) (a .n) in (
-      c .before .before .exchange-at .kept .0 ∙ c .before .before .before .before .before .loop .inv .0,
-      c .before .before .before .before .before .loop .inv .1
-          ∙ trade-turn L (a .v) (a .j) (c .before .before .before .before .before .loop .i) (c .before .before .before .before .before .loop .side) (omega arith)
-          ∙ ap (tradeFrom L (a .v) (a .j) (c .before .before .before .before .before .loop .i - 1)) (sym (c .before .before .exchange-at .ensures)),
+      c .before .before .exchange-at .kept .0 ∙ atLoop .loop .inv .0,
+      atLoop .loop .inv .1
+          ∙ trade-turn L (a .v) (a .j) (atLoop .loop .i) (atLoop .loop .side) (omega arith)
+          ∙ ap (tradeFrom L (a .v) (a .j) (atLoop .loop .i - 1)) (sym (c .before .before .exchange-at .ensures)),
     )
 
 same-length : tie.Need-same-length Inv-loop μ-loop
@@ -45,9 +47,11 @@ same-length c = c .before .loop .inv .0
 
 returns : tie.Need-returns Inv-loop μ-loop
 returns c =
-    let a = c .before .before .before .before .args in
+    let start = c .before .before .before .before in
+    let a = start .args in
     let L = leftIn (a .table .now) (a .n) in
-    sym (rw (← sub-one (a .j)) (c .before .loop .inv .1 ∙ trade-end L (a .v) (a .j) (c .before .loop .i) (c .before .loop .side) (omega arith)))
+    sym
+    (rw (← sub-one (a .j)) (c .before .loop .inv .1 ∙ trade-end L (a .v) (a .j) (c .before .loop .i) (c .before .loop .side) (omega arith)))
 
 pub make-room-spec : {M : Type 1} → statement M
 make-room-spec =

@@ -65,11 +65,14 @@ loop-less c = omega arith
 loop-again : tie.Need-loop-again Inv-loop μ-loop
 unfolding highestIn
 loop-again c =
-    let a = c .before .before .before .before .before .before .before .before .args in
-    let i = c .before .before .before .before .before .loop .i in
-    c .before .before .before .before .before .loop .inv ∙ highest-turn (ends (a .a .now) (a .b .now) (a .v)) i (omega arith)
+    let atEndOf = c .before .before .before in
+    let atLoop = atEndOf .before .before in
+    let start = atLoop .before .before .before in
+    let a = start .args in
+    let i = atLoop .loop .i in
+    atLoop .loop .inv ∙ highest-turn (ends (a .a .now) (a .b .now) (a .v)) i (omega arith)
     (none-ends (a .a .now) (a .b .now) (a .v) i
-    (λ e. c .before .before .if1 .left (c .before .before .before .end-of .ensures ∙ e)) (λ e. c .if2 .left (c .before .end-of2 .ensures ∙ e)))
+    (λ e. c .before .before .if1 .left (atEndOf .end-of .ensures ∙ e)) (λ e. c .if2 .left (c .before .end-of2 .ensures ∙ e)))
 
 returns-3 : tie.Need-returns-3 Inv-loop μ-loop
 unfolding highestIn

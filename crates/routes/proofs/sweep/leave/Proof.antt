@@ -29,12 +29,14 @@ loop-less c = omega arith
 
 loop-again : tie.Need-loop-again Inv-loop μ-loop
 loop-again c =
-    let a = c .before .before .before .before .before .before .before .before .before .args in
+    let atLoop = c .before .before .before .before .before in
+    let start = atLoop .before .before .before .before in
+    let a = start .args in
     let L = leftIn (a .table .now) (a .n) in (
-      c .before .before .leave-at .kept .0 ∙ c .before .before .before .before .before .loop .inv .0,
-      c .before .before .before .before .before .loop .inv .1
-          ∙ leave-turn L (a .t) (a .a .now) (c .before .before .before .before .before .loop .i) (c .before .before .before .before .before .loop .b) (omega arith)
-          ∙ ap (leaveFrom L (a .t) (a .a .now) (c .before .before .before .before .before .loop .i - 1)) (sym (c .before .before .leave-at .ensures)),
+      c .before .before .leave-at .kept .0 ∙ atLoop .loop .inv .0,
+      atLoop .loop .inv .1
+          ∙ leave-turn L (a .t) (a .a .now) (atLoop .loop .i) (atLoop .loop .b) (omega arith)
+          ∙ ap (leaveFrom L (a .t) (a .a .now) (atLoop .loop .i - 1)) (sym (c .before .before .leave-at .ensures)),
     )
 
 same-length : tie.Need-same-length Inv-loop μ-loop

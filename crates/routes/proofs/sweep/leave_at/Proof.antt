@@ -22,8 +22,12 @@ same-length c = search needs
 returns : tie.Need-returns
 unfolding leaveAt
 returns c =
-    let a = c .before .before .before .before .before .before .before .before .before .before .args in
-    rw (ne-eqb (endIn (a .a .now) (a .i)) (a .t) (λ e. c .before .before .before .before .before .if1 .taken (c .before .before .before .before .before .before .end-of .ensures ∙ e)), ← c .before .before .before .before .left .ensures)
+    let atLeft = c .before .before .before .before in
+    let atIf1 = atLeft .before in
+    let atEndOf = atIf1 .before in
+    let start = atEndOf .before .before .before .before in
+    let a = start .args in
+    rw (ne-eqb (endIn (a .a .now) (a .i)) (a .t) (λ e. atIf1 .if1 .taken (atEndOf .end-of .ensures ∙ e)), ← atLeft .left .ensures)
     (c .before .before .set-path .ensures)
 
 returns-2 : tie.Need-returns-2

@@ -31,10 +31,16 @@ same-length-2 c = search needs
 
 returns : tie.Need-returns
 returns c =
-    let a = c .before .before .before .before .before .before .before .before .before .before .before .before .before .before .before .before .before .before .before .before .before .before .before .args in
+    let atGoOn = c .before .before .before .before .before .before in
+    let atEndOf2 = atGoOn .before .before in
+    let atEndOf = atEndOf2 .before .before in
+    let atMakeRoom2 = atEndOf .before .before .before .before in
+    let atMakeRoom = atMakeRoom2 .before .before .before .before in
+    let start = atMakeRoom .before .before .before .before .before in
+    let a = start .args in
     passed (leftIn (a .table .now) (a .n)) (a .v) (a .j) (a .a .now) (a .b .now) _ _ _ _ _ _
-    (c .before .before .before .before .before .before .before .before .before .before .before .before .before .before .before .before .before .before .make-room .ensures) (c .before .before .before .before .before .before .before .before .before .before .before .before .before .before .make-room2 .ensures) (c .before .before .before .before .before .before .before .before .before .before .end-of .ensures) (c .before .before .before .before .before .before .before .before .end-of2 .ensures)
-    (c .before .before .before .before .before .before .go-on .ensures) (c .before .before .go-on2 .ensures)
+    (atMakeRoom .make-room .ensures) (atMakeRoom2 .make-room2 .ensures) (atEndOf .end-of .ensures) (atEndOf2 .end-of2 .ensures)
+    (atGoOn .go-on .ensures) (c .before .before .go-on2 .ensures)
 
 pub pass-spec : {M : Type 1} → statement M
 pass-spec =

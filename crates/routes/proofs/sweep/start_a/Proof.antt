@@ -32,14 +32,17 @@ loop-less c = omega arith
 
 loop-again : tie.Need-loop-again Inv-loop μ-loop
 loop-again c =
-    let a = c .before .before .before .before .before .before .before .before .before .args in
+    let atLeft = c .before .before .before .before in
+    let atLoop = atLeft .before .before in
+    let start = atLoop .before .before .before in
+    let a = start .args in
     let L = leftIn (a .table .now) (a .n) in
-    let i = c .before .before .before .before .before .before .loop .i in (
-      c .before .before .set-path .kept .0 ∙ c .before .before .before .before .before .before .loop .inv .0,
-      c .before .before .before .before .before .before .loop .inv .1
-          ∙ start-a-turn L (a .s) i (c .before .before .before .before .before .before .loop .a) (omega arith)
+    let i = atLoop .loop .i in (
+      c .before .before .set-path .kept .0 ∙ atLoop .loop .inv .0,
+      atLoop .loop .inv .1
+          ∙ start-a-turn L (a .s) i (atLoop .loop .a) (omega arith)
           ∙ ap (startA L (a .s) (i - 1))
-          (ap (λ x. setPath (c .before .before .before .before .before .before .loop .a) i x (a .s)) (sym (c .before .before .before .before .left .ensures)) ∙ sym (c .before .before .set-path .ensures)),
+          (ap (λ x. setPath (atLoop .loop .a) i x (a .s)) (sym (atLeft .left .ensures)) ∙ sym (c .before .before .set-path .ensures)),
     )
 
 same-length : tie.Need-same-length Inv-loop μ-loop

@@ -28,11 +28,13 @@ loop-less c = omega arith
 
 loop-again : tie.Need-loop-again Inv-loop μ-loop
 loop-again c =
-    let a = c .before .before .before .before .before .before .before .args in (
-      c .before .before .set-path .kept .0 ∙ c .before .before .before .before .before .loop .inv .0,
-      c .before .before .before .before .before .loop .inv .1
-          ∙ start-b-turn (a .t) (c .before .before .before .before .before .loop .i) (c .before .before .before .before .before .loop .b) (omega arith)
-          ∙ ap (startB (a .t) (c .before .before .before .before .before .loop .i - 1)) (sym (c .before .before .set-path .ensures)),
+    let atLoop = c .before .before .before .before .before in
+    let start = atLoop .before .before in
+    let a = start .args in (
+      c .before .before .set-path .kept .0 ∙ atLoop .loop .inv .0,
+      atLoop .loop .inv .1
+          ∙ start-b-turn (a .t) (atLoop .loop .i) (atLoop .loop .b) (omega arith)
+          ∙ ap (startB (a .t) (atLoop .loop .i - 1)) (sym (c .before .before .set-path .ensures)),
     )
 
 same-length : tie.Need-same-length Inv-loop μ-loop

@@ -46,10 +46,15 @@ same-length-6 c = search needs
 
 returns-3 : tie.Need-returns-3
 returns-3 c =
-    let a = c .before .before .before .before .before .before .before .before .before .before .before .before .before .before .before .args in
-    stepped-pass (leftIn (a .table .now) (a .n)) (a .k) (a .t) (a .v) (c .before .before .before .before .before .before .before .before .highest .result) (a .a .now) (a .b .now)
-    (c .before .before .before .before .pass .last .0) (c .before .before .before .before .pass .last .1 .0)
-    (c .before .before .before .before .before .before .before .before .before .before .before .if1 .left) (c .before .before .before .before .before .before .before .before .highest .ensures) (c .before .before .before .before .before .before .before .if2 .left) (c .before .before .before .before .pass .ensures)
+    let atPass = c .before .before .before .before in
+    let atIf2 = atPass .before .before .before in
+    let atHighest = atIf2 .before in
+    let atIf1 = atHighest .before .before .before in
+    let start = atIf1 .before .before .before .before in
+    let a = start .args in
+    stepped-pass (leftIn (a .table .now) (a .n)) (a .k) (a .t) (a .v) (atHighest .highest .result) (a .a .now) (a .b .now)
+    (atPass .pass .last .0) (atPass .pass .last .1 .0)
+    (atIf1 .if1 .left) (atHighest .highest .ensures) (atIf2 .if2 .left) (atPass .pass .ensures)
 
 pub step-spec : {M : Type 1} → statement M
 step-spec =

@@ -30,11 +30,14 @@ loop-less c = omega arith
 
 loop-again : tie.Need-loop-again Inv-loop μ-loop
 loop-again c =
-    let a = c .before .before .before .before .before .before .before .before .before .before .before .before .args in (
-      c .before .before .before .before .step .kept .0 ∙ c .before .before .before .before .before .before .before .before .loop .inv .0,
-      c .before .before .before .before .step .kept .1 .0 ∙ c .before .before .before .before .before .before .before .before .loop .inv .1,
-      c .before .before .before .before .before .before .before .before .loop .inv .2 ∙ sweep-turn (leftIn (a .table .now) (a .n)) (a .k) (a .t) (c .before .before .before .before .before .before .before .before .loop .v) (c .before .before .before .before .before .before .before .before .loop .a) (c .before .before .before .before .before .before .before .before .loop .b)
-          (c .before .before .before .before .step .last .0) (c .before .before .before .before .step .last .1 .0) (omega arith) (c .before .before .before .before .step .ensures),
+    let atStep = c .before .before .before .before in
+    let atLoop = atStep .before .before .before .before in
+    let start = atLoop .before .before .before .before in
+    let a = start .args in (
+      atStep .step .kept .0 ∙ atLoop .loop .inv .0,
+      atStep .step .kept .1 .0 ∙ atLoop .loop .inv .1,
+      atLoop .loop .inv .2 ∙ sweep-turn (leftIn (a .table .now) (a .n)) (a .k) (a .t) (atLoop .loop .v) (atLoop .loop .a) (atLoop .loop .b)
+          (atStep .step .last .0) (atStep .step .last .1 .0) (omega arith) (atStep .step .ensures),
     )
 
 same-length : tie.Need-same-length Inv-loop μ-loop

@@ -25,9 +25,13 @@ same-length-2 c = search needs
 
 returns : tie.Need-returns
 returns c =
-    let a = c .before .before .before .before .before .before .before .before .before .before .before .before .before .before .before .before .before .before .args in
+    let atSteps = c .before .before .before .before in
+    let atStartB = atSteps .before .before .before .before .before in
+    let atStartA = atStartB .before .before .before .before in
+    let start = atStartA .before .before .before .before .before in
+    let a = start .args in
     swept (leftIn (a .table .now) (a .n)) (a .k) (a .s) (a .t) (a .a .now) (a .b .now) _ _ _ _
-    (c .before .before .before .before .before .before .before .before .before .before .before .before .before .start-a .ensures) (c .before .before .before .before .before .before .before .before .before .start-b .ensures) (c .before .before .before .before .steps .ensures)
+    (atStartA .start-a .ensures) (atStartB .start-b .ensures) (atSteps .steps .ensures)
 
 pub sweep-spec : {M : Type 1} → statement M
 sweep-spec =

@@ -21,7 +21,11 @@ loop-holds : tie.Need-loop-holds Inv-loop μ-loop
 loop-holds c = (omega arith, sym (zero-add _))
 
 returns : tie.Need-returns Inv-loop μ-loop
-returns c = count-stops (c .before .before .before .before .before .args .side .now) (c .before .before .before .before .before .args .i) (c .before .before .before .second-of .result) (c .before .before .loop .x) (c .before .before .loop .c) (c .before .before .before .second-of .ensures) (c .before .before .loop .inv .1) (c .if1 .taken)
+returns c =
+    let atSecondOf = c .before .before .before in
+    let start = atSecondOf .before .before in
+    count-stops (start .args .side .now) (start .args .i) (atSecondOf .second-of .result) (c .before .before .loop .x)
+    (c .before .before .loop .c) (atSecondOf .second-of .ensures) (c .before .before .loop .inv .1) (c .if1 .taken)
 
 prior-of-requires : tie.Need-prior-of-requires Inv-loop μ-loop
 prior-of-requires c κs = tt
@@ -33,15 +37,18 @@ loop-less : tie.Need-loop-less Inv-loop μ-loop
 loop-less c = omega arith
 
 loop-again : tie.Need-loop-again Inv-loop μ-loop
-loop-again c = (
-  omega arith,
-  count-turn (c .before .before .before .before .before .before .args .side .now) _ (c .before .before .before .loop .x) (c .prior-of .result) (c .before .before .before .loop .c) (omega arith) (c .before .if1 .left)
-      (c .prior-of .ensures) (c .before .before .before .loop .inv .1),
-)
+loop-again c =
+    let atLoop = c .before .before .before in
+    let start = atLoop .before .before .before in (
+      omega arith,
+      count-turn (start .args .side .now) _ (atLoop .loop .x) (c .prior-of .result) (atLoop .loop .c) (omega arith) (c .before .if1 .left)
+          (c .prior-of .ensures) (atLoop .loop .inv .1),
+    )
 
 returns-2 : tie.Need-returns-2 Inv-loop μ-loop
 returns-2 c =
-    count-full (c .before .before .before .before .args .side .now) (c .before .before .before .before .args .i) (c .before .before .second-of .result) (c .before .loop .x) (c .before .loop .c)
+    let start = c .before .before .before .before in
+    count-full (start .args .side .now) (start .args .i) (c .before .before .second-of .result) (c .before .loop .x) (c .before .loop .c)
     (c .before .before .second-of .ensures) (c .before .loop .inv .1) (omega arith) (omega arith)
 
 pub count-spec : {M : Type 1} → statement M

@@ -42,13 +42,17 @@ loop-less c = omega arith
 
 loop-again : tie.Need-loop-again Inv-loop μ-loop
 loop-again c =
-    let a = c .before .before .before .before .before .before .before .before .before .before .before .before .args in (
-      c .before .before .before .put .kept .0 ∙ c .before .before .before .before .before .before .before .loop .inv .0,
+    let atPut = c .before .before .before in
+    let atRelayAt = atPut .before in
+    let atLoop = atRelayAt .before .before .before in
+    let start = atLoop .before .before .before .before .before in
+    let a = start .args in (
+      atPut .put .kept .0 ∙ atLoop .loop .inv .0,
       omega arith,
-      c .before .before .before .before .before .before .before .loop .inv .2
-          ∙ down-turn (a .side .now) (a .order .now) (a .from) (c .before .before .before .before .before .before .before .loop .c) (c .before .before .before .before .before .before .before .loop .x) (c .prior-of .result)
-          (c .before .before .before .before .relay-at .result .0) (c .before .before .before .before .before .before .before .loop .relays) (c .before .before .before .put .last .0)
-          (omega arith) (c .before .before .before .before .relay-at .ensures) (c .before .before .before .put .ensures) (c .prior-of .ensures),
+      atLoop .loop .inv .2
+          ∙ down-turn (a .side .now) (a .order .now) (a .from) (atLoop .loop .c) (atLoop .loop .x) (c .prior-of .result)
+          (atRelayAt .relay-at .result .0) (atLoop .loop .relays) (atPut .put .last .0)
+          (omega arith) (atRelayAt .relay-at .ensures) (atPut .put .ensures) (c .prior-of .ensures),
     )
 
 same-length : tie.Need-same-length Inv-loop μ-loop
@@ -56,7 +60,8 @@ same-length c = c .before .loop .inv .0
 
 returns : tie.Need-returns Inv-loop μ-loop
 returns c =
-    let a = c .before .before .before .before .before .before .args in
+    let start = c .before .before .before .before .before .before in
+    let a = start .args in
     rw (← c .before .before .second-of .ensures)
     (sym (c .before .loop .inv .2 ∙ down-end (a .side .now) (a .order .now) (a .from) (c .before .loop .c) (c .before .loop .x) (c .before .loop .relays) (omega arith)))
 

@@ -15,10 +15,16 @@ end-of-requires : tie.Need-end-of-requires
 end-of-requires c κs = search needs
 
 write-down-requires : tie.Need-write-down-requires
-write-down-requires c κs = omega (arith, counted (c .before .before .before .before .before .before .before .before .args .first .now) (c .before .before .before .before .before .before .before .before .args .i) (c .before .before .before .count .result) (c .before .before .before .count .ensures), c .before .before .before .before .before .before .before .before .pre)
+write-down-requires c κs =
+    let atCount = c .before .before .before in
+    let start = atCount .before .before .before .before .before in
+    omega (arith, counted (start .args .first .now) (start .args .i) (atCount .count .result) (atCount .count .ensures), start .pre)
 
 add-put : tie.Need-add-put
-add-put c = omega (arith, counted (c .before .before .before .before .before .before .before .before .before .before .before .before .args .first .now) (c .before .before .before .before .before .before .before .before .before .before .before .before .args .i) (c .before .before .before .before .before .before .before .count .result) (c .before .before .before .before .before .before .before .count .ensures), c .before .before .before .before .before .before .before .before .before .before .before .before .pre)
+add-put c =
+    let atCount = c .before .before .before .before .before .before .before in
+    let start = atCount .before .before .before .before .before in
+    omega (arith, counted (start .args .first .now) (start .args .i) (atCount .count .result) (atCount .count .ensures), start .pre)
 
 relay-at-requires : tie.Need-relay-at-requires
 relay-at-requires c κs = search needs
@@ -27,33 +33,48 @@ put-requires : tie.Need-put-requires
 put-requires c κs = search needs
 
 add-write-up : tie.Need-add-write-up
-add-write-up c = omega (arith, counted (c .before .before .before .before .before .before .before .before .before .before .before .before .before .before .before .before .before .args .first .now) (c .before .before .before .before .before .before .before .before .before .before .before .before .before .before .before .before .before .args .i) (c .before .before .before .before .before .before .before .before .before .before .before .before .count .result) (c .before .before .before .before .before .before .before .before .before .before .before .before .count .ensures), c .before .before .before .before .before .before .before .before .before .before .before .before .before .before .before .before .before .pre)
+add-write-up c =
+    let atCount = c .before .before .before .before .before .before .before .before .before .before .before .before in
+    let start = atCount .before .before .before .before .before in
+    omega (arith, counted (start .args .first .now) (start .args .i) (atCount .count .result) (atCount .count .ensures), start .pre)
 
 add-write-up-2 : tie.Need-add-write-up-2
-add-write-up-2 c = omega (arith, counted (c .before .before .before .before .before .before .before .before .before .before .before .before .before .before .before .before .before .args .first .now) (c .before .before .before .before .before .before .before .before .before .before .before .before .before .before .before .before .before .args .i) (c .before .before .before .before .before .before .before .before .before .before .before .before .count .result) (c .before .before .before .before .before .before .before .before .before .before .before .before .count .ensures), c .before .before .before .before .before .before .before .before .before .before .before .before .before .before .before .before .before .pre)
+add-write-up-2 c =
+    let atCount = c .before .before .before .before .before .before .before .before .before .before .before .before in
+    let start = atCount .before .before .before .before .before in
+    omega (arith, counted (start .args .first .now) (start .args .i) (atCount .count .result) (atCount .count .ensures), start .pre)
 
 write-up-requires : tie.Need-write-up-requires
 write-up-requires c κs =
-    let a = c .before .before .before .before .before .before .before .before .before .before .before .before .before .before .before .before .before .args in
+    let atCount2 = c .before .before .before .before .before .before .before .before .before .before .before in
+    let atCount = atCount2 .before in
+    let start = atCount .before .before .before .before .before in
+    let a = start .args in
     omega (
       arith,
-      counted (a .first .now) (a .i) (c .before .before .before .before .before .before .before .before .before .before .before .before .count .result) (c .before .before .before .before .before .before .before .before .before .before .before .before .count .ensures),
-      counted (a .second .now) (a .i) (c .before .before .before .before .before .before .before .before .before .before .before .count2 .result) (c .before .before .before .before .before .before .before .before .before .before .before .count2 .ensures),
-      c .before .before .before .before .before .before .before .before .before .before .before .before .before .before .before .before .before .pre,
+      counted (a .first .now) (a .i) (atCount .count .result) (atCount .count .ensures),
+      counted (a .second .now) (a .i) (atCount2 .count2 .result) (atCount2 .count2 .ensures),
+      start .pre,
     )
 
 add-result : tie.Need-add-result
 add-result c =
-    let a = c .before .before .before .before .before .before .before .before .before .before .before .before .before .before .before .before .before .before .before .before .args in
-    omega (arith, counted (a .first .now) (a .i) (c .before .before .before .before .before .before .before .before .before .before .before .before .before .before .before .count .result) (c .before .before .before .before .before .before .before .before .before .before .before .before .before .before .before .count .ensures))
+    let atCount = c .before .before .before .before .before .before .before .before .before .before .before .before .before .before .before
+    in
+    let start = atCount .before .before .before .before .before in
+    let a = start .args in
+    omega (arith, counted (a .first .now) (a .i) (atCount .count .result) (atCount .count .ensures))
 
 add-result-2 : tie.Need-add-result-2
 add-result-2 c =
-    let a = c .before .before .before .before .before .before .before .before .before .before .before .before .before .before .before .before .before .before .before .before .args in
+    let atCount2 = c .before .before .before .before .before .before .before .before .before .before .before .before .before .before in
+    let atCount = atCount2 .before in
+    let start = atCount .before .before .before .before .before in
+    let a = start .args in
     omega (
       arith,
-      counted (a .first .now) (a .i) (c .before .before .before .before .before .before .before .before .before .before .before .before .before .before .before .count .result) (c .before .before .before .before .before .before .before .before .before .before .before .before .before .before .before .count .ensures),
-      counted (a .second .now) (a .i) (c .before .before .before .before .before .before .before .before .before .before .before .before .before .before .count2 .result) (c .before .before .before .before .before .before .before .before .before .before .before .before .before .before .count2 .ensures),
+      counted (a .first .now) (a .i) (atCount .count .result) (atCount .count .ensures),
+      counted (a .second .now) (a .i) (atCount2 .count2 .result) (atCount2 .count2 .ensures),
     )
 
 same-length : tie.Need-same-length
@@ -61,13 +82,21 @@ same-length c = search needs
 
 returns : tie.Need-returns
 returns c =
-    let a = c .before .before .before .before .before .before .before .before .before .before .before .before .before .before .before .before .before .before .before .before .args in (
-      route-length (a .first .now) (a .second .now) (a .i) (c .before .before .before .before .before .before .before .before .before .before .before .before .before .before .before .count .result) (c .before .before .before .before .before .before .before .before .before .before .before .before .before .before .count2 .result)
-          (c .before .before .before .before .before .before .before .before .before .before .before .before .before .before .before .count .ensures) (c .before .before .before .before .before .before .before .before .before .before .before .before .before .before .count2 .ensures),
-      route-written (a .first .now) (a .second .now) (a .order .now) (a .i) (a .from) (c .before .before .before .before .before .before .before .before .before .before .before .before .before .before .before .count .result) (c .before .before .before .before .before .before .before .before .before .before .before .before .before .before .count2 .result)
-          (c .before .before .before .before .before .before .before .before .before .before .before .before .before .end-of .result) (c .before .before .before .before .before .before .before .relay-at .result .0) (a .relays .now) (c .before .before .before .before .before .before .before .before .before .before .before .write-down .last .0) (c .before .before .before .before .before .before .put .last .0) (c .before .before .write-up .last .0)
-          (c .before .before .before .before .before .before .before .before .before .before .before .before .before .before .before .count .ensures) (c .before .before .before .before .before .before .before .before .before .before .before .before .before .before .count2 .ensures) (c .before .before .before .before .before .before .before .before .before .before .before .before .before .end-of .ensures) (c .before .before .before .before .before .before .before .relay-at .ensures)
-          (c .before .before .before .before .before .before .before .before .before .before .before .write-down .ensures) (c .before .before .before .before .before .before .put .ensures) (c .before .before .write-up .ensures),
+    let atPut = c .before .before .before .before .before .before in
+    let atRelayAt = atPut .before in
+    let atWriteDown = atRelayAt .before .before .before .before in
+    let atEndOf = atWriteDown .before .before in
+    let atCount2 = atEndOf .before in
+    let atCount = atCount2 .before in
+    let start = atCount .before .before .before .before .before in
+    let a = start .args in (
+      route-length (a .first .now) (a .second .now) (a .i) (atCount .count .result) (atCount2 .count2 .result)
+          (atCount .count .ensures) (atCount2 .count2 .ensures),
+      route-written (a .first .now) (a .second .now) (a .order .now) (a .i) (a .from) (atCount .count .result) (atCount2 .count2 .result)
+          (atEndOf .end-of .result) (atRelayAt .relay-at .result .0) (a .relays .now) (atWriteDown .write-down .last .0)
+          (atPut .put .last .0) (c .before .before .write-up .last .0)
+          (atCount .count .ensures) (atCount2 .count2 .ensures) (atEndOf .end-of .ensures) (atRelayAt .relay-at .ensures)
+          (atWriteDown .write-down .ensures) (atPut .put .ensures) (c .before .before .write-up .ensures),
     )
 
 pub write-route-spec : {M : Type 1} → statement M

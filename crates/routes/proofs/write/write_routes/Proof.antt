@@ -33,19 +33,27 @@ cast-put c = omega arith
 
 cast-put-2 : tie.Need-cast-put-2 Inv-loop μ-loop
 cast-put-2 c =
-    let a = c .before .before .before .before .before .before .before .before .before .before .before .before .args in
-    omega (arith, route-bound (a .first .now) (a .second .now) (c .before .before .before .before .before .before .loop .i + 1) (c .before .before .before .write-route .result) (c .before .before .before .write-route .ensures .0))
+    let atWriteRoute = c .before .before .before in
+    let atLoop = atWriteRoute .before .before .before in
+    let start = atLoop .before .before .before .before .before .before in
+    let a = start .args in
+    omega
+    (arith, route-bound (a .first .now) (a .second .now) (atLoop .loop .i + 1) (atWriteRoute .write-route .result) (atWriteRoute .write-route .ensures .0))
 
 put-requires : tie.Need-put-requires Inv-loop μ-loop
 put-requires c κs = tt
 
 add-from : tie.Need-add-from Inv-loop μ-loop
 add-from c =
-    let a = c .before .before .before .before .before .before .before .before .before .before .before .before .before .before .before .args in
+    let atWriteRoute = c .before .before .before .before .before .before in
+    let atLoop = atWriteRoute .before .before .before in
+    let start = atLoop .before .before .before .before .before .before in
+    let a = start .args in
     omega (
       arith,
-      route-bound (a .first .now) (a .second .now) (c .before .before .before .before .before .before .before .before .before .loop .i + 1) (c .before .before .before .before .before .before .write-route .result) (c .before .before .before .before .before .before .write-route .ensures .0),
-      c .before .before .before .before .before .before .before .before .before .loop .inv,
+      route-bound (a .first .now) (a .second .now) (atLoop .loop .i + 1) (atWriteRoute .write-route .result)
+          (atWriteRoute .write-route .ensures .0),
+      atLoop .loop .inv,
     )
 
 add-i : tie.Need-add-i Inv-loop μ-loop
@@ -56,18 +64,23 @@ loop-less c = omega arith
 
 loop-again : tie.Need-loop-again Inv-loop μ-loop
 loop-again c =
-    let a = c .before .before .before .before .before .before .before .before .before .before .before .before .before .before .before .args in (
-      c .before .before .put .kept .0 ∙ c .before .before .before .before .before .before .before .before .before .loop .inv .0,
-      c .before .before .before .before .before .before .write-route .kept .0 ∙ c .before .before .before .before .before .before .before .before .before .loop .inv .1,
+    let atWriteRoute = c .before .before .before .before .before .before in
+    let atLoop = atWriteRoute .before .before .before in
+    let start = atLoop .before .before .before .before .before .before in
+    let a = start .args in (
+      c .before .before .put .kept .0 ∙ atLoop .loop .inv .0,
+      atWriteRoute .write-route .kept .0 ∙ atLoop .loop .inv .1,
       omega arith,
       omega (
         arith,
-        route-bound (a .first .now) (a .second .now) (c .before .before .before .before .before .before .before .before .before .loop .i + 1) (c .before .before .before .before .before .before .write-route .result) (c .before .before .before .before .before .before .write-route .ensures .0),
-        c .before .before .before .before .before .before .before .before .before .loop .inv,
+        route-bound (a .first .now) (a .second .now) (atLoop .loop .i + 1) (atWriteRoute .write-route .result)
+            (atWriteRoute .write-route .ensures .0),
+        atLoop .loop .inv,
       ),
-      c .before .before .before .before .before .before .before .before .before .loop .inv .4 ∙ routes-turn (a .first .now) (a .second .now) (a .order .now) (a .k) (c .before .before .before .before .before .before .before .before .before .loop .i) (c .before .before .before .before .before .before .before .before .before .loop .from)
-          (c .before .before .before .before .before .before .write-route .result) (c .before .before .before .before .before .before .before .before .before .loop .counts) (c .before .before .put .last .0) (c .before .before .before .before .before .before .before .before .before .loop .relays) (c .before .before .before .before .before .before .write-route .last .0)
-          (omega arith) (c .before .before .before .before .before .before .write-route .ensures .0) (c .before .before .put .ensures) (c .before .before .before .before .before .before .write-route .ensures .1),
+      atLoop .loop .inv .4 ∙ routes-turn (a .first .now) (a .second .now) (a .order .now) (a .k) (atLoop .loop .i) (atLoop .loop .from)
+          (atWriteRoute .write-route .result) (atLoop .loop .counts) (c .before .before .put .last .0) (atLoop .loop .relays)
+          (atWriteRoute .write-route .last .0)
+          (omega arith) (atWriteRoute .write-route .ensures .0) (c .before .before .put .ensures) (atWriteRoute .write-route .ensures .1),
     )
 
 same-length : tie.Need-same-length Inv-loop μ-loop
@@ -78,8 +91,10 @@ same-length-2 c = c .before .loop .inv .1
 
 returns : tie.Need-returns Inv-loop μ-loop
 returns c =
-    let a = c .before .before .before .before .before .before .before .args in
-    sym (c .before .loop .inv .4 ∙ routes-end (a .first .now) (a .second .now) (a .order .now) (a .k) (c .before .loop .i) (c .before .loop .from)
+    let start = c .before .before .before .before .before .before .before in
+    let a = start .args in
+    sym
+    (c .before .loop .inv .4 ∙ routes-end (a .first .now) (a .second .now) (a .order .now) (a .k) (c .before .loop .i) (c .before .loop .from)
     (c .before .loop .counts) (c .before .loop .relays) (omega arith))
 
 pub write-routes-spec : {M : Type 1} → statement M

@@ -25,8 +25,10 @@ same-length c = search needs
 
 returns : tie.Need-returns
 returns c =
-    rw (kept-written (c .before .before .before .before .before .before .before .before .before .before .before .args .kept))
-    (put-append _ _ _ _ _ _ _ _ (c .before .before .before .before .before .before .before .put-word-number .ensures) (c .before .before .put-word .ensures))
+    let atPutWordNumber = c .before .before .before .before .before .before .before in
+    let start = atPutWordNumber .before .before .before .before in
+    rw (kept-written (start .args .kept))
+    (put-append _ _ _ _ _ _ _ _ (atPutWordNumber .put-word-number .ensures) (c .before .before .put-word .ensures))
 
 pub put-kept-spec : {M : Type 1} → statement M
 put-kept-spec =

@@ -37,10 +37,12 @@ slice-aggregate-put-word-number c = refl
 
 put-word-number-requires : tie.Need-put-word-number-requires Inv-loop μ-loop
 put-word-number-requires c κs =
-    let a = c .before .before .before .before .before .before .before .args in
-    let at = c .before .before .before .before .loop in
-    let step = relays-length (a .relays .now) (at .i) (a .last) (omega arith) (c .before .before .before .before .before .before .before .pre .0 .1) in
-    omega (arith, at .inv .1 .ends, at .inv .1 .same, c .before .before .before .before .before .before .before .pre .1)
+    let atLoop = c .before .before .before .before in
+    let start = atLoop .before .before .before in
+    let a = start .args in
+    let at = atLoop .loop in
+    let step = relays-length (a .relays .now) (at .i) (a .last) (omega arith) (start .pre .0 .1) in
+    omega (arith, at .inv .1 .ends, at .inv .1 .same, start .pre .1)
 
 add-i : tie.Need-add-i Inv-loop μ-loop
 add-i c = omega arith
@@ -50,11 +52,13 @@ loop-less c = omega arith
 
 loop-again : tie.Need-loop-again Inv-loop μ-loop
 loop-again c =
-    let a = c .before .before .before .before .before .before .before .before .before .before .args in
-    let at = c .before .before .before .before .before .before .before .loop in (
+    let atLoop = c .before .before .before .before .before .before .before in
+    let start = atLoop .before .before .before in
+    let a = start .args in
+    let at = atLoop .loop in (
       omega arith,
       going-step _ _ _ _ _ _ _ _ _ _ (at .inv .1)
-          (relays-step (a .relays .now) (at .i) (a .last) (omega arith) (c .before .before .before .before .before .before .before .before .before .before .pre .0 .1))
+          (relays-step (a .relays .now) (at .i) (a .last) (omega arith) (start .pre .0 .1))
           (c .before .before .put-word-number .ensures),
     )
 
@@ -63,7 +67,8 @@ same-length c = c .before .loop .inv .1 .same
 
 returns : tie.Need-returns Inv-loop μ-loop
 returns c =
-    let a = c .before .before .before .before .args in
+    let start = c .before .before .before .before in
+    let a = start .args in
     let at = c .before .loop in
     going-end _ _ _ _ _
     (subst (λ (rest : List ℕ). Going (now (a .output)) (a .at) (spaced (slice (a .first) (a .last) (now (a .relays)))) (at .output) (at .p) rest)

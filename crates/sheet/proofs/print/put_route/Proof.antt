@@ -18,29 +18,37 @@ put-word-requires c κs =
 
 put-relays-requires : tie.Need-put-relays-requires
 put-relays-requires c κs =
-    let a = c .before .before .before .before .before .before .before .before .args in
-    let one = c .before .before .before .put-word .ensures in
-    (c .before .before .before .before .before .before .before .before .pre .0, omega (arith, route-length (slice (a .first) (a .last) (now (a .relays))), c .before .before .before .before .before .before .before .before .pre .1, one .ends, one .same))
+    let atPutWord = c .before .before .before in
+    let start = atPutWord .before .before .before .before .before in
+    let a = start .args in
+    let one = atPutWord .put-word .ensures in
+    (start .pre .0, omega (arith, route-length (slice (a .first) (a .last) (now (a .relays))), start .pre .1, one .ends, one .same))
 
 slice-aggregate-put-word-2 : tie.Need-slice-aggregate-put-word-2
 slice-aggregate-put-word-2 c = search needs
 
 put-word-requires-2 : tie.Need-put-word-requires-2
 put-word-requires-2 c κs =
-    let a = c .before .before .before .before .before .before .before .before .before .before .before .before .before .args in
-    let one = c .before .before .before .before .before .before .before .before .put-word .ensures in
-    let two = c .before .before .before .before .put-relays .ensures in
-    omega (arith, route-length (slice (a .first) (a .last) (now (a .relays))), c .before .before .before .before .before .before .before .before .before .before .before .before .before .pre .1, one .ends, one .same, two .ends, two .same)
+    let atPutRelays = c .before .before .before .before in
+    let atPutWord = atPutRelays .before .before .before .before in
+    let start = atPutWord .before .before .before .before .before in
+    let a = start .args in
+    let one = atPutWord .put-word .ensures in
+    let two = atPutRelays .put-relays .ensures in
+    omega (arith, route-length (slice (a .first) (a .last) (now (a .relays))), start .pre .1, one .ends, one .same, two .ends, two .same)
 
 same-length : tie.Need-same-length
 same-length c = search needs
 
 returns : tie.Need-returns
 returns c =
-    let a = c .before .before .before .before .before .before .before .before .before .before .before .before .before .before .before .before .args in
+    let atPutRelays = c .before .before .before .before .before .before .before in
+    let atPutWord = atPutRelays .before .before .before .before in
+    let start = atPutWord .before .before .before .before .before in
+    let a = start .args in
     rw (route-written (slice (a .first) (a .last) (now (a .relays))))
-    (put-append _ _ _ _ _ _ _ _ (c .before .before .before .before .before .before .before .before .before .before .before .put-word .ensures)
-    (put-append _ _ _ _ _ _ _ _ (c .before .before .before .before .before .before .before .put-relays .ensures) (c .before .before .put-word2 .ensures)))
+    (put-append _ _ _ _ _ _ _ _ (atPutWord .put-word .ensures)
+    (put-append _ _ _ _ _ _ _ _ (atPutRelays .put-relays .ensures) (c .before .before .put-word2 .ensures)))
 
 pub put-route-spec : {M : Type 1} → statement M
 put-route-spec =

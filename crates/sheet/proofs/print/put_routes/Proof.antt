@@ -39,17 +39,20 @@ cast-size c = omega (arith, c .shared-slice-known3 .given (c .before .before .lo
 
 add-last : tie.Need-add-last Inv-loop μ-loop
 add-last c =
-    let a = c .before .before .before .before .before .before .args in
+    let start = c .before .before .before .before .before .before in
+    let a = start .args in
     let at = c .before .before .loop in
-    omega (arith, at .inv .1, sizes-step (at .i) (a .k) (a .counts .now) (omega arith) (c .before .before .before .before .before .before .pre .0))
+    omega (arith, at .inv .1, sizes-step (at .i) (a .k) (a .counts .now) (omega arith) (start .pre .0))
 
 put-route-requires : tie.Need-put-route-requires Inv-loop μ-loop
 put-route-requires c κs =
-    let a = c .before .before .before .before .before .before .before .args in
-    let at = c .before .before .before .loop in
-    let sizes = sizes-step (at .i) (a .k) (a .counts .now) (omega arith) (c .before .before .before .before .before .before .before .pre .0) in
-    let step = routes-length (at .i) (a .k) (at .first) (a .counts .now) (a .relays .now) (omega arith) (c .before .before .before .before .before .before .before .pre .0) in
-    ((omega arith, omega (arith, at .inv .1)), omega (arith, at .inv .2 .ends, at .inv .2 .same, c .before .before .before .before .before .before .before .pre .1 .1))
+    let atLoop = c .before .before .before in
+    let start = atLoop .before .before .before .before in
+    let a = start .args in
+    let at = atLoop .loop in
+    let sizes = sizes-step (at .i) (a .k) (a .counts .now) (omega arith) (start .pre .0) in
+    let step = routes-length (at .i) (a .k) (at .first) (a .counts .now) (a .relays .now) (omega arith) (start .pre .0) in
+    ((omega arith, omega (arith, at .inv .1)), omega (arith, at .inv .2 .ends, at .inv .2 .same, start .pre .1 .1))
 
 add-i : tie.Need-add-i Inv-loop μ-loop
 add-i c = omega arith
@@ -59,13 +62,15 @@ loop-less c = omega arith
 
 loop-again : tie.Need-loop-again Inv-loop μ-loop
 loop-again c =
-    let a = c .before .before .before .before .before .before .before .before .before .before .args in
-    let at = c .before .before .before .before .before .before .loop in
-    let sizes = sizes-step (at .i) (a .k) (a .counts .now) (omega arith) (c .before .before .before .before .before .before .before .before .before .before .pre .0) in (
+    let atLoop = c .before .before .before .before .before .before in
+    let start = atLoop .before .before .before .before in
+    let a = start .args in
+    let at = atLoop .loop in
+    let sizes = sizes-step (at .i) (a .k) (a .counts .now) (omega arith) (start .pre .0) in (
       omega arith,
       omega (arith, at .inv .1),
       going-step _ _ _ _ _ _ _ _ _ _ (at .inv .2)
-          (routes-step (at .i) (a .k) (at .first) (a .counts .now) (a .relays .now) (omega arith) (c .before .before .before .before .before .before .before .before .before .before .pre .0))
+          (routes-step (at .i) (a .k) (at .first) (a .counts .now) (a .relays .now) (omega arith) (start .pre .0))
           (c .before .before .put-route .ensures),
     )
 

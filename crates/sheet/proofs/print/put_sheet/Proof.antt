@@ -18,11 +18,13 @@ put-wish-requires c κs =
 
 put-routes-requires : tie.Need-put-routes-requires
 put-routes-requires c κs =
-    let a = c .before .before .before .before .before .before .before .before .args in
+    let atPutWish = c .before .before .before in
+    let start = atPutWish .before .before .before .before .before in
+    let a = start .args in
     let whole = sheet-lengths (a .from) (a .to) (a .k) (cutUp (take (a .k) (now (a .counts))) (now (a .relays))) (a .kept) in
-    let room = c .before .before .before .before .before .before .before .before .pre .1 .1 in
-    let one = c .before .before .before .put-wish .ensures in
-    (c .before .before .before .before .before .before .before .before .pre .0, (c .before .before .before .before .before .before .before .before .pre .1 .0, omega (arith, one .ends, one .same)))
+    let room = start .pre .1 .1 in
+    let one = atPutWish .put-wish .ensures in
+    (start .pre .0, (start .pre .1 .0, omega (arith, one .ends, one .same)))
 
 put-kept-requires : tie.Need-put-kept-requires
 put-kept-requires c κs =
@@ -35,12 +37,16 @@ put-kept-requires c κs =
 
 put-end-requires : tie.Need-put-end-requires
 put-end-requires c κs =
-    let a = c .before .before .before .before .before .before .before .before .before .before .before .before .before .before .before .before .args in
+    let atPutKept = c .before .before .before in
+    let atPutRoutes = atPutKept .before .before .before .before in
+    let atPutWish = atPutRoutes .before .before .before .before in
+    let start = atPutWish .before .before .before .before .before in
+    let a = start .args in
     let whole = sheet-lengths (a .from) (a .to) (a .k) (cutUp (take (a .k) (now (a .counts))) (now (a .relays))) (a .kept) in
-    let room = c .before .before .before .before .before .before .before .before .before .before .before .before .before .before .before .before .pre .1 .1 in
-    let one = c .before .before .before .before .before .before .before .before .before .before .before .put-wish .ensures in
-    let two = c .before .before .before .before .before .before .before .put-routes .ensures in
-    let three = c .before .before .before .put-kept .ensures in
+    let room = start .pre .1 .1 in
+    let one = atPutWish .put-wish .ensures in
+    let two = atPutRoutes .put-routes .ensures in
+    let three = atPutKept .put-kept .ensures in
     omega (arith, one .ends, one .same, two .ends, two .same, three .ends, three .same)
 
 same-length : tie.Need-same-length
@@ -49,9 +55,12 @@ same-length c = search needs
 returns : tie.Need-returns
 unfolding sheetLines
 returns c =
-    put-append _ _ _ _ _ _ _ _ (c .before .before .before .before .before .before .before .before .before .before .before .before .before .before .put-wish .ensures)
-    (put-append _ _ _ _ _ _ _ _ (c .before .before .before .before .before .before .before .before .before .before .put-routes .ensures)
-    (put-append _ _ _ _ _ _ _ _ (c .before .before .before .before .before .before .put-kept .ensures) (c .before .before .put-end .ensures)))
+    let atPutKept = c .before .before .before .before .before .before in
+    let atPutRoutes = atPutKept .before .before .before .before in
+    let atPutWish = atPutRoutes .before .before .before .before in
+    put-append _ _ _ _ _ _ _ _ (atPutWish .put-wish .ensures)
+    (put-append _ _ _ _ _ _ _ _ (atPutRoutes .put-routes .ensures)
+    (put-append _ _ _ _ _ _ _ _ (atPutKept .put-kept .ensures) (c .before .before .put-end .ensures)))
 
 pub put-sheet-spec : {M : Type 1} → statement M
 put-sheet-spec =

@@ -41,10 +41,13 @@ same-length c = search needs
 
 returns : tie.Need-returns
 returns c =
-    let a = c .before .before .before .before .before .before .before .before .before .before .before .before .before .before .before .before .before .args in
+    let atPutNumber = c .before .before .before .before .before .before .before in
+    let atPutPair = atPutNumber .before .before .before .before in
+    let start = atPutPair .before .before .before .before .before .before in
+    let a = start .args in
     rw (wish-written (a .from) (a .to) (a .k))
-    (put-append _ _ _ _ _ _ _ _ (c .before .before .before .before .before .before .before .before .before .before .before .put-pair .ensures)
-    (put-append _ _ _ _ _ _ _ _ (c .before .before .before .before .before .before .before .put-number .ensures) (c .before .before .put-word .ensures)))
+    (put-append _ _ _ _ _ _ _ _ (atPutPair .put-pair .ensures)
+    (put-append _ _ _ _ _ _ _ _ (atPutNumber .put-number .ensures) (c .before .before .put-word .ensures)))
 
 pub put-wish-spec : {M : Type 1} → statement M
 put-wish-spec =

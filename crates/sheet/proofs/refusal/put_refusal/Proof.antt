@@ -25,8 +25,11 @@ same-length c = search needs
 returns : tie.Need-returns
 unfolding printed
 returns c =
-    subst (λ (outcome : Outcome Sheet). Put (now (c .before .before .before .before .before .before .args .output)) 0 (printed outcome) (c .before .before .put-refused .last .0) (c .before .before .put-refused .result))
-    (c .before .before .before .before .numbered .ensures) (c .before .before .put-refused .ensures)
+    let atNumbered = c .before .before .before .before in
+    let start = atNumbered .before .before in
+    subst
+    (λ (outcome : Outcome Sheet). Put (now (start .args .output)) 0 (printed outcome) (c .before .before .put-refused .last .0) (c .before .before .put-refused .result))
+    (atNumbered .numbered .ensures) (c .before .before .put-refused .ensures)
 
 pub put-refusal-spec : {M : Type 1} → statement M
 put-refusal-spec = tie.close (tie.spec numbered-requires put-refused-requires same-length returns)

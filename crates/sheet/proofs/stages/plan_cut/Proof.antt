@@ -21,40 +21,54 @@ enum-known-refusal c = search needs
 
 put-refusal-requires : tie.Need-put-refusal-requires
 put-refusal-requires c κs =
-    let a = c .before .before .before .before .before .before .before .before .before .before .before .args in
+    let atCut = c .before .before .before .before .before in
+    let atLinks = atCut .before .before in
+    let start = atLinks .before .before .before .before in
+    let a = start .args in
     fits-as _ _ _ (cut-refused (a .n) (now (a .lows)) (now (a .highs)) (a .from) (a .to) (a .k) 0 (c .before .before .refusal .given .0 .0)
-    (cut-rooms (a .n) (now (a .lows)) (now (a .highs)) (a .k) _ (c .before .before .before .before .before .before .before .links .ensures) _
-    (sym (c .before .before .before .before .before .cut .ensures .0) ∙ ap cutOutcome (c .before .before .refusal .given .1)))) (c .before .before .before .before .before .before .before .before .before .before .before .pre)
+    (cut-rooms (a .n) (now (a .lows)) (now (a .highs)) (a .k) _ (atLinks .links .ensures) _
+    (sym (atCut .cut .ensures .0) ∙ ap cutOutcome (c .before .before .refusal .given .1)))) (start .pre)
 
 enum-known-kept : tie.Need-enum-known-kept
 enum-known-kept c = search needs
 
 plan-routes-requires : tie.Need-plan-routes-requires
 plan-routes-requires c κs =
-    let a = c .before .before .before .before .before .before .before .before .before .before .before .args in
+    let atCut = c .before .before .before .before .before in
+    let atLinks = atCut .before .before in
+    let start = atLinks .before .before .before .before in
+    let a = start .args in
     fits-as _ _ _ (cut-done (a .n) (now (a .lows)) (now (a .highs)) (a .from) (a .to) (a .k) _
-    (cut-rooms (a .n) (now (a .lows)) (now (a .highs)) (a .k) _ (c .before .before .before .before .before .before .before .links .ensures) _
-    (sym (c .before .before .before .before .before .cut .ensures .0) ∙ ap cutOutcome (c .before .before .kept .given .1)))) (c .before .before .before .before .before .before .before .before .before .before .before .pre)
+    (cut-rooms (a .n) (now (a .lows)) (now (a .highs)) (a .k) _ (atLinks .links .ensures) _
+    (sym (atCut .cut .ensures .0) ∙ ap cutOutcome (c .before .before .kept .given .1)))) (start .pre)
 
 same-length : tie.Need-same-length
 same-length c = search needs
 
 returns : tie.Need-returns
 returns c =
-    let a = c .before .before .before .before .before .before .before .before .before .before .before .before .before .before .args in
-    put-as _ _ _ _ _ (cut-refused (a .n) (now (a .lows)) (now (a .highs)) (a .from) (a .to) (a .k) 0 (c .before .before .before .before .before .refusal .given .0 .0)
-    (cut-rooms (a .n) (now (a .lows)) (now (a .highs)) (a .k) _ (c .before .before .before .before .before .before .before .before .before .before .links .ensures) _
-    (sym (c .before .before .before .before .before .before .before .before .cut .ensures .0) ∙ ap cutOutcome (c .before .before .before .before .before .refusal .given .1)))) (c .before .before .put-refusal .ensures)
+    let atRefusal = c .before .before .before .before .before in
+    let atCut = atRefusal .before .before .before in
+    let atLinks = atCut .before .before in
+    let start = atLinks .before .before .before .before in
+    let a = start .args in
+    put-as _ _ _ _ _ (cut-refused (a .n) (now (a .lows)) (now (a .highs)) (a .from) (a .to) (a .k) 0 (atRefusal .refusal .given .0 .0)
+    (cut-rooms (a .n) (now (a .lows)) (now (a .highs)) (a .k) _ (atLinks .links .ensures) _
+    (sym (atCut .cut .ensures .0) ∙ ap cutOutcome (atRefusal .refusal .given .1)))) (c .before .before .put-refusal .ensures)
 
 same-length-2 : tie.Need-same-length-2
 same-length-2 c = search needs
 
 returns-2 : tie.Need-returns-2
 returns-2 c =
-    let a = c .before .before .before .before .before .before .before .before .before .before .before .before .before .before .args in
+    let atKept = c .before .before .before .before .before in
+    let atCut = atKept .before .before .before in
+    let atLinks = atCut .before .before in
+    let start = atLinks .before .before .before .before in
+    let a = start .args in
     put-as _ _ _ _ _ (cut-done (a .n) (now (a .lows)) (now (a .highs)) (a .from) (a .to) (a .k) _
-    (cut-rooms (a .n) (now (a .lows)) (now (a .highs)) (a .k) _ (c .before .before .before .before .before .before .before .before .before .before .links .ensures) _
-    (sym (c .before .before .before .before .before .before .before .before .cut .ensures .0) ∙ ap cutOutcome (c .before .before .before .before .before .kept .given .1)))) (c .before .before .plan-routes .ensures)
+    (cut-rooms (a .n) (now (a .lows)) (now (a .highs)) (a .k) _ (atLinks .links .ensures) _
+    (sym (atCut .cut .ensures .0) ∙ ap cutOutcome (atKept .kept .given .1)))) (c .before .before .plan-routes .ensures)
 
 pub plan-cut-spec : {M : Type 1} → statement M
 plan-cut-spec =

@@ -29,9 +29,14 @@ enum-known-refusal c = search needs
 
 put-refusal-requires : tie.Need-put-refusal-requires
 put-refusal-requires c κs =
-    let a = c .before .before .before .before .before .before .before .before .before .before .before .before .before .args in
-    fits-as _ _ _ (read-refused (now (a .text)) _ _ (a .from) (a .to) (a .k) (c .before .before .refusal .given .0 .0) (c .before .before .before .before .before .before .before .before .before .before .links .ensures) (c .before .before .before .before .before .before .before .before .before .links2 .ensures)
-    (sym (c .before .before .before .before .before .before .read .ensures .0) ∙ ap readOutcome (c .before .before .refusal .given .1))) (c .before .before .before .before .before .before .before .before .before .before .before .before .before .pre)
+    let atRead = c .before .before .before .before .before .before in
+    let atLinks2 = atRead .before .before .before in
+    let atLinks = atLinks2 .before in
+    let start = atLinks .before .before .before in
+    let a = start .args in
+    fits-as _ _ _
+    (read-refused (now (a .text)) _ _ (a .from) (a .to) (a .k) (c .before .before .refusal .given .0 .0) (atLinks .links .ensures) (atLinks2 .links2 .ensures)
+    (sym (atRead .read .ensures .0) ∙ ap readOutcome (c .before .before .refusal .given .1))) (start .pre)
 
 enum-known-n : tie.Need-enum-known-n
 enum-known-n c = search needs
@@ -41,56 +46,92 @@ cast-size c = search needs
 
 array-share-prefix-lows : tie.Need-array-share-prefix-lows
 array-share-prefix-lows c =
-    let a = c .before .before .before .before .before .before .before .before .before .before .before .before .before .args in
-    let table = read-done (now (a .text)) _ _ _ _ _ _ (c .before .before .before .before .before .before .before .before .before .before .links .ensures) (c .before .before .before .before .before .before .before .before .before .links2 .ensures)
-    (sym (c .before .before .before .before .before .before .read .ensures .0) ∙ ap readOutcome (c .before .before .n .given .1)) (c .before .before .before .before .before .before .read .ensures .1 .0) (c .before .before .before .before .before .before .read .ensures .1 .1) in
+    let atRead = c .before .before .before .before .before .before in
+    let atLinks2 = atRead .before .before .before in
+    let atLinks = atLinks2 .before in
+    let start = atLinks .before .before .before in
+    let a = start .args in
+    let table = read-done (now (a .text)) _ _ _ _ _ _ (atLinks .links .ensures) (atLinks2 .links2 .ensures)
+    (sym (atRead .read .ensures .0) ∙ ap readOutcome (c .before .before .n .given .1)) (atRead .read .ensures .1 .0)
+    (atRead .read .ensures .1 .1) in
     table .inLows
 
 slice-aggregate-plan-cut : tie.Need-slice-aggregate-plan-cut
 slice-aggregate-plan-cut c =
-    let a = c .before .before .before .before .before .before .before .before .before .before .before .before .before .before .args in
-    let table = read-done (now (a .text)) _ _ _ _ _ _ (c .before .before .before .before .before .before .before .before .before .before .before .links .ensures) (c .before .before .before .before .before .before .before .before .before .before .links2 .ensures)
-    (sym (c .before .before .before .before .before .before .before .read .ensures .0) ∙ ap readOutcome (c .before .before .before .n .given .1)) (c .before .before .before .before .before .before .before .read .ensures .1 .0) (c .before .before .before .before .before .before .before .read .ensures .1 .1) in
+    let atN = c .before .before .before in
+    let atRead = atN .before .before .before .before in
+    let atLinks2 = atRead .before .before .before in
+    let atLinks = atLinks2 .before in
+    let start = atLinks .before .before .before in
+    let a = start .args in
+    let table = read-done (now (a .text)) _ _ _ _ _ _ (atLinks .links .ensures) (atLinks2 .links2 .ensures)
+    (sym (atRead .read .ensures .0) ∙ ap readOutcome (atN .n .given .1)) (atRead .read .ensures .1 .0) (atRead .read .ensures .1 .1) in
     sym (length-take-le _ _ (table .inLows))
 
 array-share-prefix-highs : tie.Need-array-share-prefix-highs
 array-share-prefix-highs c =
-    let a = c .before .before .before .before .before .before .before .before .before .before .before .before .before .before .args in
-    let table = read-done (now (a .text)) _ _ _ _ _ _ (c .before .before .before .before .before .before .before .before .before .before .before .links .ensures) (c .before .before .before .before .before .before .before .before .before .before .links2 .ensures)
-    (sym (c .before .before .before .before .before .before .before .read .ensures .0) ∙ ap readOutcome (c .before .before .before .n .given .1)) (c .before .before .before .before .before .before .before .read .ensures .1 .0) (c .before .before .before .before .before .before .before .read .ensures .1 .1) in
+    let atN = c .before .before .before in
+    let atRead = atN .before .before .before .before in
+    let atLinks2 = atRead .before .before .before in
+    let atLinks = atLinks2 .before in
+    let start = atLinks .before .before .before in
+    let a = start .args in
+    let table = read-done (now (a .text)) _ _ _ _ _ _ (atLinks .links .ensures) (atLinks2 .links2 .ensures)
+    (sym (atRead .read .ensures .0) ∙ ap readOutcome (atN .n .given .1)) (atRead .read .ensures .1 .0) (atRead .read .ensures .1 .1) in
     table .inHighs
 
 slice-aggregate-plan-cut-2 : tie.Need-slice-aggregate-plan-cut-2
 slice-aggregate-plan-cut-2 c =
-    let a = c .before .before .before .before .before .before .before .before .before .before .before .before .before .before .before .args in
-    let table = read-done (now (a .text)) _ _ _ _ _ _ (c .before .before .before .before .before .before .before .before .before .before .before .before .links .ensures) (c .before .before .before .before .before .before .before .before .before .before .before .links2 .ensures)
-    (sym (c .before .before .before .before .before .before .before .before .read .ensures .0) ∙ ap readOutcome (c .before .before .before .before .n .given .1)) (c .before .before .before .before .before .before .before .before .read .ensures .1 .0) (c .before .before .before .before .before .before .before .before .read .ensures .1 .1) in
+    let atN = c .before .before .before .before in
+    let atRead = atN .before .before .before .before in
+    let atLinks2 = atRead .before .before .before in
+    let atLinks = atLinks2 .before in
+    let start = atLinks .before .before .before in
+    let a = start .args in
+    let table = read-done (now (a .text)) _ _ _ _ _ _ (atLinks .links .ensures) (atLinks2 .links2 .ensures)
+    (sym (atRead .read .ensures .0) ∙ ap readOutcome (atN .n .given .1)) (atRead .read .ensures .1 .0) (atRead .read .ensures .1 .1) in
     sym (length-take-le _ _ (table .inHighs))
 
 plan-cut-requires : tie.Need-plan-cut-requires
 plan-cut-requires c κs =
-    let a = c .before .before .before .before .before .before .before .before .before .before .before .before .before .before .before .args in
-    let table = read-done (now (a .text)) _ _ _ _ _ _ (c .before .before .before .before .before .before .before .before .before .before .before .before .links .ensures) (c .before .before .before .before .before .before .before .before .before .before .before .links2 .ensures)
-    (sym (c .before .before .before .before .before .before .before .before .read .ensures .0) ∙ ap readOutcome (c .before .before .before .before .n .given .1)) (c .before .before .before .before .before .before .before .before .read .ensures .1 .0) (c .before .before .before .before .before .before .before .before .read .ensures .1 .1) in
-    fits-as _ _ _ (table .stage (a .from) (a .to) (a .k)) (c .before .before .before .before .before .before .before .before .before .before .before .before .before .before .before .pre)
+    let atN = c .before .before .before .before in
+    let atRead = atN .before .before .before .before in
+    let atLinks2 = atRead .before .before .before in
+    let atLinks = atLinks2 .before in
+    let start = atLinks .before .before .before in
+    let a = start .args in
+    let table = read-done (now (a .text)) _ _ _ _ _ _ (atLinks .links .ensures) (atLinks2 .links2 .ensures)
+    (sym (atRead .read .ensures .0) ∙ ap readOutcome (atN .n .given .1)) (atRead .read .ensures .1 .0) (atRead .read .ensures .1 .1) in
+    fits-as _ _ _ (table .stage (a .from) (a .to) (a .k)) (start .pre)
 
 same-length : tie.Need-same-length
 same-length c = search needs
 
 returns : tie.Need-returns
 returns c =
-    let a = c .before .before .before .before .before .before .before .before .before .before .before .before .before .before .before .before .args in
-    put-as _ _ _ _ _ (read-refused (now (a .text)) _ _ (a .from) (a .to) (a .k) (c .before .before .before .before .before .refusal .given .0 .0) (c .before .before .before .before .before .before .before .before .before .before .before .before .before .links .ensures) (c .before .before .before .before .before .before .before .before .before .before .before .before .links2 .ensures)
-    (sym (c .before .before .before .before .before .before .before .before .before .read .ensures .0) ∙ ap readOutcome (c .before .before .before .before .before .refusal .given .1))) (c .before .before .put-refusal .ensures)
+    let atRefusal = c .before .before .before .before .before in
+    let atRead = atRefusal .before .before .before .before in
+    let atLinks2 = atRead .before .before .before in
+    let atLinks = atLinks2 .before in
+    let start = atLinks .before .before .before in
+    let a = start .args in
+    put-as _ _ _ _ _
+    (read-refused (now (a .text)) _ _ (a .from) (a .to) (a .k) (atRefusal .refusal .given .0 .0) (atLinks .links .ensures) (atLinks2 .links2 .ensures)
+    (sym (atRead .read .ensures .0) ∙ ap readOutcome (atRefusal .refusal .given .1))) (c .before .before .put-refusal .ensures)
 
 same-length-2 : tie.Need-same-length-2
 same-length-2 c = search needs
 
 returns-2 : tie.Need-returns-2
 returns-2 c =
-    let a = c .before .before .before .before .before .before .before .before .before .before .before .before .before .before .before .before .before .before .args in
-    let table = read-done (now (a .text)) _ _ _ _ _ _ (c .before .before .before .before .before .before .before .before .before .before .before .before .before .before .before .links .ensures) (c .before .before .before .before .before .before .before .before .before .before .before .before .before .before .links2 .ensures)
-    (sym (c .before .before .before .before .before .before .before .before .before .before .before .read .ensures .0) ∙ ap readOutcome (c .before .before .before .before .before .before .before .n .given .1)) (c .before .before .before .before .before .before .before .before .before .before .before .read .ensures .1 .0) (c .before .before .before .before .before .before .before .before .before .before .before .read .ensures .1 .1) in
+    let atN = c .before .before .before .before .before .before .before in
+    let atRead = atN .before .before .before .before in
+    let atLinks2 = atRead .before .before .before in
+    let atLinks = atLinks2 .before in
+    let start = atLinks .before .before .before in
+    let a = start .args in
+    let table = read-done (now (a .text)) _ _ _ _ _ _ (atLinks .links .ensures) (atLinks2 .links2 .ensures)
+    (sym (atRead .read .ensures .0) ∙ ap readOutcome (atN .n .given .1)) (atRead .read .ensures .1 .0) (atRead .read .ensures .1 .1) in
     put-as _ _ _ _ _ (table .stage (a .from) (a .to) (a .k)) (c .before .before .plan-cut .ensures)
 
 pub plan-network-spec : {M : Type 1} → statement M

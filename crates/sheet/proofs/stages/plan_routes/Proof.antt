@@ -37,10 +37,15 @@ enum-known-refusal c = search needs
 
 put-refusal-requires : tie.Need-put-refusal-requires
 put-refusal-requires c κs =
-    let a = c .before .before .before .before .before .before .before .before .before .before .before .before .before .before .before .before .before .args in
+    let atRoute = c .before .before .before .before .before .before .before in
+    let atScratch = atRoute .before .before .before .before in
+    let atRelays = atScratch .before in
+    let atCounts = atRelays .before in
+    let start = atCounts .before .before .before .before in
+    let a = start .args in
     fits-as _ _ _ (routes-refused (a .n) (now (a .lows)) (now (a .highs)) (a .from) (a .to) (a .k) (a .kept) _ _ _
-    (c .before .before .before .before .before .before .before .before .before .before .before .before .before .counts .ensures) (c .before .before .before .before .before .before .before .before .before .before .before .before .relays .ensures) (c .before .before .before .before .before .before .before .before .before .before .before .scratch .ensures) (c .before .before .refusal .given .0 .0)
-    (sym (c .before .before .before .before .before .before .before .route .ensures .0) ∙ ap routeOutcome (c .before .before .refusal .given .1))) (c .before .before .before .before .before .before .before .before .before .before .before .before .before .before .before .before .before .pre)
+    (atCounts .counts .ensures) (atRelays .relays .ensures) (atScratch .scratch .ensures) (c .before .before .refusal .given .0 .0)
+    (sym (atRoute .route .ensures .0) ∙ ap routeOutcome (c .before .before .refusal .given .1))) (start .pre)
 
 enum-told : tie.Need-enum-told
 enum-told c = search needs
@@ -53,33 +58,51 @@ slice-aggregate-put-sheet-2 c = search needs
 
 put-sheet-requires : tie.Need-put-sheet-requires
 put-sheet-requires c κs =
-    let a = c .before .before .before .before .before .before .before .before .before .before .before .before .before .before .before .before .before .before .args in
+    let atEnumTold = c .before .before .before in
+    let atRoute = atEnumTold .before .before .before .before .before in
+    let atScratch = atRoute .before .before .before .before in
+    let atRelays = atScratch .before in
+    let atCounts = atRelays .before in
+    let start = atCounts .before .before .before .before in
+    let a = start .args in
     let routed = routes-written (a .n) (now (a .lows)) (now (a .highs)) (a .from) (a .to) (a .k) (a .kept) _ _ _
-    (c .before .before .before .before .before .before .before .before .before .before .before .before .before .before .counts .ensures) (c .before .before .before .before .before .before .before .before .before .before .before .before .before .relays .ensures) (c .before .before .before .before .before .before .before .before .before .before .before .before .scratch .ensures) _ _ _
-    (sym (c .before .before .before .before .before .before .before .before .route .ensures .0) ∙ ap routeOutcome (c .before .before .before .enum-told .given .1))
-    (c .before .before .before .before .before .before .before .before .route .ensures .1 .0) (c .before .before .before .before .before .before .before .before .route .ensures .1 .1 .0) in
-    (routed .sizes, (routed .within, subst (λ (lines : List ℕ). length lines ≤ length (now (a .output))) (routed .lines) (c .before .before .before .before .before .before .before .before .before .before .before .before .before .before .before .before .before .before .pre)))
+    (atCounts .counts .ensures) (atRelays .relays .ensures) (atScratch .scratch .ensures) _ _ _
+    (sym (atRoute .route .ensures .0) ∙ ap routeOutcome (atEnumTold .enum-told .given .1))
+    (atRoute .route .ensures .1 .0) (atRoute .route .ensures .1 .1 .0) in
+    (routed .sizes, (routed .within, subst (λ (lines : List ℕ). length lines ≤ length (now (a .output))) (routed .lines) (start .pre)))
 
 same-length : tie.Need-same-length
 same-length c = search needs
 
 returns : tie.Need-returns
 returns c =
-    let a = c .before .before .before .before .before .before .before .before .before .before .before .before .before .before .before .before .before .before .before .before .args in
+    let atRefusal = c .before .before .before .before .before in
+    let atRoute = atRefusal .before .before .before .before .before in
+    let atScratch = atRoute .before .before .before .before in
+    let atRelays = atScratch .before in
+    let atCounts = atRelays .before in
+    let start = atCounts .before .before .before .before in
+    let a = start .args in
     put-as _ _ _ _ _ (routes-refused (a .n) (now (a .lows)) (now (a .highs)) (a .from) (a .to) (a .k) (a .kept) _ _ _
-    (c .before .before .before .before .before .before .before .before .before .before .before .before .before .before .before .before .counts .ensures) (c .before .before .before .before .before .before .before .before .before .before .before .before .before .before .before .relays .ensures) (c .before .before .before .before .before .before .before .before .before .before .before .before .before .before .scratch .ensures) (c .before .before .before .before .before .refusal .given .0 .0)
-    (sym (c .before .before .before .before .before .before .before .before .before .before .route .ensures .0) ∙ ap routeOutcome (c .before .before .before .before .before .refusal .given .1))) (c .before .before .put-refusal .ensures)
+    (atCounts .counts .ensures) (atRelays .relays .ensures) (atScratch .scratch .ensures) (atRefusal .refusal .given .0 .0)
+    (sym (atRoute .route .ensures .0) ∙ ap routeOutcome (atRefusal .refusal .given .1))) (c .before .before .put-refusal .ensures)
 
 same-length-2 : tie.Need-same-length-2
 same-length-2 c = search needs
 
 returns-2 : tie.Need-returns-2
 returns-2 c =
-    let a = c .before .before .before .before .before .before .before .before .before .before .before .before .before .before .before .before .before .before .before .before .before .args in
+    let atEnumTold = c .before .before .before .before .before .before in
+    let atRoute = atEnumTold .before .before .before .before .before in
+    let atScratch = atRoute .before .before .before .before in
+    let atRelays = atScratch .before in
+    let atCounts = atRelays .before in
+    let start = atCounts .before .before .before .before in
+    let a = start .args in
     let routed = routes-written (a .n) (now (a .lows)) (now (a .highs)) (a .from) (a .to) (a .k) (a .kept) _ _ _
-    (c .before .before .before .before .before .before .before .before .before .before .before .before .before .before .before .before .before .counts .ensures) (c .before .before .before .before .before .before .before .before .before .before .before .before .before .before .before .before .relays .ensures) (c .before .before .before .before .before .before .before .before .before .before .before .before .before .before .before .scratch .ensures) _ _ _
-    (sym (c .before .before .before .before .before .before .before .before .before .before .before .route .ensures .0) ∙ ap routeOutcome (c .before .before .before .before .before .before .enum-told .given .1))
-    (c .before .before .before .before .before .before .before .before .before .before .before .route .ensures .1 .0) (c .before .before .before .before .before .before .before .before .before .before .before .route .ensures .1 .1 .0) in
+    (atCounts .counts .ensures) (atRelays .relays .ensures) (atScratch .scratch .ensures) _ _ _
+    (sym (atRoute .route .ensures .0) ∙ ap routeOutcome (atEnumTold .enum-told .given .1))
+    (atRoute .route .ensures .1 .0) (atRoute .route .ensures .1 .1 .0) in
     subst (λ (lines : List ℕ). Put (now (a .output)) 0 lines (c .before .before .put-sheet .last .0) (c .before .before .put-sheet .result))
     (sym (routed .lines)) (c .before .before .put-sheet .ensures)
 

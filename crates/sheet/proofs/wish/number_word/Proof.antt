@@ -28,24 +28,35 @@ enum-known-q-2 c = search needs
 
 returns : tie.Need-returns
 returns c =
-    let a = c .before .before .before .before .before .before .args in
-    sym (number-word-departs (now (a .text)) (now (a .letters)) (a .at) _ (sym (c .before .before .before .number .ensures) ∙ ap numberGives (c .before .p .given .1)))
+    let atNumber = c .before .before .before in
+    let start = atNumber .before .before .before in
+    let a = start .args in
+    sym
+    (number-word-departs (now (a .text)) (now (a .letters)) (a .at) _ (sym (atNumber .number .ensures) ∙ ap numberGives (c .before .p .given .1)))
 
 returns-2 : tie.Need-returns-2
 unfolding withFront
 returns-2 c =
-    let a = c .before .before .before .before .before .before .before .before .before .before .args in
+    let atWord = c .before .before .before in
+    let atX = atWord .before .before in
+    let atNumber = atX .before .before in
+    let start = atNumber .before .before .before in
+    let a = start .args in
     sym
-    (number-word-reads (now (a .text)) (now (a .letters)) (a .at) _ _ (sym (c .before .before .before .before .before .before .before .number .ensures) ∙ ap numberGives (c .before .before .before .before .before .x .given .1))
-    ∙ ap (withFront _) (sym (c .before .before .before .word .ensures) ∙ ap wordGives (c .before .q .given .1)))
+    (number-word-reads (now (a .text)) (now (a .letters)) (a .at) _ _ (sym (atNumber .number .ensures) ∙ ap numberGives (atX .x .given .1))
+    ∙ ap (withFront _) (sym (atWord .word .ensures) ∙ ap wordGives (c .before .q .given .1)))
 
 returns-3 : tie.Need-returns-3
 unfolding withFront
 returns-3 c =
-    let a = c .before .before .before .before .before .before .before .before .before .before .args in
+    let atWord = c .before .before .before in
+    let atX = atWord .before .before in
+    let atNumber = atX .before .before in
+    let start = atNumber .before .before .before in
+    let a = start .args in
     sym
-    (number-word-reads (now (a .text)) (now (a .letters)) (a .at) _ _ (sym (c .before .before .before .before .before .before .before .number .ensures) ∙ ap numberGives (c .before .before .before .before .before .x .given .1))
-    ∙ ap (withFront _) (sym (c .before .before .before .word .ensures) ∙ ap wordGives (c .before .q2 .given .1)))
+    (number-word-reads (now (a .text)) (now (a .letters)) (a .at) _ _ (sym (atNumber .number .ensures) ∙ ap numberGives (atX .x .given .1))
+    ∙ ap (withFront _) (sym (atWord .word .ensures) ∙ ap wordGives (c .before .q2 .given .1)))
 
 pub number-word-spec : {M : Type 1} → statement M
 number-word-spec =

@@ -49,18 +49,26 @@ returns c =
 returns-2 : tie.Need-returns-2
 unfolding withFront
 returns-2 c =
-    let a = c .before .before .before .before .before .before .before .before .before .before .before .before .before .args in
+    let atNumberWord = c .before .before .before in
+    let atFrom = atNumberWord .before .before .before in
+    let atPairLine = atFrom .before .before in
+    let start = atPairLine .before .before .before .before .before in
+    let a = start .args in
     sym
-    (wish-reads (now (a .input)) _ _ (sym (c .before .before .before .before .before .before .before .before .pair-line .ensures) ∙ ap pairGives (c .before .before .before .before .before .before .from .given .1))
-    ∙ ap (withFront _) (sym (c .before .before .before .number-word .ensures) ∙ ap numberGives (c .before .q .given .1)))
+    (wish-reads (now (a .input)) _ _ (sym (atPairLine .pair-line .ensures) ∙ ap pairGives (atFrom .from .given .1))
+    ∙ ap (withFront _) (sym (atNumberWord .number-word .ensures) ∙ ap numberGives (c .before .q .given .1)))
 
 returns-3 : tie.Need-returns-3
 unfolding withFront
 returns-3 c =
-    let a = c .before .before .before .before .before .before .before .before .before .before .before .before .before .args in
+    let atNumberWord = c .before .before .before in
+    let atFrom = atNumberWord .before .before .before in
+    let atPairLine = atFrom .before .before in
+    let start = atPairLine .before .before .before .before .before in
+    let a = start .args in
     sym
-    (wish-reads (now (a .input)) _ _ (sym (c .before .before .before .before .before .before .before .before .pair-line .ensures) ∙ ap pairGives (c .before .before .before .before .before .before .from .given .1))
-    ∙ ap (withFront _) (sym (c .before .before .before .number-word .ensures) ∙ ap numberGives (c .before .k .given .1)))
+    (wish-reads (now (a .input)) _ _ (sym (atPairLine .pair-line .ensures) ∙ ap pairGives (atFrom .from .given .1))
+    ∙ ap (withFront _) (sym (atNumberWord .number-word .ensures) ∙ ap numberGives (c .before .k .given .1)))
 
 pub wish-line-spec : {M : Type 1} → statement M
 wish-line-spec =
