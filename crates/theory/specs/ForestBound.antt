@@ -16,6 +16,7 @@ use Rattle.definitions.specs.Network.{joins, linked, tableCheck, Accepted}
 use Rattle.definitions.specs.Demand.{NoRepeat}
 use Rattle.definitions.specs.Order.{orderOf, relayAt}
 use Rattle.definitions.specs.Forests.{left, forestOf, forestsOf, splitAnswer, forestsAfter}
+use Rattle.definitions.specs.Route.{leftOf}
 use Rattle.lists.specs.Outcomes.{refuse-not, then-done, if-done}
 use Rattle.lists.specs.Tests.{and-both}
 use Rattle.lists.specs.Tables.{length-table, getD-table}
@@ -27,16 +28,18 @@ use Rattle.lists.specs.Totals.{total-counts}
 use Rattle.theory.specs.Accepted.{accepted}
 use Rattle.theory.specs.Links.{one-link}
 use Rattle.theory.specs.Ordering.{order-length}
-use Rattle.theory.specs.Left.{left-index}
+use Rattle.theory.specs.LeftLaws.{LeftLaws, index-below}
+use Rattle.theory.specs.Left.{left-laws}
 use Rattle.theory.specs.ForestNumbers.{earlierPlace, laterPlace, LinkForest, forest-of-link}
 
 -- The indices of the links of forest f.
 unfoldable pub linksIn : List ℕ → List ℕ → List ℕ → ℕ → List ℕ
 linksIn order lows highs f = keep (λ j. eqb f (forestOf (linked lows highs) order lows highs j)) (table (λ r. r) 0 (length lows))
 
--- Over any order in which each link has its forest, and any table that joins no two relays twice.
+-- Over any order in which `left` has the three laws and each link has its forest, and any table that joins no two relays twice.
 module _
     (order lows highs : List ℕ)
+    (laws : LeftLaws (left (linked lows highs) order))
     (each : (i : ℕ) → i < length lows → LinkForest order lows highs i)
     (one : (a b i j : ℕ) → i < length lows → j < length lows
     → joins lows highs a b i ≡ true → joins lows highs a b j ≡ true → i ≡ j)
@@ -66,17 +69,21 @@ module _
         (rw (sameLeft, e) at (linkI .ends))
         (linkJ .ends)
 
+    -- The number of a link's forest is below its later place.
+    pub forest-below : (i : ℕ) → i < length lows
+        → forestOf (linked lows highs) order lows highs i < laterPlace order lows highs i
+    forest-below i h =
+        let link = each i h in
+        index-below (left (linked lows highs) order) laws (forestOf (linked lows highs) order lows highs i)
+        (laterPlace order lows highs i) (link .forest) (omega (arith, link .isLeft, link .some))
+
     place-range : (f v : ℕ) → has (map (laterPlace order lows highs) (linksIn order lows highs f)) v ≡ true
         → has (table (λ r. r) (suc f) (length order - f)) v ≡ true
     place-range f v h =
         let w = has-map (laterPlace order lows highs) (linksIn order lows highs f) v h in
         let a = in-forest f (w .0) (w .1) in
         let link = each (w .0) (a .0) in
-        let number = forestOf (linked lows highs) order lows highs (w .0) in
-        let later = laterPlace order lows highs (w .0) in
-        let there : 0 < left (linked lows highs) order number later =
-        omega (arith, link .isLeft, link .some) in
-        let index = left-index (linked lows highs) order number later there in
+        let index = forest-below (w .0) (a .0) in
         range-has (suc f) (length order - f) v (omega (arith, w .2, a .1)) (omega (arith, w .2, a .1, link .within))
 
     pub forest-size : (f : ℕ) → length (linksIn order lows highs f) ≤ length order - f
@@ -109,12 +116,16 @@ module _ (n : ℕ) (lows highs : List ℕ) where
 
 -- The base, of an accepted table.
 module _ (n : ℕ) (lows highs : List ℕ) (ok : Accepted n lows highs) where
+  base-laws : LeftLaws (left (linked lows highs) (orderOf n lows highs))
+  unfolding leftOf
+  base-laws = left-laws n lows highs
+
   pub forests-bound : (f : ℕ) → count (eqb f) (forestsOf n lows highs) ≤ n - f
   unfolding forestsOf linksIn
   forests-bound f =
       let order = orderOf n lows highs in
       let forest : ℕ → ℕ = forestOf (linked lows highs) order lows highs in
-      let size = forest-size order lows highs (forest-of-link n lows highs ok) (one-link n lows highs (accepted n lows highs ok)) f in
+      let size = forest-size order lows highs base-laws (forest-of-link n lows highs ok) (one-link n lows highs (accepted n lows highs ok)) f in
       omega (
         arith,
         size,
@@ -126,7 +137,9 @@ module _ (n : ℕ) (lows highs : List ℕ) (ok : Accepted n lows highs) where
   pub forests-range : (i : ℕ) → i < length lows → (1 ≤ getD (forestsOf n lows highs) i 0) × (getD (forestsOf n lows highs) i 0 < n)
   forests-range i h =
       let link = forest-of-link n lows highs ok i h in
-      omega (arith, forests-at n lows highs i h, link .forest, link .small, order-length n lows highs)
+      let order = orderOf n lows highs in
+      let below = forest-below order lows highs base-laws (forest-of-link n lows highs ok) (one-link n lows highs (accepted n lows highs ok)) i h in
+      omega (arith, forests-at n lows highs i h, link .forest, link .within, order-length n lows highs)
 
   -- "Each link is in exactly one forest, so the counts of all the forests add up to m."
   pub forests-total : total (table (λ f. count (eqb f) (forestsOf n lows highs)) 1 n) ≡ length lows

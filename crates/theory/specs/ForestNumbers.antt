@@ -19,7 +19,7 @@ use Rattle.theory.specs.Accepted.{accepted}
 use Rattle.theory.specs.Links.{joins-ends, joins-low-high, joins-high-low, joined-linked, linked-joined}
 use Rattle.theory.specs.Ordering.{order-no-repeat, order-has}
 use Rattle.theory.specs.Places.{relay-of-place, place-of-relay}
-use Rattle.theory.specs.Left.{left-range, left-below, left-index, left-linked, left-forest, forest-left}
+use Rattle.theory.specs.Left.{left-range, left-below, left-linked, left-forest, forest-left}
 
 -- The earlier and the later place of link i.
 abbrev pub earlierPlace : List ℕ → List ℕ → List ℕ → ℕ → ℕ
@@ -36,7 +36,6 @@ pub record LinkForest (order lows highs : List ℕ) (i : ℕ) : Type 0 where
   pub ends : joins lows highs (relayAt order (earlierPlace order lows highs i)) (relayAt order (laterPlace order lows highs i)) i
       ≡ true
   pub forest : 1 ≤ forestOf (linked lows highs) order lows highs i
-  pub small : forestOf (linked lows highs) order lows highs i < length order
   pub isLeft : left (linked lows highs) order (forestOf (linked lows highs) order lows highs i) (laterPlace order lows highs i)
       ≡ earlierPlace order lows highs i
 
@@ -52,14 +51,12 @@ module _ (order lows highs : List ℕ) where
       let v = laterPlace order lows highs i in
       let f = left-forest (linked lows highs) order u v some under within
       (joined-linked lows highs (relayAt order u) (relayAt order v) i h ends) in
-      let there : 0 < left (linked lows highs) order (forestOf (linked lows highs) order lows highs i) v = omega (arith, f .1) in
       record {
         some = some;
         under = under;
         within = within;
         ends = ends;
         forest = f .0;
-        small = omega (arith, left-index (linked lows highs) order (forestOf (linked lows highs) order lows highs i) v there);
         isLeft = f .1;
       }
 
@@ -139,7 +136,7 @@ module _ (order lows highs : List ℕ) where
           let b = ap (placeOf order) (e .1) ∙ backU in
           omega (arith, below)
 
--- The base: each link of an accepted table is in a forest from 1 to n − 1.
+-- The base: each link of an accepted table is in a forest.
 module _ (n : ℕ) (lows highs : List ℕ) where
   pub forest-of-link : Accepted n lows highs → (i : ℕ) → i < length lows → LinkForest (orderOf n lows highs) lows highs i
   forest-of-link ok i h =

@@ -17,7 +17,7 @@ use Rattle.definitions.specs.Forests.{earlier, left, forestBetween}
 use Rattle.definitions.specs.Route.{leftOf}
 use Rattle.lists.specs.Positions.{position-which, position-at}
 use Rattle.lists.specs.Rising.{rising-entry, rising-has, rising-no-repeat, rising-ascends, rising-front}
-use Rattle.lists.specs.Rising.{rising-count, rising-length, rising-at}
+use Rattle.lists.specs.Rising.{rising-count, rising-at}
 use Rattle.theory.specs.LeftLaws.{LeftLaws}
 use Rattle.theory.specs.Ordering.{order-length, order-maximal}
 
@@ -101,12 +101,6 @@ module _ (linked : ℕ → ℕ → Bool) (order : List ℕ) where
   left-below i v h =
       let r = left-range i v h in
       omega (arith, r .1, r .4, rising-entry (λ u. linked (relayAt order u) (relayAt order v)) (pred v) (pred i) (r .3) .1)
-
-  -- An index is below its place.
-  pub left-index : (i v : ℕ) → 0 < left linked order i v → i < v
-  left-index i v h =
-      let r = left-range i v h in
-      omega (arith, r .0, r .1, r .3, rising-length (λ u. linked (relayAt order u) (relayAt order v)) (pred v))
 
   -- The link between linked places u and v is in a forest, and there left is u.
   pub left-forest : (u v : ℕ) → 1 ≤ u → u < v → v ≤ length order → linked (relayAt order u) (relayAt order v) ≡ true
