@@ -12,9 +12,10 @@ use lib.ListN.{getD}
 use Rattle.definitions.specs.Lists.{table, keep, has, count}
 use Rattle.definitions.specs.Demand.{NoRepeat}
 use Rattle.lists.specs.Tables.{length-table}
-use Rattle.lists.specs.Tests.{or-left, and-both}
-use Rattle.lists.specs.Members.{has-keep, range-has}
-use Rattle.lists.specs.Counting.{length-keep, no-longer}
+use Rattle.lists.specs.Tests.{or-left, and-both, and-all}
+use Rattle.lists.specs.Members.{has-keep}
+use Rattle.lists.specs.Distinct.{no-repeat-keep}
+use Rattle.lists.specs.Counting.{count-all, length-keep, no-longer}
 
 -- What is in a table.
 pub table-entry : (f : ℕ → ℕ) (i n x : ℕ) → has (table f i n) x ≡ true → (j : ℕ) × (i ≤ j) × (j < i + n) × (f j ≡ x)
@@ -46,25 +47,35 @@ table-no-repeat f i (suc n) apart = (
         absurd (apart i (r .0) (omega arith) (omega (arith, r .1)) (omega (arith, r .2)) (sym (r .3)))
     go false e = refl
 
--- k different numbers below n that pass the test are no more than those that do.
-pub pigeonhole : (test : ℕ → Bool) (n k : ℕ) (f : ℕ → ℕ)
-    → ((i : ℕ) → i < k → (f i < n) × (test (f i) ≡ true))
-    → ((i j : ℕ) → i < j → j < k → f i ≡ f j → ⊥)
-    → k ≤ count test (table (λ r. r) 0 n)
-pigeonhole test n k f passes apart =
-    let kept : List ℕ = keep test (table (λ r. r) 0 n) in
-    let within : (x : ℕ) → has (table f 0 k) x ≡ true → has kept x ≡ true = λ x h.
-    let r = table-entry f 0 k x h in
-    let p : (f (r .0) < n) × (test (f (r .0)) ≡ true) = passes (r .0) (omega (arith, r .2)) in
-    let inside : (has (table (λ r. r) 0 n) x && test x) ≡ true =
-    subst (λ (y : ℕ). (has (table (λ r. r) 0 n) y && test y) ≡ true) (r .3)
-    (rw (range-has 0 n (f (r .0)) (omega arith) (omega (arith, p .0))) (p .1)) in
-    has-keep test (table (λ r. r) 0 n) x ∙ inside in
+-- A list without repeats whose entries all stand in another has no more that pass a test.
+pub count-within : (test : ℕ → Bool) (among l : List ℕ) → NoRepeat l → ((x : ℕ) → has l x ≡ true → has among x ≡ true)
+    → count test l ≤ count test among
+count-within test among l unique within =
     omega (
       arith,
-      no-longer kept (table f 0 k) (table-no-repeat f 0 k (λ a b h l m. apart a b l (omega arith))) within,
+      length-keep test l,
+      length-keep test among,
+      no-longer (keep test among) (keep test l) (no-repeat-keep test l unique)
+          (λ x h.
+          let both = and-both (has l x) (test x) (sym (has-keep test l x) ∙ h) in
+          has-keep test among x ∙ and-all (has among x) (test x) (within x (both .0)) (both .1)),
+    )
+
+-- k different entries of a list that pass the test are no more than those that do.
+pub pigeonhole : (test : ℕ → Bool) (l : List ℕ) (k : ℕ) (f : ℕ → ℕ)
+    → ((i : ℕ) → i < k → (has l (f i) ≡ true) × (test (f i) ≡ true))
+    → ((i j : ℕ) → i < j → j < k → f i ≡ f j → ⊥)
+    → k ≤ count test l
+pigeonhole test l k f passes apart =
+    let entry : (x : ℕ) → has (table f 0 k) x ≡ true → (has l x ≡ true) × (test x ≡ true) = λ x h.
+    let r = table-entry f 0 k x h in
+    subst (λ (y : ℕ). (has l y ≡ true) × (test y ≡ true)) (r .3) (passes (r .0) (omega (arith, r .2))) in
+    let unique : NoRepeat (table f 0 k) = table-no-repeat f 0 k (λ a b h l m. apart a b l (omega arith)) in
+    omega (
+      arith,
       length-table f 0 k,
-      length-keep test (table (λ r. r) 0 n),
+      count-all test (table f 0 k) (λ x h. entry x h .1),
+      count-within test l (table f 0 k) unique (λ x h. entry x h .0),
     )
 
 -- The first entry that passes the test, or 0.

@@ -143,15 +143,6 @@ rising-count test l (suc v) h =
     step k y true c e = omega (arith, length-append k (y ∷ []))
     step k y false c e = omega arith
 
-pub rising-length : (test : ℕ → Bool) (v : ℕ) → length (rising test v) ≤ v
-unfolding rising snocIf
-rising-length test zero = omega arith
-rising-length test (suc v) = go (test (suc v)) (rising-length test v)
-  where
-    go : (b : Bool) → length (rising test v) ≤ v → length (snocIf b (rising test v) (suc v)) ≤ suc v
-    go true h = omega (arith, length-append (rising test v) (suc v ∷ []))
-    go false h = omega arith
-
 -- A number that passes stands behind those below it that pass.
 pub rising-at : (test : ℕ → Bool) (v u : ℕ) → suc u ≤ v → test (suc u) ≡ true
     → (length (rising test u) < length (rising test v)) × (getD (rising test v) (length (rising test u)) 0 ≡ suc u)

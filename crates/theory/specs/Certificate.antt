@@ -1,27 +1,30 @@
 -- The certificate: whichever fewer than k relays are dead, the kept links join the same live relays as all the links.
--- Of accepted networks, for any k from 1 on.
+-- Over any order, whose relays are the ones in service, and for any k from 1 on; then for the base and accepted networks.
 use Prim.Native.Nat.{ℕ, _≤_, _<_, min, max}
 use mathlib.Core.Bool.{Bool, true, false, true≢false}
-use mathlib.Core.List.{List, []}
+use mathlib.Core.List.{List, [], map}
 use mathlib.Core.Logic.{_⊎_, inl, inr, _↔_, _≢_, by-cases}
 use mathlib.Core.Path.{_≡_, sym, _∙_, ap, subst, subst₂}
 use native.Mathlib.Decide.{decLe}
 use native.Mathlib.Omega.{arith}
-use lib.ListN.{getD}
-use Rattle.definitions.specs.Lists.{has}
+use lib.ListN.{length, getD}
+use Rattle.definitions.specs.Lists.{table, has, count}
 use Rattle.definitions.specs.Network.{Accepted}
-use Rattle.definitions.specs.Order.{orderOf, placeOf}
-use Rattle.definitions.specs.Route.{leftOf, routesOf}
+use Rattle.definitions.specs.Order.{orderOf, placeOf, relayAt}
+use Rattle.definitions.specs.Route.{routesBetween}
 use Rattle.definitions.specs.Demand.{Joined, alone, onward, LinkOf, AnyLink, Kept, Live, deadCount}
-use Rattle.lists.specs.Pigeonhole.{pigeonhole, firstPassing, free-list}
+use Rattle.lists.specs.Members.{range-has}
+use Rattle.lists.specs.Pigeonhole.{count-within, pigeonhole, firstPassing, free-list}
 use Rattle.lists.specs.Chains.{joined-map, joined-replace, route-joined}
 use Rattle.theory.specs.LeftLaws.{LeftLaws}
 use Rattle.theory.specs.Trees.{Alive, TreeLink, alive-lower, alive-left}
-use Rattle.theory.specs.Left.{left-laws}
-use Rattle.theory.specs.Columns.{linkForest, Marked, kept-forest}
+use Rattle.theory.specs.Ordering.{order-no-repeat, order-has, order-below}
+use Rattle.theory.specs.ForestNumbers.{linkForest, Placed, joined-placed}
+use Rattle.theory.specs.Arranged.{leftIn, Arranged, base-arranged}
+use Rattle.theory.specs.Columns.{MarkedIn, Marked, kept-forest}
 use Rattle.theory.specs.TableLinks.{place-link}
 use Rattle.theory.specs.RelayTrees.{AliveBetween}
-use Rattle.theory.specs.RelayRoutes.{RelayRoutes, routes-hold}
+use Rattle.theory.specs.RelayRoutes.{RoutesIn, routes-in}
 
 -- The places between the ends of a link of forest f are alive at f.
 link-alive : (left : ℕ → ℕ → ℕ) → LeftLaws left → (f p q : ℕ) → TreeLink left f p q → AliveBetween left f p q
@@ -41,11 +44,15 @@ link-differ : (left : ℕ → ℕ → ℕ) → LeftLaws left → (f p q : ℕ) �
 link-differ left laws f p q (inl l) same = omega (arith, laws .below f p (omega arith))
 link-differ left laws f p q (inr l) same = omega (arith, laws .below f q (omega arith))
 
-module _ (n : ℕ) (lows highs : List ℕ) (ok : Accepted n lows highs) (k : ℕ) (one : 1 ≤ k) (marks : List ℕ)
-    (marked : Marked n lows highs k marks) (dead : ℕ → Bool) (few : deadCount n dead < k) where
+-- A relay of the order that is not dead.
+abbrev pub LiveIn : List ℕ → (ℕ → Bool) → ℕ → Type 0
+LiveIn order dead r = (has order r ≡ true) × (dead r ≡ false)
+
+module _ (order lows highs : List ℕ) (arranged : Arranged order lows highs) (k : ℕ) (one : 1 ≤ k) (marks : List ℕ)
+    (marked : MarkedIn order lows highs k marks) (dead : ℕ → Bool) (few : count dead order < k) where
   -- Of k routes between two live relays one is live throughout: each dead relay is on at most one of them.
-  live-route : (a b : ℕ) → Live n dead a → Live n dead b → (routes : List (List ℕ)) → RelayRoutes n lows highs marks k a b routes
-      → Joined (Live n dead) (LinkOf lows highs (Kept marks)) a b
+  live-route : (a b : ℕ) → LiveIn order dead a → LiveIn order dead b → (routes : List (List ℕ))
+      → RoutesIn order lows highs marks k a b routes → Joined (LiveIn order dead) (LinkOf lows highs (Kept marks)) a b
   live-route a b la lb routes holds = go (free-list dead (λ i. getD routes i []) k)
     where
       ends-live : (x : ℕ) → dead x ≡ true → (x ≡ a) ⊎ (x ≡ b) → ⊥
@@ -57,16 +64,16 @@ module _ (n : ℕ) (lows highs : List ℕ) (ok : Accepted n lows highs) (k : ℕ
 
       go : ((i : ℕ) × (i < k) × ((x : ℕ) → has (getD routes i []) x ≡ true → dead x ≡ false))
           ⊎ ((i : ℕ) → i < k → (has (getD routes i []) (found i) ≡ true) × (dead (found i) ≡ true))
-          → Joined (Live n dead) (LinkOf lows highs (Kept marks)) a b
+          → Joined (LiveIn order dead) (LinkOf lows highs (Kept marks)) a b
       go (inl free) =
           let route : List ℕ = getD routes (free .0) [] in
           let route-holds = holds .each (free .0) (free .1) in
-          subst₂ (Joined (Live n dead) (LinkOf lows highs (Kept marks))) (route-holds .starts) (route-holds .ends)
+          subst₂ (Joined (LiveIn order dead) (LinkOf lows highs (Kept marks))) (route-holds .starts) (route-holds .ends)
           (route-joined route (omega (arith, route-holds .long))
           (λ x h. (holds .within (free .0) (free .1) x h, free .2 x h)) (route-holds .along))
       go (inr blocked) =
-          let all : k ≤ deadCount n dead =
-          pigeonhole dead n k found (λ i h. (holds .within i h (found i) (blocked i h .0), blocked i h .1))
+          let all : k ≤ count dead order =
+          pigeonhole dead order k found (λ i h. (holds .within i h (found i) (blocked i h .0), blocked i h .1))
           (λ i j less h e.
           ends-live (found i) (blocked i (omega arith) .1)
           (holds .apart i j (omega arith) h (omega arith) .relays (found i) (blocked i (omega arith) .0)
@@ -74,22 +81,54 @@ module _ (n : ℕ) (lows highs : List ℕ) (ok : Accepted n lows highs) (k : ℕ
           absurd (omega arith)
 
   -- A link of the table between live relays, replaced by a chain of kept links through live relays.
-  detour : (a b : ℕ) → Live n dead a → Live n dead b → LinkOf lows highs AnyLink a b
-      → Joined (Live n dead) (LinkOf lows highs (Kept marks)) a b
+  detour : (a b : ℕ) → LiveIn order dead a → LiveIn order dead b → LinkOf lows highs AnyLink a b
+      → Joined (LiveIn order dead) (LinkOf lows highs (Kept marks)) a b
   detour a b la lb l =
-      let left : ℕ → ℕ → ℕ = leftOf n lows highs in
-      let laws : LeftLaws left = left-laws n lows highs in
-      let f : ℕ = linkForest n lows highs (l .0) in
-      let p : ℕ = placeOf (orderOf n lows highs) a in
-      let q : ℕ = placeOf (orderOf n lows highs) b in
-      let link : TreeLink left f p q = place-link n lows highs ok (l .0) a b (l .1) (l .2) in
+      let left : ℕ → ℕ → ℕ = leftIn order lows highs in
+      let f : ℕ = linkForest order lows highs (l .0) in
+      let p : ℕ = placeOf order a in
+      let q : ℕ = placeOf order b in
+      let placed : Placed order lows highs (l .0) = joined-placed order lows highs a b (l .0) (la .0) (lb .0) (l .2) in
+      let link : TreeLink left f p q = place-link order lows highs arranged (l .0) a b (l .1) placed (l .2) in
       by-cases (decLe f k)
-      (λ kept. onward la (l .0, l .1, l .2, kept-forest n lows highs k marks marked (l .0) (l .1) kept) (alone lb))
+      (λ kept. onward la (l .0, l .1, l .2, kept-forest order lows highs k marks marked (l .0) (l .1) placed kept) (alone lb))
       (λ dropped.
-      let alive : AliveBetween left k p q = alive-lower left laws k f (min p q) (max p q) one (omega arith) (link-alive left laws f p q link) in
-      live-route a b la lb (routesOf n lows highs k a b)
-      (routes-hold n lows highs ok k one marks marked a b (la .0) (lb .0)
-      (λ e. link-differ left laws f p q link (ap (placeOf (orderOf n lows highs)) e)) alive))
+      let alive : AliveBetween left k p q =
+      alive-lower left (arranged .laws) k f (min p q) (max p q) one (omega arith) (link-alive left (arranged .laws) f p q link) in
+      live-route a b la lb (map (map (relayAt order)) (routesBetween left k p q))
+      (routes-in order lows highs arranged k marks marked one a b (la .0) (lb .0)
+      (λ e. link-differ left (arranged .laws) f p q link (ap (placeOf order) e)) alive))
+
+  -- All the links: any choice that has every link with both ends in the order.
+  pub survives-in : (chosen : ℕ → Type 0) → ((i : ℕ) → i < length lows → Placed order lows highs i → chosen i)
+      → (a b : ℕ) → Joined (LiveIn order dead) (LinkOf lows highs (Kept marks)) a b
+      ↔ Joined (LiveIn order dead) (LinkOf lows highs chosen) a b
+  survives-in chosen all a b = (
+    joined-replace (λ r s lr ls l.
+        onward lr (l .0, l .1, l .2, all (l .0) (l .1) (joined-placed order lows highs r s (l .0) (lr .0) (ls .0) (l .2))) (alone ls)),
+    joined-replace (λ r s lr ls l. detour r s lr ls (l .0, l .1, l .2, tt)),
+  )
+
+-- The base: all relays are in service, and all links are chosen.
+module _ (n : ℕ) (lows highs : List ℕ) (ok : Accepted n lows highs) (k : ℕ) (one : 1 ≤ k) (marks : List ℕ)
+    (marked : Marked n lows highs k marks) (dead : ℕ → Bool) (few : deadCount n dead < k) where
+  few-placed : count dead (orderOf n lows highs) < k
+  few-placed =
+      omega (
+        arith,
+        count-within dead (table (λ r. r) 0 n) (orderOf n lows highs) (order-no-repeat n lows highs)
+            (λ r h. range-has 0 n r (omega arith) (omega (arith, order-below n lows highs r h))),
+      )
 
   pub survives : (a b : ℕ) → Joined (Live n dead) (LinkOf lows highs (Kept marks)) a b ↔ Joined (Live n dead) (LinkOf lows highs AnyLink) a b
-  survives a b = (joined-map (λ r. r) (λ r l. l) (λ r s l. (l .0, l .1, l .2, tt)), joined-replace detour)
+  survives a b =
+      let general =
+      survives-in (orderOf n lows highs) lows highs (base-arranged n lows highs ok) k one marks (λ i h p. marked i h) dead few-placed
+      AnyLink (λ i h p. tt) a b in
+      (λ chain. back (general .0 (there chain)), λ chain. back (general .1 (there chain)))
+    where
+      there : {link : ℕ → ℕ → Type 0} → Joined (Live n dead) link a b → Joined (LiveIn (orderOf n lows highs) dead) link a b
+      there = joined-map (λ r. r) (λ r l. (order-has n lows highs r (l .0), l .1)) (λ r s l. l)
+
+      back : {link : ℕ → ℕ → Type 0} → Joined (LiveIn (orderOf n lows highs) dead) link a b → Joined (Live n dead) link a b
+      back = joined-map (λ r. r) (λ r l. (order-below n lows highs r (l .0), l .1)) (λ r s l. l)

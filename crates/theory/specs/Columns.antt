@@ -1,4 +1,4 @@
--- What Split and Cut write for each link of an accepted network: its forest number and its mark.
+-- The forest number and the mark of each link: over any order, and as Split and Cut write them for an accepted network.
 use Prim.Native.Nat.{ℕ, _≤_, _<_}
 use mathlib.Core.Bool.{false}
 use mathlib.Core.List.{List}
@@ -8,25 +8,38 @@ use borrow.Author.Tests.{le-leb, le-ltb}
 use lib.ListN.{length, getD, length-map}
 use Rattle.definitions.specs.Outcome.{refuseIf, andThen, ifDone}
 use Rattle.definitions.specs.Lists.{outside}
-use Rattle.definitions.specs.Network.{linked, Accepted}
+use Rattle.definitions.specs.Network.{Accepted}
 use Rattle.definitions.specs.Order.{orderOf}
-use Rattle.definitions.specs.Forests.{forestOf, forestsOf, forestsAfter, markOf, marksOf, cutAnswer, marksAfter}
+use Rattle.definitions.specs.Forests.{forestsOf, forestsAfter, markOf, marksOf, cutAnswer, marksAfter}
 use Rattle.definitions.specs.Demand.{Kept}
 use Rattle.lists.specs.Maps.{getD-map}
 use Rattle.lists.specs.Overwritten.{getD-overwrite}
+use Rattle.theory.specs.ForestNumbers.{linkForest, Placed}
 use Rattle.theory.specs.ForestBound.{forests-length, forests-at, forests-after}
 
--- The forest number of link i.
-abbrev pub linkForest : ℕ → List ℕ → List ℕ → ℕ → ℕ
-linkForest n lows highs i = forestOf (linked lows highs) (orderOf n lows highs) lows highs i
+-- A list with the forest number of each link, in any order: 0 for a link that has an end without a place.
+abbrev pub NumberedIn : List ℕ → List ℕ → List ℕ → List ℕ → Type 0
+NumberedIn order lows highs forests = (i : ℕ) → i < length lows → getD forests i 0 ≡ linkForest order lows highs i
 
--- A list with the forest number of each link.
+-- A list with the mark of each link that has both ends in the order, by its forest number.
+abbrev pub MarkedIn : List ℕ → List ℕ → List ℕ → ℕ → List ℕ → Type 0
+MarkedIn order lows highs k marks =
+    (i : ℕ) → i < length lows → Placed order lows highs i → getD marks i 0 ≡ markOf k (linkForest order lows highs i)
+
+-- "A link is kept if Cut marks it 1", and it does so for the links of forests 1 to k.
+pub kept-forest : (order lows highs : List ℕ) (k : ℕ) (marks : List ℕ) → MarkedIn order lows highs k marks
+    → (i : ℕ) → i < length lows → Placed order lows highs i → linkForest order lows highs i ≤ k → Kept marks i
+unfolding markOf
+kept-forest order lows highs k marks marked i h placed few =
+    marked i h placed ∙ (rw (le-leb (linkForest order lows highs i) k few))
+
+-- The base: every link has both ends in the order.
 abbrev pub Numbered : ℕ → List ℕ → List ℕ → List ℕ → Type 0
-Numbered n lows highs forests = (i : ℕ) → i < length lows → getD forests i 0 ≡ linkForest n lows highs i
+Numbered n lows highs forests = NumberedIn (orderOf n lows highs) lows highs forests
 
--- A list with the mark of each link, by its forest number.
 abbrev pub Marked : ℕ → List ℕ → List ℕ → ℕ → List ℕ → Type 0
-Marked n lows highs k marks = (i : ℕ) → i < length lows → getD marks i 0 ≡ markOf k (linkForest n lows highs i)
+Marked n lows highs k marks =
+    (i : ℕ) → i < length lows → getD marks i 0 ≡ markOf k (linkForest (orderOf n lows highs) lows highs i)
 
 -- Within the range of Cut, k passes its check.
 pub k-inside : (k : ℕ) → 1 ≤ k → k ≤ 32 → outside 1 32 k ≡ false
@@ -34,7 +47,7 @@ unfolding outside
 k-inside k one most = rw (le-ltb k 1 one, le-ltb 32 k most)
 
 module _ (n : ℕ) (lows highs : List ℕ) where
-  mark-entry : (k i : ℕ) → i < length lows → getD (marksOf n lows highs k) i 0 ≡ markOf k (linkForest n lows highs i)
+  mark-entry : (k i : ℕ) → i < length lows → getD (marksOf n lows highs k) i 0 ≡ markOf k (linkForest (orderOf n lows highs) lows highs i)
   unfolding marksOf
   mark-entry k i h =
       getD-map (markOf k) (forestsOf n lows highs) i 0 0 (omega (arith, forests-length n lows highs))
@@ -57,9 +70,3 @@ module _ (n : ℕ) (lows highs : List ℕ) where
   cut-marks ok k one most marks room i h =
       rw (ok, k-inside k one most, le-ltb (length marks) (length lows) room)
       (getD-overwrite (marksOf n lows highs k) marks i 0 (omega (arith, length-marks k)) ∙ mark-entry k i h)
-
-  -- "A link is kept if Cut marks it 1", and it does so for the links of forests 1 to k.
-  pub kept-forest : (k : ℕ) (marks : List ℕ) → Marked n lows highs k marks
-      → (i : ℕ) → i < length lows → linkForest n lows highs i ≤ k → Kept marks i
-  unfolding markOf
-  kept-forest k marks marked i h few = marked i h ∙ (rw (le-leb (linkForest n lows highs i) k few))

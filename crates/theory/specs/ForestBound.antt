@@ -1,5 +1,5 @@
 -- Forest i holds at most n − i links, each link is in one forest from 1 to n − 1, and the counts of all the forests add up to m:
--- of the forest numbers as defined, and of the list that Split leaves.
+-- of the forest numbers as defined, and of the list that Split leaves. The bound is proved over any order.
 use Prim.Native.Nat.{ℕ, suc, _-_, _≤_, _<_}
 use mathlib.Core.Bool.{Bool, true}
 use mathlib.Core.List.{List, [], _∷_, map}
@@ -12,10 +12,10 @@ use lib.ListN.{length, getD, take, length-map}
 use lib.Seq.{take-length}
 use Rattle.definitions.specs.Outcome.{done, refuseIf}
 use Rattle.definitions.specs.Lists.{table, overwrite, keep, has, count, total, greatest}
-use Rattle.definitions.specs.Network.{joins, linked, tableCheck, Accepted}
+use Rattle.definitions.specs.Network.{linked, tableCheck, Accepted}
 use Rattle.definitions.specs.Demand.{NoRepeat}
 use Rattle.definitions.specs.Order.{orderOf, relayAt}
-use Rattle.definitions.specs.Forests.{left, forestOf, forestsOf, splitAnswer, forestsAfter}
+use Rattle.definitions.specs.Forests.{forestOf, forestsOf, splitAnswer, forestsAfter}
 use Rattle.lists.specs.Outcomes.{refuse-not, then-done, if-done}
 use Rattle.lists.specs.Tests.{and-both}
 use Rattle.lists.specs.Tables.{length-table, getD-table}
@@ -24,72 +24,71 @@ use Rattle.lists.specs.Members.{has-keep, has-map, index-of, range-bounds, rang
 use Rattle.lists.specs.Distinct.{no-repeat-keep, no-repeat-map, range-no-repeat}
 use Rattle.lists.specs.Counting.{count-table, length-keep, no-longer}
 use Rattle.lists.specs.Totals.{total-counts}
-use Rattle.theory.specs.Accepted.{accepted}
-use Rattle.theory.specs.Links.{one-link}
+use Rattle.theory.specs.LeftLaws.{index-below}
 use Rattle.theory.specs.Ordering.{order-length}
-use Rattle.theory.specs.Left.{left-index}
-use Rattle.theory.specs.ForestNumbers.{earlierPlace, laterPlace, LinkForest, forest-of-link}
+use Rattle.theory.specs.ForestNumbers.{earlierPlace, laterPlace, linkForest, Placed, AllPlaced, links-placed, forest-of-link}
+use Rattle.theory.specs.Arranged.{leftIn, Arranged, arranged-forest, base-arranged}
 
 -- The indices of the links of forest f.
 unfoldable pub linksIn : List ℕ → List ℕ → List ℕ → ℕ → List ℕ
-linksIn order lows highs f = keep (λ j. eqb f (forestOf (linked lows highs) order lows highs j)) (table (λ r. r) 0 (length lows))
+linksIn order lows highs f = keep (λ j. eqb f (linkForest order lows highs j)) (table (λ r. r) 0 (length lows))
 
--- Over any order in which each link has its forest, and any table that joins no two relays twice.
-module _
-    (order lows highs : List ℕ)
-    (each : (i : ℕ) → i < length lows → LinkForest order lows highs i)
-    (one : (a b i j : ℕ) → i < length lows → j < length lows
-    → joins lows highs a b i ≡ true → joins lows highs a b j ≡ true → i ≡ j)
-  where
-    in-forest : (f j : ℕ) → has (linksIn order lows highs f) j ≡ true
-        → (j < length lows) × (f ≡ forestOf (linked lows highs) order lows highs j)
+-- Over any order; a link without a forest may be in the table.
+module _ (order lows highs : List ℕ) (arranged : Arranged order lows highs) where
+  -- The number of a link's forest is below its later place.
+  pub forest-below : (i : ℕ) → i < length lows → Placed order lows highs i
+      → linkForest order lows highs i < laterPlace order lows highs i
+  forest-below i h placed =
+      let link = arranged-forest order lows highs arranged i h placed in
+      index-below (leftIn order lows highs) (arranged .laws) (linkForest order lows highs i)
+      (laterPlace order lows highs i) (link .forest) (omega (arith, link .isLeft, link .some))
+
+  module _ (f : ℕ) (all : AllPlaced order lows highs f) where
+    in-forest : (j : ℕ) → has (linksIn order lows highs f) j ≡ true
+        → (j < length lows) × (f ≡ linkForest order lows highs j) × Placed order lows highs j
     unfolding linksIn
-    in-forest f j h =
-        let test : ℕ → Bool = λ x. eqb f (forestOf (linked lows highs) order lows highs x) in
-        let all = table (λ r. r) 0 (length lows) in
-        let both = and-both (has all j) (test j) (sym (has-keep test all j) ∙ h) in (
-          omega (arith, range-bounds 0 (length lows) j (both .0)),
-          eqb-true f (forestOf (linked lows highs) order lows highs j) (both .1),
-        )
+    in-forest j h =
+        let test : ℕ → Bool = λ x. eqb f (linkForest order lows highs x) in
+        let range = table (λ r. r) 0 (length lows) in
+        let both = and-both (has range j) (test j) (sym (has-keep test range j) ∙ h) in
+        let within : j < length lows = omega (arith, range-bounds 0 (length lows) j (both .0)) in
+        let number : f ≡ linkForest order lows highs j = eqb-true f (linkForest order lows highs j) (both .1) in
+        (within, number, all j within (sym number))
 
     -- The later place tells the link of a forest: left gives the earlier one.
-    told-by-place : (f i j : ℕ) → has (linksIn order lows highs f) i ≡ true → has (linksIn order lows highs f) j ≡ true
+    told-by-place : (i j : ℕ) → has (linksIn order lows highs f) i ≡ true → has (linksIn order lows highs f) j ≡ true
         → laterPlace order lows highs i ≡ laterPlace order lows highs j → i ≡ j
-    told-by-place f i j p q e =
-        let a = in-forest f i p in
-        let b = in-forest f j q in
-        let linkI = each i (a .0) in
-        let linkJ = each j (b .0) in
+    told-by-place i j p q e =
+        let a = in-forest i p in
+        let b = in-forest j q in
+        let linkI = arranged-forest order lows highs arranged i (a .0) (a .2) in
+        let linkJ = arranged-forest order lows highs arranged j (b .0) (b .2) in
         let sameLeft : earlierPlace order lows highs i ≡ earlierPlace order lows highs j =
-        sym (rw (← a .1) at (linkI .isLeft)) ∙ ap (left (linked lows highs) order f) e ∙ (rw (← b .1) at (linkJ .isLeft)) in
-        one (relayAt order (earlierPlace order lows highs j)) (relayAt order (laterPlace order lows highs j)) i j (a .0) (b .0)
+        sym (rw (← a .1) at (linkI .isLeft)) ∙ ap (leftIn order lows highs f) e ∙ (rw (← b .1) at (linkJ .isLeft)) in
+        arranged .once (relayAt order (earlierPlace order lows highs j)) (relayAt order (laterPlace order lows highs j)) i j (a .0) (b .0)
         (rw (sameLeft, e) at (linkI .ends))
         (linkJ .ends)
 
-    place-range : (f v : ℕ) → has (map (laterPlace order lows highs) (linksIn order lows highs f)) v ≡ true
+    place-range : (v : ℕ) → has (map (laterPlace order lows highs) (linksIn order lows highs f)) v ≡ true
         → has (table (λ r. r) (suc f) (length order - f)) v ≡ true
-    place-range f v h =
+    place-range v h =
         let w = has-map (laterPlace order lows highs) (linksIn order lows highs f) v h in
-        let a = in-forest f (w .0) (w .1) in
-        let link = each (w .0) (a .0) in
-        let number = forestOf (linked lows highs) order lows highs (w .0) in
-        let later = laterPlace order lows highs (w .0) in
-        let there : 0 < left (linked lows highs) order number later =
-        omega (arith, link .isLeft, link .some) in
-        let index = left-index (linked lows highs) order number later there in
+        let a = in-forest (w .0) (w .1) in
+        let link = arranged-forest order lows highs arranged (w .0) (a .0) (a .2) in
+        let index = forest-below (w .0) (a .0) (a .2) in
         range-has (suc f) (length order - f) v (omega (arith, w .2, a .1)) (omega (arith, w .2, a .1, link .within))
 
-    pub forest-size : (f : ℕ) → length (linksIn order lows highs f) ≤ length order - f
+    pub forest-size : length (linksIn order lows highs f) ≤ length order - f
     unfolding linksIn
-    forest-size f =
-        let test : ℕ → Bool = λ x. eqb f (forestOf (linked lows highs) order lows highs x) in
+    forest-size =
+        let test : ℕ → Bool = λ x. eqb f (linkForest order lows highs x) in
         let places = map (laterPlace order lows highs) (linksIn order lows highs f) in
         let unique : NoRepeat places =
-        no-repeat-map (laterPlace order lows highs) (linksIn order lows highs f) (told-by-place f)
+        no-repeat-map (laterPlace order lows highs) (linksIn order lows highs f) told-by-place
         (no-repeat-keep test (table (λ r. r) 0 (length lows)) (range-no-repeat 0 (length lows))) in
         omega (
           arith,
-          no-longer (table (λ r. r) (suc f) (length order - f)) places unique (place-range f),
+          no-longer (table (λ r. r) (suc f) (length order - f)) places unique place-range,
           length-map (linksIn order lows highs f) (laterPlace order lows highs),
           length-table (λ (r : ℕ). r) (suc f) (length order - f),
         )
@@ -114,7 +113,7 @@ module _ (n : ℕ) (lows highs : List ℕ) (ok : Accepted n lows highs) where
   forests-bound f =
       let order = orderOf n lows highs in
       let forest : ℕ → ℕ = forestOf (linked lows highs) order lows highs in
-      let size = forest-size order lows highs (forest-of-link n lows highs ok) (one-link n lows highs (accepted n lows highs ok)) f in
+      let size = forest-size order lows highs (base-arranged n lows highs ok) f (λ i h e. links-placed n lows highs ok i h) in
       omega (
         arith,
         size,
@@ -126,7 +125,9 @@ module _ (n : ℕ) (lows highs : List ℕ) (ok : Accepted n lows highs) where
   pub forests-range : (i : ℕ) → i < length lows → (1 ≤ getD (forestsOf n lows highs) i 0) × (getD (forestsOf n lows highs) i 0 < n)
   forests-range i h =
       let link = forest-of-link n lows highs ok i h in
-      omega (arith, forests-at n lows highs i h, link .forest, link .small, order-length n lows highs)
+      let order = orderOf n lows highs in
+      let below = forest-below order lows highs (base-arranged n lows highs ok) i h (links-placed n lows highs ok i h) in
+      omega (arith, forests-at n lows highs i h, link .forest, link .within, order-length n lows highs)
 
   -- "Each link is in exactly one forest, so the counts of all the forests add up to m."
   pub forests-total : total (table (λ f. count (eqb f) (forestsOf n lows highs)) 1 n) ≡ length lows

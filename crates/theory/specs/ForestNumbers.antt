@@ -18,8 +18,8 @@ use Rattle.definitions.specs.Route.{leftOf}
 use Rattle.theory.specs.Accepted.{accepted}
 use Rattle.theory.specs.Links.{joins-ends, joins-low-high, joins-high-low, joined-linked, linked-joined}
 use Rattle.theory.specs.Ordering.{order-no-repeat, order-has}
-use Rattle.theory.specs.Places.{relay-of-place, place-of-relay}
-use Rattle.theory.specs.Left.{left-range, left-below, left-index, left-linked, left-forest, forest-left}
+use Rattle.theory.specs.Places.{relay-of-place, place-of-relay, placed-in}
+use Rattle.theory.specs.Left.{left-range, left-below, left-linked, left-forest, forest-some, forest-left}
 
 -- The earlier and the later place of link i.
 abbrev pub earlierPlace : List ℕ → List ℕ → List ℕ → ℕ → ℕ
@@ -27,6 +27,18 @@ earlierPlace order lows highs i = min (placeOf order (getD lows i 0)) (placeOf o
 
 abbrev pub laterPlace : List ℕ → List ℕ → List ℕ → ℕ → ℕ
 laterPlace order lows highs i = max (placeOf order (getD lows i 0)) (placeOf order (getD highs i 0))
+
+-- The forest number of link i.
+abbrev pub linkForest : List ℕ → List ℕ → List ℕ → ℕ → ℕ
+linkForest order lows highs i = forestOf (linked lows highs) order lows highs i
+
+-- Both ends of link i have a place.
+abbrev pub Placed : List ℕ → List ℕ → List ℕ → ℕ → Type 0
+Placed order lows highs i = (has order (getD lows i 0) ≡ true) × (has order (getD highs i 0) ≡ true)
+
+-- Both ends of each link of forest f have a place: so it is of every forest from 1 on (`forest-placed`).
+abbrev pub AllPlaced : List ℕ → List ℕ → List ℕ → ℕ → Type 0
+AllPlaced order lows highs f = (i : ℕ) → i < length lows → linkForest order lows highs i ≡ f → Placed order lows highs i
 
 -- Link i in an order: its places, its forest, and that left gives the earlier place.
 pub record LinkForest (order lows highs : List ℕ) (i : ℕ) : Type 0 where
@@ -36,7 +48,6 @@ pub record LinkForest (order lows highs : List ℕ) (i : ℕ) : Type 0 where
   pub ends : joins lows highs (relayAt order (earlierPlace order lows highs i)) (relayAt order (laterPlace order lows highs i)) i
       ≡ true
   pub forest : 1 ≤ forestOf (linked lows highs) order lows highs i
-  pub small : forestOf (linked lows highs) order lows highs i < length order
   pub isLeft : left (linked lows highs) order (forestOf (linked lows highs) order lows highs i) (laterPlace order lows highs i)
       ≡ earlierPlace order lows highs i
 
@@ -52,21 +63,18 @@ module _ (order lows highs : List ℕ) where
       let v = laterPlace order lows highs i in
       let f = left-forest (linked lows highs) order u v some under within
       (joined-linked lows highs (relayAt order u) (relayAt order v) i h ends) in
-      let there : 0 < left (linked lows highs) order (forestOf (linked lows highs) order lows highs i) v = omega (arith, f .1) in
       record {
         some = some;
         under = under;
         within = within;
         ends = ends;
         forest = f .0;
-        small = omega (arith, left-index (linked lows highs) order (forestOf (linked lows highs) order lows highs i) v there);
         isLeft = f .1;
       }
 
-  pub link-forest : (i : ℕ) → i < length lows
-      → has order (getD lows i 0) ≡ true → has order (getD highs i 0) ≡ true → getD lows i 0 ≢ getD highs i 0
+  pub link-forest : (i : ℕ) → i < length lows → Placed order lows highs i → getD lows i 0 ≢ getD highs i 0
       → LinkForest order lows highs i
-  link-forest i h lowIn highIn apart = go (ltb p q) refl (ltb q p) refl
+  link-forest i h placed apart = go (ltb p q) refl (ltb q p) refl
     where
       p : ℕ
       p = placeOf order (getD lows i 0)
@@ -75,10 +83,10 @@ module _ (order lows highs : List ℕ) where
       q = placeOf order (getD highs i 0)
 
       low : (1 ≤ p) × (p ≤ length order) × (relayAt order p ≡ getD lows i 0)
-      low = relay-of-place order (getD lows i 0) lowIn
+      low = relay-of-place order (getD lows i 0) (placed .0)
 
       high : (1 ≤ q) × (q ≤ length order) × (relayAt order q ≡ getD highs i 0)
-      high = relay-of-place order (getD highs i 0) highIn
+      high = relay-of-place order (getD highs i 0) (placed .1)
 
       go : (s : Bool) → ltb p q ≡ s → (t : Bool) → ltb q p ≡ t → LinkForest order lows highs i
       go true e t f =
@@ -96,6 +104,23 @@ module _ (order lows highs : List ℕ) where
       go false e false f =
           let same : p ≡ q = omega (arith, ltb-false p q e, ltb-false q p f) in
           absurd (apart (sym (low .2) ∙ ap (relayAt order) same ∙ high .2))
+
+  pub places-placed : (i : ℕ) → 1 ≤ earlierPlace order lows highs i → Placed order lows highs i
+  places-placed i h = (placed-in order (getD lows i 0) (omega arith), placed-in order (getD highs i 0) (omega arith))
+
+  -- Only a link between relays of the order has a forest.
+  pub forest-placed : (f : ℕ) → 1 ≤ f → AllPlaced order lows highs f
+  unfolding forestOf
+  forest-placed f one i h e =
+      places-placed i
+      (forest-some (linked lows highs) order (earlierPlace order lows highs i) (laterPlace order lows highs i) (omega (arith, e)))
+
+  pub joined-placed : (a b i : ℕ) → has order a ≡ true → has order b ≡ true → joins lows highs a b i ≡ true → Placed order lows highs i
+  joined-placed a b i ha hb e = go (joins-ends lows highs a b i e)
+    where
+      go : ((getD lows i 0 ≡ a) × (getD highs i 0 ≡ b)) ⊎ ((getD lows i 0 ≡ b) × (getD highs i 0 ≡ a)) → Placed order lows highs i
+      go (inl p) = (ap (has order) (p .0) ∙ ha, ap (has order) (p .1) ∙ hb)
+      go (inr p) = (ap (has order) (p .0) ∙ hb, ap (has order) (p .1) ∙ ha)
 
   -- A left entry is a link of that forest.
   pub left-link : NoRepeat order → (f v : ℕ) → 0 < left (linked lows highs) order f v
@@ -139,16 +164,19 @@ module _ (order lows highs : List ℕ) where
           let b = ap (placeOf order) (e .1) ∙ backU in
           omega (arith, below)
 
--- The base: each link of an accepted table is in a forest from 1 to n − 1.
+-- The base: each link of an accepted table is in a forest.
 module _ (n : ℕ) (lows highs : List ℕ) where
+  pub links-placed : Accepted n lows highs → (i : ℕ) → i < length lows → Placed (orderOf n lows highs) lows highs i
+  links-placed ok i h =
+      let t = accepted n lows highs ok in (
+        order-has n lows highs (getD lows i 0) (omega (arith, t .ordered i h, t .below i h)),
+        order-has n lows highs (getD highs i 0) (t .below i h),
+      )
+
   pub forest-of-link : Accepted n lows highs → (i : ℕ) → i < length lows → LinkForest (orderOf n lows highs) lows highs i
   forest-of-link ok i h =
-      let t = accepted n lows highs ok in
-      let less = t .ordered i h in
-      link-forest (orderOf n lows highs) lows highs i h
-      (order-has n lows highs (getD lows i 0) (omega (arith, t .below i h)))
-      (order-has n lows highs (getD highs i 0) (t .below i h))
-      (omega arith)
+      let less = accepted n lows highs ok .ordered i h in
+      link-forest (orderOf n lows highs) lows highs i h (links-placed ok i h) (omega arith)
 
   pub link-of-left : (f v : ℕ) → 0 < leftOf n lows highs f v
       → (i : ℕ) × (i < length lows)

@@ -15,9 +15,10 @@ use Rattle.definitions.specs.Network.{linked as linkedIn}
 use Rattle.definitions.specs.Order.{weight, orderOf, relayAt}
 use Rattle.definitions.specs.Forests.{earlier, left, forestBetween}
 use Rattle.definitions.specs.Route.{leftOf}
-use Rattle.lists.specs.Positions.{position-which, position-at}
+use Rattle.lists.specs.Members.{index-of}
+use Rattle.lists.specs.Positions.{position-which, position-at, position-absent}
 use Rattle.lists.specs.Rising.{rising-entry, rising-has, rising-no-repeat, rising-ascends, rising-front}
-use Rattle.lists.specs.Rising.{rising-count, rising-length, rising-at}
+use Rattle.lists.specs.Rising.{rising-count, rising-at}
 use Rattle.theory.specs.LeftLaws.{LeftLaws}
 use Rattle.theory.specs.Ordering.{order-length, order-maximal}
 
@@ -102,12 +103,6 @@ module _ (linked : ℕ → ℕ → Bool) (order : List ℕ) where
       let r = left-range i v h in
       omega (arith, r .1, r .4, rising-entry (λ u. linked (relayAt order u) (relayAt order v)) (pred v) (pred i) (r .3) .1)
 
-  -- An index is below its place.
-  pub left-index : (i v : ℕ) → 0 < left linked order i v → i < v
-  left-index i v h =
-      let r = left-range i v h in
-      omega (arith, r .0, r .1, r .3, rising-length (λ u. linked (relayAt order u) (relayAt order v)) (pred v))
-
   -- The link between linked places u and v is in a forest, and there left is u.
   pub left-forest : (u v : ℕ) → 1 ≤ u → u < v → v ≤ length order → linked (relayAt order u) (relayAt order v) ≡ true
       → (1 ≤ forestBetween linked order u v) × (left linked order (forestBetween linked order u v) v ≡ u)
@@ -118,6 +113,19 @@ module _ (linked : ℕ → ℕ → Bool) (order : List ℕ) where
       rw (earlier-in v (omega arith) q) (rising-has test (pred v) u h (omega arith) e) in
       let w = position-which (earlier linked order v) u there in
       rw (w .2) (omega arith, w .3)
+
+  -- What has a forest is a place.
+  pub forest-some : (u v : ℕ) → 1 ≤ forestBetween linked order u v → 1 ≤ u
+  unfolding forestBetween
+  forest-some u v h = go (has (earlier linked order v) u) refl
+    where
+      go : (b : Bool) → has (earlier linked order v) u ≡ b → 1 ≤ u
+      go true e =
+          let at = earlier-some v (omega (arith, index-of (earlier linked order v) u e .1)) in
+          let test : ℕ → Bool = λ x. linked (relayAt order x) (relayAt order v) in
+          let w = index-of (rising test (pred v)) u (rw (earlier-in v (at .0) (at .1)) at e) in
+          omega (arith, w .2, rising-entry test (pred v) (w .0) (w .1) .0)
+      go false e = absurd (omega (arith, position-absent (earlier linked order v) u e))
 
   -- No other index of v leads to the same place.
   pub forest-left : (i v : ℕ) → 0 < left linked order i v → forestBetween linked order (left linked order i v) v ≡ i
@@ -160,7 +168,7 @@ module _ (linked : ℕ → ℕ → Bool) (order : List ℕ) where
             let countW = rising-count (λ x. linked x (getD order (pred w) 0)) order (pred v) within in
             let countV = rising-count (λ x. linked x (getD order (pred v) 0)) order (pred v) within in
             let more = maximal (pred v) (pred w) (omega arith) (omega (arith, r .2)) in
-            left-some i v (r .0) (omega arith) (omega (arith, r .2)) (omega arith);
+            omega (arith, left-some i v (r .0) (omega arith) (omega (arith, r .2)) (omega arith));
       }
 
 -- The base.

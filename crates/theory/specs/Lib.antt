@@ -7,6 +7,7 @@ pub mod Places
 pub mod Left
 pub mod Links
 pub mod ForestNumbers
+pub mod Arranged
 pub mod ForestBound
 pub mod Trees
 pub mod SweepShift

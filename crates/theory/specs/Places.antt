@@ -1,9 +1,10 @@
 -- Relays and places turn one into the other, in any order without repeats and in the base's; and Order's two lists are a maximal
 -- adjacency ordering.
 use Prim.Native.Nat.{ℕ, zero, suc, _-_, _≤_, _<_, pred}
-use mathlib.Core.Bool.{true, _||_}
+use mathlib.Core.Bool.{Bool, true, false, _||_}
 use mathlib.Core.List.{List, []}
-use mathlib.Core.Path.{_≡_, _∙_, ap}
+use mathlib.Core.Logic.{_≢_}
+use mathlib.Core.Path.{_≡_, refl, sym, _∙_, ap}
 use native.Mathlib.Nat.{zero-add}
 use native.Mathlib.Omega.{arith}
 use borrow.Author.Tests.{le-ltb}
@@ -18,7 +19,8 @@ use Rattle.lists.specs.Outcomes.{refuse-not, then-done, if-done}
 use Rattle.lists.specs.Tests.{or-neither}
 use Rattle.lists.specs.Tables.{length-table, getD-table}
 use Rattle.lists.specs.Overwritten.{getD-overwrite, take-overwrite}
-use Rattle.lists.specs.Positions.{position-which, position-at}
+use Rattle.lists.specs.Members.{has-at}
+use Rattle.lists.specs.Positions.{position-which, position-at, position-absent}
 use Rattle.theory.specs.Ordering.{order-length, order-no-repeat, order-has, order-at, order-maximal}
 
 pub relay-of-place : (order : List ℕ) (r : ℕ) → has order r ≡ true
@@ -27,6 +29,24 @@ unfolding placeOf relayAt
 relay-of-place order r h =
     let w = position-which order r h in
     (omega (arith, w .1, w .2), omega (arith, w .1, w .2), rw (w .2) (w .3))
+
+-- A relay with a place is in the order, and so is the relay at each place.
+pub placed-in : (order : List ℕ) (r : ℕ) → 1 ≤ placeOf order r → has order r ≡ true
+unfolding placeOf
+placed-in order r h = go (has order r) refl
+  where
+    go : (b : Bool) → has order r ≡ b → b ≡ true
+    go true e = refl
+    go false e = absurd (omega (arith, position-absent order r e))
+
+pub relay-in : (order : List ℕ) (v : ℕ) → 1 ≤ v → v ≤ length order → has order (relayAt order v) ≡ true
+unfolding relayAt
+relay-in order v h k = has-at order (pred v) (omega arith)
+
+-- Different relays of the order have different places.
+pub places-apart : (order : List ℕ) (a b : ℕ) → has order a ≡ true → has order b ≡ true → a ≢ b → placeOf order a ≢ placeOf order b
+places-apart order a b ha hb differ same =
+    differ (sym (relay-of-place order a ha .2) ∙ ap (relayAt order) same ∙ relay-of-place order b hb .2)
 
 pub place-of-relay : (order : List ℕ) → NoRepeat order → (v : ℕ) → 1 ≤ v → v ≤ length order → placeOf order (relayAt order v) ≡ v
 unfolding placeOf relayAt

@@ -1,5 +1,5 @@
 -- Routes between two relays, as relay numbers: what holds of routes between their places is carried over.
--- Of accepted networks.
+-- Over any order; then for the base and accepted networks.
 use Prim.Native.Nat.{ℕ, _+_, _-_, _*_, _≤_, _<_, max}
 use mathlib.Core.Bool.{true}
 use mathlib.Core.List.{List, [], _∷_, map}
@@ -18,56 +18,63 @@ use Rattle.lists.specs.Maps.{getD-map}
 use Rattle.lists.specs.Cuts.{length-joinAll-map}
 use Rattle.lists.specs.Chains.{along-map}
 use Rattle.lists.specs.Ends.{two-entries}
-use Rattle.theory.specs.Places.{relay-placed, place-named}
-use Rattle.theory.specs.Left.{left-laws}
-use Rattle.theory.specs.Columns.{Marked}
+use Rattle.theory.specs.Ordering.{order-length, order-has, order-below}
+use Rattle.theory.specs.Places.{relay-of-place, place-of-relay, relay-in, places-apart}
+use Rattle.theory.specs.Arranged.{leftIn, Arranged, base-arranged}
+use Rattle.theory.specs.Columns.{MarkedIn, Marked}
 use Rattle.theory.specs.TableLinks.{kept-link}
-use Rattle.theory.specs.RelayTrees.{AliveBetween, places-differ}
+use Rattle.theory.specs.RelayTrees.{AliveBetween}
 use Rattle.theory.specs.SharedLinks.{shared-link}
 use Rattle.theory.specs.PlaceRoutes.{LeftLink, RouteWithin, RoutesWithin}
 use Rattle.theory.specs.SweepRoutes.{routes-between}
 
--- k routes of relays from `from` to `to`.
-pub record RelayRoutes (n : ℕ) (lows highs marks : List ℕ) (k from to : ℕ) (routes : List (List ℕ)) : Type 0 where
+-- k routes from `from` to `to`, through some n relays.
+pub record RoutesThrough (n : ℕ) (relay : ℕ → Type 0) (lows highs marks : List ℕ) (k from to : ℕ) (routes : List (List ℕ)) : Type 0 where
   pub number : length routes ≡ k
   pub each : (i : ℕ) → i < k → RouteHolds lows highs marks from to (getD routes i [])
-  pub within : (i : ℕ) → i < k → (r : ℕ) → has (getD routes i []) r ≡ true → r < n
+  pub within : (i : ℕ) → i < k → (r : ℕ) → has (getD routes i []) r ≡ true → relay r
   pub apart : (i j : ℕ) → i < k → j < k → i ≢ j → Apart lows highs from to (getD routes i []) (getD routes j [])
   pub written : length (joinAll routes) ≤ n - 2 + 2 * k
 
-module _ (n : ℕ) (lows highs : List ℕ) (ok : Accepted n lows highs) (k : ℕ) (marks : List ℕ) (marked : Marked n lows highs k marks) where
+-- Through the relays of an order, and through all relays of the base.
+abbrev pub RoutesIn : List ℕ → List ℕ → List ℕ → List ℕ → ℕ → ℕ → ℕ → List (List ℕ) → Type 0
+RoutesIn order lows highs marks k from to routes =
+    RoutesThrough (length order) (λ r. has order r ≡ true) lows highs marks k from to routes
+
+abbrev pub RelayRoutes : ℕ → List ℕ → List ℕ → List ℕ → ℕ → ℕ → ℕ → List (List ℕ) → Type 0
+RelayRoutes n lows highs marks k from to routes = RoutesThrough n (λ r. r < n) lows highs marks k from to routes
+
+module _ (order lows highs : List ℕ) (arranged : Arranged order lows highs) (k : ℕ) (marks : List ℕ)
+    (marked : MarkedIn order lows highs k marks) where
   -- Places that have the same relay are the same.
-  same-place : (x y : ℕ) → 1 ≤ x → x ≤ n → 1 ≤ y → y ≤ n
-      → relayAt (orderOf n lows highs) x ≡ relayAt (orderOf n lows highs) y → x ≡ y
+  same-place : (x y : ℕ) → 1 ≤ x → x ≤ length order → 1 ≤ y → y ≤ length order → relayAt order x ≡ relayAt order y → x ≡ y
   same-place x y one low two high e =
-      sym (place-named n lows highs x one low .1) ∙ ap (placeOf (orderOf n lows highs)) e ∙ place-named n lows highs y two high .1
+      sym (place-of-relay order (arranged .unique) x one low) ∙ ap (placeOf order) e ∙ place-of-relay order (arranged .unique) y two high
 
-  module _ (from to : ℕ) (hf : from < n) (ht : to < n) (top : ℕ) (bound : top ≤ n) where
+  module _ (from to : ℕ) (hf : has order from ≡ true) (ht : has order to ≡ true) (top : ℕ) (bound : top ≤ length order) where
     abbrev OnPlaces : List ℕ → Type 0
-    OnPlaces route =
-        RouteWithin (leftOf n lows highs) k top (placeOf (orderOf n lows highs) from) (placeOf (orderOf n lows highs) to) route
+    OnPlaces route = RouteWithin (leftIn order lows highs) k top (placeOf order from) (placeOf order to) route
 
-    place-low : (route : List ℕ) → OnPlaces route → (x : ℕ) → has route x ≡ true → (1 ≤ x) × (x ≤ n)
+    place-low : (route : List ℕ) → OnPlaces route → (x : ℕ) → has route x ≡ true → (1 ≤ x) × (x ≤ length order)
     place-low route holds x h =
         let w = holds .within x h in
         (w .0, omega (arith, w .1))
 
-    route-holds : (route : List ℕ) → OnPlaces route
-        → RouteHolds lows highs marks from to (map (relayAt (orderOf n lows highs)) route)
+    route-holds : (route : List ℕ) → OnPlaces route → RouteHolds lows highs marks from to (map (relayAt order) route)
     route-holds route holds =
-        let at : ℕ → ℕ = relayAt (orderOf n lows highs) in
+        let at : ℕ → ℕ = relayAt order in
         let size : length (map at route) ≡ length route = length-map route at in
         let long : 2 ≤ length route = holds .long in
         let last : length (map at route) - 1 ≡ length route - 1 = omega arith in
         record {
           long = omega arith;
-          starts = getD-map at route 0 0 0 (omega arith) ∙ ap at (holds .starts) ∙ relay-placed n lows highs from hf .2;
+          starts = getD-map at route 0 0 0 (omega arith) ∙ ap at (holds .starts) ∙ relay-of-place order from hf .2;
           ends =
               ap (λ (i : ℕ). getD (map at route) i 0) last ∙ getD-map at route (length route - 1) 0 0 (omega arith)
-              ∙ ap at (holds .ends) ∙ relay-placed n lows highs to ht .2;
+              ∙ ap at (holds .ends) ∙ relay-of-place order to ht .2;
           along =
-              along-map (LeftLink (leftOf n lows highs) k) (LinkOf lows highs (Kept marks)) at
-              (λ u v l. kept-link n lows highs ok k marks marked (l .0) u v (l .2) (l .3)) route (holds .along);
+              along-map (LeftLink (leftIn order lows highs) k) (LinkOf lows highs (Kept marks)) at
+              (λ u v l. kept-link order lows highs arranged k marks marked (l .0) u v (l .2) (l .3)) route (holds .along);
           noRepeat =
               no-repeat-map at route
               (λ x y hx hy e.
@@ -79,12 +86,10 @@ module _ (n : ℕ) (lows highs : List ℕ) (ok : Accepted n lows highs) (k : ℕ
 
     -- Relays that two routes share come from places that they share.
     shared-relay : (one other : List ℕ) → OnPlaces one → OnPlaces other
-        → ((x : ℕ) → has one x ≡ true → has other x ≡ true
-        → (x ≡ placeOf (orderOf n lows highs) from) ⊎ (x ≡ placeOf (orderOf n lows highs) to))
-        → (r : ℕ) → has (map (relayAt (orderOf n lows highs)) one) r ≡ true → has (map (relayAt (orderOf n lows highs)) other) r ≡ true
-        → (r ≡ from) ⊎ (r ≡ to)
+        → ((x : ℕ) → has one x ≡ true → has other x ≡ true → (x ≡ placeOf order from) ⊎ (x ≡ placeOf order to))
+        → (r : ℕ) → has (map (relayAt order) one) r ≡ true → has (map (relayAt order) other) r ≡ true → (r ≡ from) ⊎ (r ≡ to)
     shared-relay one other hone hother shared r p q =
-        let at : ℕ → ℕ = relayAt (orderOf n lows highs) in
+        let at : ℕ → ℕ = relayAt order in
         let x = has-map at one r p in
         let y = has-map at other r q in
         let px = place-low one hone (x .0) (x .1) in
@@ -92,26 +97,23 @@ module _ (n : ℕ) (lows highs : List ℕ) (ok : Accepted n lows highs) (k : ℕ
         let same : y .0 ≡ x .0 = same-place (y .0) (x .0) (py .0) (py .1) (px .0) (px .1) (y .2 ∙ sym (x .2)) in
         go (x .0) (x .2) (shared (x .0) (x .1) (subst (λ (z : ℕ). has other z ≡ true) same (y .1)))
       where
-        go : (x : ℕ) → relayAt (orderOf n lows highs) x ≡ r
-            → (x ≡ placeOf (orderOf n lows highs) from) ⊎ (x ≡ placeOf (orderOf n lows highs) to) → (r ≡ from) ⊎ (r ≡ to)
-        go x e (inl s) = inl (sym e ∙ ap (relayAt (orderOf n lows highs)) s ∙ relay-placed n lows highs from hf .2)
-        go x e (inr s) = inr (sym e ∙ ap (relayAt (orderOf n lows highs)) s ∙ relay-placed n lows highs to ht .2)
+        go : (x : ℕ) → relayAt order x ≡ r → (x ≡ placeOf order from) ⊎ (x ≡ placeOf order to) → (r ≡ from) ⊎ (r ≡ to)
+        go x e (inl s) = inl (sym e ∙ ap (relayAt order) s ∙ relay-of-place order from hf .2)
+        go x e (inr s) = inr (sym e ∙ ap (relayAt order) s ∙ relay-of-place order to ht .2)
 
     -- A route of two relays is the direct one.
-    direct-places : (route : List ℕ) → OnPlaces route → length (map (relayAt (orderOf n lows highs)) route) ≡ 2
-        → route ≡ placeOf (orderOf n lows highs) from ∷ placeOf (orderOf n lows highs) to ∷ []
+    direct-places : (route : List ℕ) → OnPlaces route → length (map (relayAt order) route) ≡ 2
+        → route ≡ placeOf order from ∷ placeOf order to ∷ []
     direct-places route holds e =
-        two-entries route (sym (length-map route (relayAt (orderOf n lows highs))) ∙ e)
+        two-entries route (sym (length-map route (relayAt order)) ∙ e)
         ∙ ap₂ (λ (a b : ℕ). a ∷ b ∷ []) (holds .starts) (holds .ends)
 
     routes-apart : (one other : List ℕ) → OnPlaces one → OnPlaces other
-        → ((x : ℕ) → has one x ≡ true → has other x ≡ true
-        → (x ≡ placeOf (orderOf n lows highs) from) ⊎ (x ≡ placeOf (orderOf n lows highs) to))
-        → (one ≡ placeOf (orderOf n lows highs) from ∷ placeOf (orderOf n lows highs) to ∷ []
-        → other ≡ placeOf (orderOf n lows highs) from ∷ placeOf (orderOf n lows highs) to ∷ [] → ⊥)
-        → Apart lows highs from to (map (relayAt (orderOf n lows highs)) one) (map (relayAt (orderOf n lows highs)) other)
+        → ((x : ℕ) → has one x ≡ true → has other x ≡ true → (x ≡ placeOf order from) ⊎ (x ≡ placeOf order to))
+        → (one ≡ placeOf order from ∷ placeOf order to ∷ [] → other ≡ placeOf order from ∷ placeOf order to ∷ [] → ⊥)
+        → Apart lows highs from to (map (relayAt order) one) (map (relayAt order) other)
     routes-apart one other hone hother shared direct =
-        let at : ℕ → ℕ = relayAt (orderOf n lows highs) in
+        let at : ℕ → ℕ = relayAt order in
         let relays : (r : ℕ) → has (map at one) r ≡ true → has (map at other) r ≡ true → (r ≡ from) ⊎ (r ≡ to) =
         shared-relay one other hone hother shared in
         record {
@@ -124,10 +126,10 @@ module _ (n : ℕ) (lows highs : List ℕ) (ok : Accepted n lows highs) (k : ℕ
         }
 
     pub relay-routes : (routes : List (List ℕ))
-        → RoutesWithin (leftOf n lows highs) k top (placeOf (orderOf n lows highs) from) (placeOf (orderOf n lows highs) to) routes
-        → RelayRoutes n lows highs marks k from to (map (map (relayAt (orderOf n lows highs))) routes)
+        → RoutesWithin (leftIn order lows highs) k top (placeOf order from) (placeOf order to) routes
+        → RoutesIn order lows highs marks k from to (map (map (relayAt order)) routes)
     relay-routes routes holds =
-        let at : ℕ → ℕ = relayAt (orderOf n lows highs) in
+        let at : ℕ → ℕ = relayAt order in
         let entry : (i : ℕ) → getD (map (map at) routes) i [] ≡ map at (getD routes i []) = λ i. List·getD-map (map at) routes i [] in
         record {
           number = length-map routes (map at) ∙ holds .number;
@@ -136,7 +138,7 @@ module _ (n : ℕ) (lows highs : List ℕ) (ok : Accepted n lows highs) (k : ℕ
           within = λ i h r e.
               let x = has-map at (getD routes i []) r (subst (λ (l : List ℕ). has l r ≡ true) (entry i) e) in
               let low = place-low (getD routes i []) (holds .each i h) (x .0) (x .1) in
-              subst (λ (z : ℕ). z < n) (x .2) (place-named n lows highs (x .0) (low .0) (low .1) .0);
+              subst (λ (z : ℕ). has order z ≡ true) (x .2) (relay-in order (x .0) (low .0) (low .1));
           apart = λ i j hi hj ne.
               subst₂ (Apart lows highs from to) (sym (entry i)) (sym (entry j))
               (routes-apart (getD routes i []) (getD routes j []) (holds .each i hi) (holds .each j hj)
@@ -144,18 +146,34 @@ module _ (n : ℕ) (lows highs : List ℕ) (ok : Accepted n lows highs) (k : ℕ
           written = omega (arith, length-joinAll-map at routes, holds .written);
         }
 
--- The routes of Route, for two different relays with every place between theirs alive at k.
+  -- The sweep's routes, for two different relays of the order with every place between theirs alive at k.
+  pub routes-in : 1 ≤ k → (from to : ℕ) → has order from ≡ true → has order to ≡ true → from ≢ to
+      → AliveBetween (leftIn order lows highs) k (placeOf order from) (placeOf order to)
+      → RoutesIn order lows highs marks k from to
+      (map (map (relayAt order)) (routesBetween (leftIn order lows highs) k (placeOf order from) (placeOf order to)))
+  routes-in one from to hf ht differ alive =
+      let p : ℕ = placeOf order from in
+      let q : ℕ = placeOf order to in
+      let first = relay-of-place order from hf in
+      let last = relay-of-place order to ht in
+      relay-routes from to hf ht (max p q) (omega (arith, first .1, last .1)) (routesBetween (leftIn order lows highs) k p q)
+      (routes-between (leftIn order lows highs) (arranged .laws) k p q one (first .0) (last .0)
+      (places-apart order from to hf ht differ) alive)
+
+-- The base: the routes of Route.
 pub routes-hold : (n : ℕ) (lows highs : List ℕ) → Accepted n lows highs → (k : ℕ) → 1 ≤ k → (marks : List ℕ) → Marked n lows highs k marks
     → (from to : ℕ) → from < n → to < n → from ≢ to
     → AliveBetween (leftOf n lows highs) k (placeOf (orderOf n lows highs) from) (placeOf (orderOf n lows highs) to)
     → RelayRoutes n lows highs marks k from to (routesOf n lows highs k from to)
-unfolding routesOf
+unfolding routesOf leftOf
 routes-hold n lows highs ok k one marks marked from to hf ht differ alive =
-    let p : ℕ = placeOf (orderOf n lows highs) from in
-    let q : ℕ = placeOf (orderOf n lows highs) to in
-    let first = relay-placed n lows highs from hf in
-    let last = relay-placed n lows highs to ht in
-    relay-routes n lows highs ok k marks marked from to hf ht (max p q) (omega (arith, first .1, last .1))
-    (routesBetween (leftOf n lows highs) k p q)
-    (routes-between (leftOf n lows highs) (left-laws n lows highs) k p q one (first .0) (last .0)
-    (places-differ n lows highs from to hf ht differ) alive)
+    let r =
+    routes-in (orderOf n lows highs) lows highs (base-arranged n lows highs ok) k marks (λ i h p. marked i h) one from to
+    (order-has n lows highs from hf) (order-has n lows highs to ht) differ alive in
+    record {
+      number = r .number;
+      each = r .each;
+      within = λ i h x e. order-below n lows highs x (r .within i h x e);
+      apart = r .apart;
+      written = omega (arith, r .written, order-length n lows highs);
+    }

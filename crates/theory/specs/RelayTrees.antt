@@ -1,13 +1,14 @@
 -- Two relays are in one tree of a forest, as joined by its links, exactly if the test on their places says so.
--- Of accepted networks.
+-- Over any order; then for the base and accepted networks.
 use Prim.Native.Nat.{ℕ, _≤_, _<_, min, max}
 use mathlib.Core.Bool.{true}
 use mathlib.Core.List.{List}
 use mathlib.Core.Logic.{_↔_, _≢_, by-cases, Iff·trans, Iff·symm}
-use mathlib.Core.Path.{_≡_, sym, _∙_, ap, subst₂}
+use mathlib.Core.Path.{_≡_, _∙_, subst₂}
 use native.Mathlib.Decide.{decLt}
 use native.Mathlib.Omega.{arith}
 use lib.ListN.{length}
+use Rattle.definitions.specs.Lists.{has}
 use Rattle.definitions.specs.Network.{linked, Accepted}
 use Rattle.definitions.specs.Order.{orderOf, placeOf, relayAt}
 use Rattle.definitions.specs.Forests.{earlier, oneTree}
@@ -17,9 +18,12 @@ use Rattle.lists.specs.Joins.{joined-sym}
 use Rattle.lists.specs.Chains.{joined-map}
 use Rattle.theory.specs.LeftLaws.{LeftLaws}
 use Rattle.theory.specs.Trees.{Alive, TreeLink, treeLink-sym, chain-alive, oneTree-alive, oneTree-sym}
-use Rattle.theory.specs.Places.{relay-placed}
-use Rattle.theory.specs.Left.{left-count, left-laws}
-use Rattle.theory.specs.Columns.{Numbered}
+use Rattle.theory.specs.Ordering.{order-has}
+use Rattle.theory.specs.Places.{relay-of-place, places-apart}
+use Rattle.theory.specs.Left.{left-count}
+use Rattle.theory.specs.ForestNumbers.{AllPlaced, links-placed}
+use Rattle.theory.specs.Arranged.{leftIn, Arranged, base-arranged}
+use Rattle.theory.specs.Columns.{NumberedIn, Numbered}
 use Rattle.theory.specs.TableLinks.{forest-link, forest-places}
 
 -- The places above the earlier of two, up to the later.
@@ -53,46 +57,70 @@ module _ (left : ℕ → ℕ → ℕ) (laws : LeftLaws left) (i p q : ℕ) (one 
       (λ e. oneTree-sym left i q p ∙ e, λ e. oneTree-sym left i p q ∙ e)
       (oneTree-alive left laws i)
 
--- Different relays have different places.
-pub places-differ : (n : ℕ) (lows highs : List ℕ) (a b : ℕ) → a < n → b < n → a ≢ b
-    → placeOf (orderOf n lows highs) a ≢ placeOf (orderOf n lows highs) b
-places-differ n lows highs a b ha hb differ same =
-    differ (sym (relay-placed n lows highs a ha .2) ∙ ap (relayAt (orderOf n lows highs)) same ∙ relay-placed n lows highs b hb .2)
-
-module _ (n : ℕ) (lows highs : List ℕ) (ok : Accepted n lows highs) (forests : List ℕ) (numbered : Numbered n lows highs forests) where
+module _ (order lows highs : List ℕ) (arranged : Arranged order lows highs)
+    (forests : List ℕ) (numbered : NumberedIn order lows highs forests) (f : ℕ) (all : AllPlaced order lows highs f)
+    (a b : ℕ) (ha : has order a ≡ true) (hb : has order b ≡ true) where
   -- A chain of links of forest f, over relays and over places.
-  one-tree-chain : (f a b : ℕ) → a < n → b < n → OneTree lows highs forests f a b
-      ↔ Joined (λ _. Unit {0}) (TreeLink (leftOf n lows highs) f) (placeOf (orderOf n lows highs) a) (placeOf (orderOf n lows highs) b)
-  one-tree-chain f a b ha hb = (
-    joined-map (placeOf (orderOf n lows highs)) (λ r l. tt) (forest-places n lows highs ok forests numbered f),
-    λ chain. subst₂ (λ (x y : ℕ). OneTree lows highs forests f x y) (relay-placed n lows highs a ha .2) (relay-placed n lows highs b hb .2)
-        (joined-map (relayAt (orderOf n lows highs)) (λ r l. tt) (forest-link n lows highs ok forests numbered f) chain),
+  tree-chain : OneTree lows highs forests f a b
+      ↔ Joined (λ _. Unit {0}) (TreeLink (leftIn order lows highs) f) (placeOf order a) (placeOf order b)
+  tree-chain = (
+    joined-map (placeOf order) (λ r l. tt) (forest-places order lows highs arranged forests numbered f all),
+    λ chain. subst₂ (λ (x y : ℕ). OneTree lows highs forests f x y) (relay-of-place order a ha .2) (relay-of-place order b hb .2)
+        (joined-map (relayAt order) (λ r l. tt) (forest-link order lows highs arranged forests numbered f) chain),
   )
 
-  module _ (f a b : ℕ) (ha : a < n) (hb : b < n) (differ : a ≢ b) where
-    pub one-tree-alive : OneTree lows highs forests f a b
-        ↔ AliveBetween (leftOf n lows highs) f (placeOf (orderOf n lows highs) a) (placeOf (orderOf n lows highs) b)
-    one-tree-alive =
-        Iff·trans (one-tree-chain f a b ha hb)
-        (chain-between (leftOf n lows highs) (left-laws n lows highs) f (placeOf (orderOf n lows highs) a) (placeOf (orderOf n lows highs) b)
-        (relay-placed n lows highs a ha .0) (relay-placed n lows highs b hb .0) (places-differ n lows highs a b ha hb differ))
+  module _ (differ : a ≢ b) where
+    pub tree-alive : OneTree lows highs forests f a b ↔ AliveBetween (leftIn order lows highs) f (placeOf order a) (placeOf order b)
+    tree-alive =
+        Iff·trans tree-chain
+        (chain-between (leftIn order lows highs) (arranged .laws) f (placeOf order a) (placeOf order b)
+        (relay-of-place order a ha .0) (relay-of-place order b hb .0) (places-apart order a b ha hb differ))
 
-    pub one-tree-test : OneTree lows highs forests f a b ↔ (endsInOneTree n lows highs f a b ≡ true)
-    unfolding endsInOneTree
-    one-tree-test =
-        Iff·trans one-tree-alive
+    pub tree-test : OneTree lows highs forests f a b ↔ (oneTree (leftIn order lows highs) f (placeOf order a) (placeOf order b) ≡ true)
+    tree-test =
+        Iff·trans tree-alive
         (Iff·symm
-        (test-between (leftOf n lows highs) (left-laws n lows highs) f (placeOf (orderOf n lows highs) a) (placeOf (orderOf n lows highs) b)
-        (relay-placed n lows highs a ha .0) (relay-placed n lows highs b hb .0) (places-differ n lows highs a b ha hb differ)))
+        (test-between (leftIn order lows highs) (arranged .laws) f (placeOf order a) (placeOf order b)
+        (relay-of-place order a ha .0) (relay-of-place order b hb .0) (places-apart order a b ha hb differ)))
 
     -- Two relays are in one tree of forest f exactly if every place after the earlier up to the later has at least f earlier
     -- neighbours (document 002, lemma 1).
-    pub one-tree-neighbours : 1 ≤ f → OneTree lows highs forests f a b
-        ↔ ((x : ℕ) → min (placeOf (orderOf n lows highs) a) (placeOf (orderOf n lows highs) b) < x
-        → x ≤ max (placeOf (orderOf n lows highs) a) (placeOf (orderOf n lows highs) b)
-        → f ≤ length (earlier (linked lows highs) (orderOf n lows highs) x))
-    unfolding leftOf
-    one-tree-neighbours one = (
-      λ tree x over upto. left-count (linked lows highs) (orderOf n lows highs) f x one .0 (one-tree-alive .0 tree x over upto),
-      λ counts. one-tree-alive .1 (λ x over upto. left-count (linked lows highs) (orderOf n lows highs) f x one .1 (counts x over upto)),
+    pub tree-neighbours : 1 ≤ f → OneTree lows highs forests f a b
+        ↔ ((x : ℕ) → min (placeOf order a) (placeOf order b) < x → x ≤ max (placeOf order a) (placeOf order b)
+        → f ≤ length (earlier (linked lows highs) order x))
+    tree-neighbours one = (
+      λ tree x over upto. left-count (linked lows highs) order f x one .0 (tree-alive .0 tree x over upto),
+      λ counts. tree-alive .1 (λ x over upto. left-count (linked lows highs) order f x one .1 (counts x over upto)),
     )
+
+-- The base.
+pub places-differ : (n : ℕ) (lows highs : List ℕ) (a b : ℕ) → a < n → b < n → a ≢ b
+    → placeOf (orderOf n lows highs) a ≢ placeOf (orderOf n lows highs) b
+places-differ n lows highs a b ha hb =
+    places-apart (orderOf n lows highs) a b (order-has n lows highs a ha) (order-has n lows highs b hb)
+
+module _ (n : ℕ) (lows highs : List ℕ) (ok : Accepted n lows highs) (forests : List ℕ) (numbered : Numbered n lows highs forests)
+    (f a b : ℕ) (ha : a < n) (hb : b < n) (differ : a ≢ b) where
+  all-placed : AllPlaced (orderOf n lows highs) lows highs f
+  all-placed i h e = links-placed n lows highs ok i h
+
+  pub one-tree-alive : OneTree lows highs forests f a b
+      ↔ AliveBetween (leftOf n lows highs) f (placeOf (orderOf n lows highs) a) (placeOf (orderOf n lows highs) b)
+  unfolding leftOf
+  one-tree-alive =
+      tree-alive (orderOf n lows highs) lows highs (base-arranged n lows highs ok) forests numbered f all-placed a b
+      (order-has n lows highs a ha) (order-has n lows highs b hb) differ
+
+  pub one-tree-test : OneTree lows highs forests f a b ↔ (endsInOneTree n lows highs f a b ≡ true)
+  unfolding endsInOneTree leftOf
+  one-tree-test =
+      tree-test (orderOf n lows highs) lows highs (base-arranged n lows highs ok) forests numbered f all-placed a b
+      (order-has n lows highs a ha) (order-has n lows highs b hb) differ
+
+  pub one-tree-neighbours : 1 ≤ f → OneTree lows highs forests f a b
+      ↔ ((x : ℕ) → min (placeOf (orderOf n lows highs) a) (placeOf (orderOf n lows highs) b) < x
+      → x ≤ max (placeOf (orderOf n lows highs) a) (placeOf (orderOf n lows highs) b)
+      → f ≤ length (earlier (linked lows highs) (orderOf n lows highs) x))
+  one-tree-neighbours =
+      tree-neighbours (orderOf n lows highs) lows highs (base-arranged n lows highs ok) forests numbered f all-placed a b
+      (order-has n lows highs a ha) (order-has n lows highs b hb) differ

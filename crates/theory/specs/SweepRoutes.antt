@@ -137,22 +137,29 @@ module _ (left : ℕ → ℕ → ℕ) (laws : LeftLaws left) (k s t : ℕ) (less
         let meets : c .meet ≡ t = subst (λ (l : List ℕ). Trail left k t (c .meet) l) (nothing (c .restB) (omega arith)) (c .trailB) in
         ap (left i) (sym before) ∙ c .direct meets
 
+  -- Two routes share no place but their ends.
+  nothing-shared : (i h : ℕ) → 1 ≤ i → i ≤ k → 1 ≤ h → h ≤ k → i ≢ h → (x : ℕ)
+      → x ≢ s → x ≢ t
+      → has (slotRoute (slots i)) x ≡ true → has (slotRoute (slots h)) x ≡ true → ⊥
+  nothing-shared i h one le one′ le′ differ x notS notT inI inH =
+      let within : (1 ≤ x) × (x ≤ s) = route-holds i one le .within x inI in
+      differ (go (within .0) (omega arith) (omega arith) (route-has i one le x inI) (route-has h one′ le′ x inH))
+    where
+      go : 0 < x → x < s → x ≢ t
+          → (has (c i one le .meet ∷ c i one le .before ∷ c i one le .restA) x ≡ true) ⊎ (has (c i one le .restB) x ≡ true)
+          → (has (c h one′ le′ .meet ∷ c h one′ le′ .before ∷ c h one′ le′ .restA) x ≡ true) ⊎ (has (c h one′ le′ .restB) x ≡ true)
+          → i ≡ h
+      go some under other (inl p) (inl q) = inv .onceA i h x one le one′ le′ some under other (inA i one le x p) (inA h one′ le′ x q)
+      go some under other (inl p) (inr q) = inv .cross i h x one le one′ le′ some under other (inA i one le x p) (inB h one′ le′ x q) .0
+      go some under other (inr p) (inl q) = sym (inv .cross h i x one′ le′ one le some under other (inA h one′ le′ x q) (inB i one le x p) .0)
+      go some under other (inr p) (inr q) = inv .onceB i h x one le one′ le′ some under other (inB i one le x p) (inB h one′ le′ x q)
+
   routes-apart : (i h : ℕ) → 1 ≤ i → i ≤ k → 1 ≤ h → h ≤ k → i ≢ h → (x : ℕ)
       → has (slotRoute (slots i)) x ≡ true → has (slotRoute (slots h)) x ≡ true → (x ≡ s) ⊎ (x ≡ t)
   routes-apart i h one le one′ le′ differ x inI inH =
       by-cases (ℕ-discrete x s) inl
-      (λ notS. by-cases (ℕ-discrete x t) inr (λ notT.
-      let within : (1 ≤ x) × (x ≤ s) = route-holds i one le .within x inI in
-      absurd (differ (go notT (within .0) (omega arith) (route-has i one le x inI) (route-has h one′ le′ x inH)))))
-    where
-      go : x ≢ t → 0 < x → x < s
-          → (has (c i one le .meet ∷ c i one le .before ∷ c i one le .restA) x ≡ true) ⊎ (has (c i one le .restB) x ≡ true)
-          → (has (c h one′ le′ .meet ∷ c h one′ le′ .before ∷ c h one′ le′ .restA) x ≡ true) ⊎ (has (c h one′ le′ .restB) x ≡ true)
-          → i ≡ h
-      go notT some under (inl p) (inl q) = inv .onceA i h x one le one′ le′ some under notT (inA i one le x p) (inA h one′ le′ x q)
-      go notT some under (inl p) (inr q) = inv .cross i h x one le one′ le′ some under notT (inA i one le x p) (inB h one′ le′ x q) .0
-      go notT some under (inr p) (inl q) = sym (inv .cross h i x one′ le′ one le some under notT (inA h one′ le′ x q) (inB i one le x p) .0)
-      go notT some under (inr p) (inr q) = inv .onceB i h x one le one′ le′ some under notT (inB i one le x p) (inB h one′ le′ x q)
+      (λ notS. by-cases (ℕ-discrete x t) inr
+      (λ notT. absurd (nothing-shared i h one le one′ le′ differ x (omega arith) (omega arith) inI inH)))
 
   routes-direct : 1 ≤ t → (i h : ℕ) → 1 ≤ i → i < h → h ≤ k → slotRoute (slots i) ≡ s ∷ t ∷ [] → slotRoute (slots h) ≡ s ∷ t ∷ [] → ⊥
   routes-direct some i h one low le e f =

@@ -45,7 +45,7 @@ module _ (left : ℕ → ℕ → ℕ) (laws : LeftLaws left) where
   pub alive-left : (i x : ℕ) → 0 < left i x → Alive left i (left i x) x
   alive-left i x some y above upto =
       by-cases (decLt y x)
-      (λ less. laws .maximal i y x less some above)
+      (λ less. omega (arith, laws .maximal i y x less some above))
       (λ more. let same : x ≡ y = omega arith in subst (λ (z : ℕ). 0 < left i z) same some)
 
   pub alive-join : (i a b c : ℕ) → Alive left i a b → Alive left i b c → Alive left i a c
@@ -61,7 +61,7 @@ module _ (left : ℕ → ℕ → ℕ) (laws : LeftLaws left) where
       stays-below i x none r
       (by-cases (decLt b x) (λ yet. yet) (λ more. absurd
       (by-cases (decLt x b)
-      (λ over. let z : 0 < left i x = laws .maximal i x b over (omega arith) (omega arith) in omega arith)
+      (λ over. let z = laws .maximal i x b over (omega arith) (omega arith) in omega arith)
       (λ under. let same : b ≡ x = omega arith in
       let z : left i x ≡ a = subst (λ (y : ℕ). left i y ≡ a) same (p .1) in omega arith))))
 
