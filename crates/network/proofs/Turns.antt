@@ -25,7 +25,7 @@ links-step n lows highs i f h e =
     more = omega arith
 
 module _ (n : ℕ) (lows highs : List ℕ) (i : ℕ) (bits after : List ℕ) (r : LinkCheck)
-    (small : n ≤ 1000) (within : i < length lows) (seen : Seen bits lows highs i)
+    (within : i < length lows) (seen : Seen n bits lows highs i)
     (checked : LinkChecked n (getD lows i 0) (getD highs i 0) bits after r)
     (so-far : linksCheck n lows highs 0 (length lows) ≡ linksCheck n lows highs i (length lows - i)) where
   turn : (f : ℕ) → faultOf r ≡ f
@@ -33,7 +33,7 @@ module _ (n : ℕ) (lows highs : List ℕ) (i : ℕ) (bits after : List ℕ) (r 
   turn f answer =
       so-far
       ∙ links-step n lows highs i f within
-      (sym (seen-fault n (getD lows i 0) (getD highs i 0) lows highs i bits after r small seen checked) ∙ answer)
+      (sym (seen-fault n (getD lows i 0) (getD highs i 0) lows highs i bits after r seen checked) ∙ answer)
 
   pub turn-refused : (f : ℕ) → ltb 0 f ≡ true → faultOf r ≡ f → refused f i ≡ linksCheck n lows highs 0 (length lows)
   unfolding refuseIf

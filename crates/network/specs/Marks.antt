@@ -7,25 +7,26 @@ use mathlib.Core.Path.{_≡_, sym, _∙_, ap, ap₂}
 use lib.Dec.{eqb}
 use lib.ListN.{getD}
 use Rattle.definitions.specs.Lists.{someBelow}
-use Rattle.definitions.specs.Network.{pairNumber, isPair}
+use Rattle.definitions.specs.Network.{rowStart, pairNumber, isPair}
 use Rattle.lists.specs.SomeBelow.{some-next, some-same}
 use Rattle.network.specs.Pairs.{pair-below, pair-test}
 
--- Marked are the pairs of the first i links of the table, of all pairs of relays up to 999.
-abbrev pub Marks : (ℕ → Bool) → List ℕ → List ℕ → ℕ → Type 0
-Marks at lows highs i = (a b : ℕ) → a < b → b < 1000 → at (pairNumber a b) ≡ someBelow (isPair lows highs a b) i
+-- Marked are the pairs of the first i links of the table, of all pairs of n relays.
+abbrev pub Marks : ℕ → (ℕ → Bool) → List ℕ → List ℕ → ℕ → Type 0
+Marks n at lows highs i = (a b : ℕ) → a < b → b < n → at (pairNumber a b) ≡ someBelow (isPair lows highs a b) i
 
-pub marks-none : (at : ℕ → Bool) (lows highs : List ℕ) → ((p : ℕ) → p < 499500 → at p ≡ false) → Marks at lows highs 0
+pub marks-none : (n : ℕ) (at : ℕ → Bool) (lows highs : List ℕ) → ((p : ℕ) → p < rowStart n → at p ≡ false)
+    → Marks n at lows highs 0
 unfolding someBelow
-marks-none at lows highs none a b h k = none (pairNumber a b) (pair-below a b h k)
+marks-none n at lows highs none a b h k = none (pairNumber a b) (pair-below n a b h k)
 
 -- The next link's pair is marked too.
-pub marks-next : (at after : ℕ → Bool) (lows highs : List ℕ) (i a b : ℕ)
+pub marks-next : (n : ℕ) (at after : ℕ → Bool) (lows highs : List ℕ) (i a b : ℕ)
     → a < b → getD lows i 0 ≡ a → getD highs i 0 ≡ b
     → ((p : ℕ) → after p ≡ (at p || eqb p (pairNumber a b)))
-    → Marks at lows highs i → Marks after lows highs (i + 1)
+    → Marks n at lows highs i → Marks n after lows highs (i + 1)
 unfolding isPair
-marks-next at after lows highs i a b h low high marked marks c d k l =
+marks-next n at after lows highs i a b h low high marked marks c d k l =
     marked (pairNumber c d)
     ∙ ap₂ _||_ (marks c d k l) (pair-test c d a b k h ∙ sym this)
     ∙ or-comm (someBelow (isPair lows highs c d) i) (isPair lows highs c d i)
@@ -35,11 +36,11 @@ marks-next at after lows highs i a b h low high marked marks c d k l =
     this = ap₂ _&&_ (ap (λ (x : ℕ). eqb x c) low) (ap (λ (x : ℕ). eqb x d) high)
 
 -- The marks say nothing of the table past its first i links.
-pub marks-front : (at : ℕ → Bool) (lows highs lows′ highs′ : List ℕ) (i : ℕ)
+pub marks-front : (n : ℕ) (at : ℕ → Bool) (lows highs lows′ highs′ : List ℕ) (i : ℕ)
     → ((j : ℕ) → j < i → getD lows j 0 ≡ getD lows′ j 0) → ((j : ℕ) → j < i → getD highs j 0 ≡ getD highs′ j 0)
-    → Marks at lows highs i → Marks at lows′ highs′ i
+    → Marks n at lows highs i → Marks n at lows′ highs′ i
 unfolding isPair
-marks-front at lows highs lows′ highs′ i low high marks a b h k =
+marks-front n at lows highs lows′ highs′ i low high marks a b h k =
     marks a b h k
     ∙ some-same (isPair lows highs a b) (isPair lows′ highs′ a b) i λ j l.
     ap₂ _&&_ (ap (λ (x : ℕ). eqb x a) (low j l)) (ap (λ (x : ℕ). eqb x b) (high j l))

@@ -1,4 +1,4 @@
--- Pair numbers: different pairs a b, a below b, have different ones, and up to relay 999 they lie below 499,500.
+-- Pair numbers: different pairs a b, a below b, have different ones, and those of n relays lie below row start n.
 -- Assumes nothing.
 use Prim.Native.Nat.{ℕ, zero, suc, _+_, _-_, _*_, _≤_, _<_}
 use mathlib.Core.Bool.{Bool, true, false, _&&_}
@@ -30,12 +30,23 @@ in-row a b h = omega (arith, next-row b)
 pub row-product : (b : ℕ) → b < 1000 → b * (b - 1) ≤ 999 * 998
 row-product b h = mul-le-mul {n₂ = 999} {m₂ = 998} (omega arith) (omega arith)
 
-last-row : rowStart 1000 ≡ 499500
-unfolding rowStart
-last-row = refl
+pub pair-below : (n a b : ℕ) → a < b → b < n → pairNumber a b < rowStart n
+pair-below n a b h k = omega (arith, in-row a b h, rows-rise (suc b) n k)
 
-pub pair-below : (a b : ℕ) → a < b → b < 1000 → pairNumber a b < 499500
-pair-below a b h k = omega (arith, in-row a b h, rows-rise (suc b) 1000 k, last-row)
+-- How many pairs 128 and 1,000 relays have.
+last-row-of-128 : rowStart 128 ≡ 8128
+unfolding rowStart
+last-row-of-128 = refl
+
+last-row-of-1000 : rowStart 1000 ≡ 499500
+unfolding rowStart
+last-row-of-1000 = refl
+
+pub rows-of-128 : (n : ℕ) → n ≤ 128 → rowStart n ≤ 8128
+rows-of-128 n h = omega (arith, rows-rise n 128 h, last-row-of-128)
+
+pub rows-of-1000 : (n : ℕ) → n ≤ 1000 → rowStart n ≤ 499500
+rows-of-1000 n h = omega (arith, rows-rise n 1000 h, last-row-of-1000)
 
 same-row : (a b c d : ℕ) → a < b → c < d → pairNumber a b ≡ pairNumber c d → b < d → ⊥
 same-row a b c d h k e l = omega (arith, in-row a b h, in-row c d k, rows-rise (suc b) d l)

@@ -1,6 +1,6 @@
 -- One link checked against the marks of the links before it, and the marks afterwards: what `check_link` promises, and
 -- what that is for a table. The marks are bits by pair number. Assumes nothing.
-use Prim.Native.Nat.{ℕ, _+_, _/_, _≤_, _<_}
+use Prim.Native.Nat.{ℕ, _+_, _*_, _≤_, _<_}
 use mathlib.Core.Bool.{Bool, true, false, _||_}
 use mathlib.Core.List.{List, [], _∷_, _++_}
 use mathlib.Core.Path.{_≡_, refl, sym, _∙_, ap}
@@ -11,9 +11,9 @@ use lib.ListN.{length, getD, replicate, length-replicate, length-append, List·g
 use lib.Seq.{getD-append-seam}
 use Rattle.definitions.specs.Outcome.{pick}
 use Rattle.definitions.specs.Lists.{someBelow}
-use Rattle.definitions.specs.Network.{pairNumber, isPair, linkFault}
+use Rattle.definitions.specs.Network.{rowStart, pairNumber, isPair, linkFault}
 use Rattle.lists.specs.Bitmap.{marked, mark, marked-mark, marked-none, length-mark}
-use Rattle.network.specs.Pairs.{pair-below}
+use Rattle.network.specs.Pairs.{pair-below, rows-of-128, rows-of-1000}
 use Rattle.network.specs.Marks.{Marks, marks-none, marks-next, marks-front}
 use Rattle.network.specs.declared.LinkCheck.{LinkCheck}
 use Rattle.network.specs.declared.LinkCheck.the-variants.{Fine, RelayRange, NotBelow, Repeated}
@@ -38,27 +38,35 @@ pub record LinkChecked (n a b : ℕ) (bits after : List ℕ) (r : LinkCheck) : T
   pub fault : faultOf r ≡ faultAt n (marked bits) a b
   pub bitsThen : after ≡ bitsAfter n a b bits
 
--- The bits hold the pairs of the first i links of the table.
-pub record Seen (bits lows highs : List ℕ) (i : ℕ) : Type 0 where
-  pub long : length bits ≡ 7805
-  pub marks : Marks (marked bits) lows highs i
+-- The bits have room for the pairs of n relays: one bit for each pair number.
+abbrev pub RoomFor : ℕ → List ℕ → Type 0
+RoomFor n bits = rowStart n ≤ 64 * length bits
 
-word-within : (p : ℕ) → p < 499500 → p / 64 < 7805
-word-within p h = omega arith
+-- The bits hold the pairs of the first i links of the table, of all pairs of n relays.
+pub record Seen (n : ℕ) (bits lows highs : List ℕ) (i : ℕ) : Type 0 where
+  pub room : RoomFor n bits
+  pub marks : Marks n (marked bits) lows highs i
 
-pub seen-none : (bits lows highs : List ℕ) → bits ≡ replicate 7805 0 → Seen bits lows highs 0
-seen-none bits lows highs e =
+seen-none : (n words : ℕ) (bits lows highs : List ℕ) → rowStart n ≤ 64 * words → bits ≡ replicate words 0 → Seen n bits lows highs 0
+seen-none n words bits lows highs room e =
     record {
-      long = ap length e ∙ length-replicate {A = ℕ} 7805 0;
-      marks = marks-none (marked bits) lows highs
-          (λ p h. ap (λ (l : List ℕ). marked l p) e ∙ marked-none 7805 p (word-within p h));
+      room = omega (arith, ap length e ∙ length-replicate {A = ℕ} words 0);
+      marks = marks-none n (marked bits) lows highs
+          (λ p h. ap (λ (l : List ℕ). marked l p) e ∙ marked-none words p (omega arith));
     }
 
+-- No pair of up to 128, or up to 1,000, relays is marked yet.
+pub none-of-128 : (n : ℕ) (bits lows highs : List ℕ) → n ≤ 128 → bits ≡ replicate 127 0 → Seen n bits lows highs 0
+none-of-128 n bits lows highs h = seen-none n 127 bits lows highs (omega (arith, rows-of-128 n h))
+
+pub none-of-1000 : (n : ℕ) (bits lows highs : List ℕ) → n ≤ 1000 → bits ≡ replicate 7805 0 → Seen n bits lows highs 0
+none-of-1000 n bits lows highs h = seen-none n 7805 bits lows highs (omega (arith, rows-of-1000 n h))
+
 -- The fault by the marks is the fault by the table.
-pub fault-same : (n a b : ℕ) (at : ℕ → Bool) (lows highs : List ℕ) (i : ℕ) → n ≤ 1000 → Marks at lows highs i
+pub fault-same : (n a b : ℕ) (at : ℕ → Bool) (lows highs : List ℕ) (i : ℕ) → Marks n at lows highs i
     → faultAt n at a b ≡ linkFault n lows highs i a b
 unfolding faultAt linkFault
-fault-same n a b at lows highs i h marks = go (leb n a) (leb n b) (leb b a) refl refl refl
+fault-same n a b at lows highs i marks = go (leb n a) (leb n b) (leb b a) refl refl refl
   where
     go : (out₁ out₂ up : Bool) → leb n a ≡ out₁ → leb n b ≡ out₂ → leb b a ≡ up
         → _≡_ {A = ℕ} (pick (out₁ || out₂) 5 (pick up 6 (pick (at (pairNumber a b)) 7 0)))
@@ -68,7 +76,7 @@ fault-same n a b at lows highs i h marks = go (leb n a) (leb n b) (leb b a) refl
     go false false true e₁ e₂ e₃ = refl
     go false false false e₁ e₂ e₃ =
         ap (λ (t : Bool). pick {A = ℕ} t 7 0)
-        (marks a b (leb-false b a e₃) (omega (arith, leb-false n b e₂)))
+        (marks a b (leb-false b a e₃) (leb-false n b e₂))
 
 -- A link with no fault joins a lower relay to a higher one, both below n.
 pub fault-none : (n a b : ℕ) (at : ℕ → Bool) → faultAt n at a b ≡ 0 → (a < b) × (b < n)
@@ -86,29 +94,29 @@ bits-fine : (n a b : ℕ) (bits : List ℕ) → faultAt n (marked bits) a b ≡ 
 unfolding bitsAfter
 bits-fine n a b bits e = ap (λ (f : ℕ). pick (eqb f 0) (mark bits (pairNumber a b)) bits) e
 
-seen-mark : (n a b : ℕ) (lows highs : List ℕ) (i : ℕ) (bits : List ℕ) → n ≤ 1000 → Seen bits lows highs i
-    → a < b → b < n → getD lows i 0 ≡ a → getD highs i 0 ≡ b → Seen (mark bits (pairNumber a b)) lows highs (i + 1)
-seen-mark n a b lows highs i bits small seen up within low high =
+seen-mark : (n a b : ℕ) (lows highs : List ℕ) (i : ℕ) (bits : List ℕ) → Seen n bits lows highs i
+    → a < b → b < n → getD lows i 0 ≡ a → getD highs i 0 ≡ b → Seen n (mark bits (pairNumber a b)) lows highs (i + 1)
+seen-mark n a b lows highs i bits seen up within low high =
     record {
-      long = length-mark bits (pairNumber a b) ∙ seen .long;
-      marks = marks-next (marked bits) (marked (mark bits (pairNumber a b))) lows highs i a b up low high
-          (λ q. marked-mark bits (pairNumber a b) q (omega (arith, pair-below a b up (omega arith), seen .long)))
+      room = omega (arith, length-mark bits (pairNumber a b), seen .room);
+      marks = marks-next n (marked bits) (marked (mark bits (pairNumber a b))) lows highs i a b up low high
+          (λ q. marked-mark bits (pairNumber a b) q (omega (arith, pair-below n a b up within, seen .room)))
           (seen .marks);
     }
 
 -- For a table: the answer of `check_link` is the fault of the link after the first i, and after a fine link i the bits
 -- hold one link more.
 module _ (n a b : ℕ) (lows highs : List ℕ) (i : ℕ) (bits after : List ℕ) (r : LinkCheck)
-    (small : n ≤ 1000) (seen : Seen bits lows highs i) (checked : LinkChecked n a b bits after r) where
+    (seen : Seen n bits lows highs i) (checked : LinkChecked n a b bits after r) where
   pub seen-fault : faultOf r ≡ linkFault n lows highs i a b
-  seen-fault = checked .fault ∙ fault-same n a b (marked bits) lows highs i small (seen .marks)
+  seen-fault = checked .fault ∙ fault-same n a b (marked bits) lows highs i (seen .marks)
 
-  pub seen-next : faultOf r ≡ 0 → getD lows i 0 ≡ a → getD highs i 0 ≡ b → Seen after lows highs (i + 1)
+  pub seen-next : faultOf r ≡ 0 → getD lows i 0 ≡ a → getD highs i 0 ≡ b → Seen n after lows highs (i + 1)
   seen-next fine low high =
       let none : faultAt n (marked bits) a b ≡ 0 = sym (checked .fault) ∙ fine in
       let fit = fault-none n a b (marked bits) none in
       rw (checked .bitsThen ∙ bits-fine n a b bits none)
-      (seen-mark n a b lows highs i bits small seen (fit .0) (fit .1) low high)
+      (seen-mark n a b lows highs i bits seen (fit .0) (fit .1) low high)
 
 same-front : (xs : List ℕ) (x : ℕ) (j : ℕ) → j < length xs → getD xs j 0 ≡ getD (xs ++ (x ∷ [])) j 0
 same-front xs x j h = sym (List·getD-append xs (x ∷ []) 0 j h)
@@ -117,20 +125,20 @@ last-of : (xs : List ℕ) (x : ℕ) → getD (xs ++ (x ∷ [])) (length xs) 0 �
 last-of xs x = getD-append-seam xs x [] 0
 
 -- The same for a table that grows by the link: the bits hold all of it.
-pub seen-snoc : (n a b : ℕ) (lows highs bits after : List ℕ) (r : LinkCheck) → n ≤ 1000 → length lows ≡ length highs
-    → Seen bits lows highs (length lows) → LinkChecked n a b bits after r → faultOf r ≡ 0
-    → Seen after (lows ++ (a ∷ [])) (highs ++ (b ∷ [])) (length (lows ++ (a ∷ [])))
-seen-snoc n a b lows highs bits after r small even seen checked fine =
+pub seen-snoc : (n a b : ℕ) (lows highs bits after : List ℕ) (r : LinkCheck) → length lows ≡ length highs
+    → Seen n bits lows highs (length lows) → LinkChecked n a b bits after r → faultOf r ≡ 0
+    → Seen n after (lows ++ (a ∷ [])) (highs ++ (b ∷ [])) (length (lows ++ (a ∷ [])))
+seen-snoc n a b lows highs bits after r even seen checked fine =
     rw (length-append lows (a ∷ []))
-    (seen-next n a b (lows ++ (a ∷ [])) (highs ++ (b ∷ [])) (length lows) bits after r small grown checked fine
+    (seen-next n a b (lows ++ (a ∷ [])) (highs ++ (b ∷ [])) (length lows) bits after r grown checked fine
     (last-of lows a)
     (rw even (last-of highs b)))
   where
-    grown : Seen bits (lows ++ (a ∷ [])) (highs ++ (b ∷ [])) (length lows)
+    grown : Seen n bits (lows ++ (a ∷ [])) (highs ++ (b ∷ [])) (length lows)
     grown =
         record {
-          long = seen .long;
-          marks = marks-front (marked bits) lows highs (lows ++ (a ∷ [])) (highs ++ (b ∷ [])) (length lows)
+          room = seen .room;
+          marks = marks-front n (marked bits) lows highs (lows ++ (a ∷ [])) (highs ++ (b ∷ [])) (length lows)
               (λ j h. same-front lows a j h)
               (λ j h. same-front highs b j (rw even at h))
               (seen .marks);

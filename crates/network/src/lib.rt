@@ -6,7 +6,7 @@ ghost use lib.ListN.{length, replicate};
 ghost use Rattle.definitions.specs.Network.{rowStart, pairNumber, pairAnswer, linksCheck, tableCheck};
 ghost use Rattle.network.specs.Answers.{pairOutcome, checkOutcome};
 ghost use Rattle.network.specs.Refusals.{numberOf, placeOf};
-ghost use Rattle.network.specs.Seen.{LinkChecked, Seen};
+ghost use Rattle.network.specs.Seen.{RoomFor, LinkChecked, Seen};
 
 // A relay number, never a place in the order.
 pub struct Relay(pub u16);
@@ -109,16 +109,23 @@ fn pair_index(a: u16, b: u16) -> u32
     row_start(b) + a as u32
 }
 
-// No pair is marked yet: one bit for each of the 499,500 pair numbers.
-pub fn no_pairs() -> [u64; 7805]
+// No pair of up to 128 relays is marked yet: one bit for each of the 8,128 pair numbers.
+pub fn no_pairs_of_128() -> [u64; 127]
+    ensures { λ r. ⌜ r ≡ replicate 127 0 ⌝ }
+{
+    [0u64; 127]
+}
+
+// No pair of up to 1,000 relays is marked yet: one bit for each of the 499,500 pair numbers.
+pub fn no_pairs_of_1000() -> [u64; 7805]
     ensures { λ r. ⌜ r ≡ replicate 7805 0 ⌝ }
 {
     [0u64; 7805]
 }
 
 // Checks the link a b after those whose pairs are marked, and marks its pair if it is fine.
-pub fn check_link(n: u16, a: u16, b: u16, seen: &mut [u64; 7805]) -> LinkCheck
-    requires { ⌜ n ≤ 1000 ⌝ }
+pub fn check_link(n: u16, a: u16, b: u16, seen: &mut [u64]) -> LinkCheck
+    requires { ⌜ (n ≤ 1000) × RoomFor n (now seen) ⌝ }
     ensures { λ r. ⌜ LinkChecked n a b (now (seen .entry)) (now (seen .exit)) r ⌝ }
 {
     if n <= a {
@@ -143,8 +150,8 @@ pub fn check_link(n: u16, a: u16, b: u16, seen: &mut [u64; 7805]) -> LinkCheck
 }
 
 // Checks link by link, where no pair is marked yet.
-fn links_check(n: u16, lows: &[u16], highs: &[u16], seen: &mut [u64; 7805]) -> Check
-    requires { ⌜ (n ≤ 1000) × (length (now lows) ≡ length (now highs)) × Seen (now seen) (now lows) (now highs) 0 ⌝ }
+fn links_check(n: u16, lows: &[u16], highs: &[u16], seen: &mut [u64]) -> Check
+    requires { ⌜ (n ≤ 1000) × (length (now lows) ≡ length (now highs)) × Seen n (now seen) (now lows) (now highs) 0 ⌝ }
     ensures { λ r. ⌜ checkOutcome r ≡ linksCheck n (now (lows .entry)) (now (highs .entry)) 0 (length (now (lows .entry))) ⌝ }
 {
     let mut i = 0;
@@ -166,6 +173,19 @@ fn links_check(n: u16, lows: &[u16], highs: &[u16], seen: &mut [u64; 7805]) -> C
     Check::Accepted
 }
 
+// Checks link by link, with marks for as many relays as it takes.
+fn all_links_check(n: u16, lows: &[u16], highs: &[u16]) -> Check
+    requires { ⌜ (n ≤ 1000) × (length (now lows) ≡ length (now highs)) ⌝ }
+    ensures { λ r. ⌜ checkOutcome r ≡ linksCheck n (now (lows .entry)) (now (highs .entry)) 0 (length (now (lows .entry))) ⌝ }
+{
+    if n <= 128 {
+        let mut few = no_pairs_of_128();
+        return links_check(n, lows, highs, &mut few);
+    }
+    let mut seen = no_pairs_of_1000();
+    links_check(n, lows, highs, &mut seen)
+}
+
 // The table check, which every operation on a table makes first.
 pub fn table_check(n: u16, lows: &[u16], highs: &[u16]) -> Check
     ensures { λ r. ⌜ checkOutcome r ≡ tableCheck n (now (lows .entry)) (now (highs .entry)) ⌝ }
@@ -182,8 +202,7 @@ pub fn table_check(n: u16, lows: &[u16], highs: &[u16]) -> Check
     if 3000 < lows.len() {
         return Check::Refused(Refusal::LinkCount);
     }
-    let mut seen = no_pairs();
-    links_check(n, lows, highs, &mut seen)
+    all_links_check(n, lows, highs)
 }
 
 // The pair number of the link a b.

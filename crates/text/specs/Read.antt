@@ -83,14 +83,14 @@ module _ (text : List ℕ) (n i at : ℕ) (lows highs : List ℕ) where
         sameHighs = refl;
       }
 
-  module _ (bits : List ℕ) (a b p : ℕ) (then : List ℕ) (r : LinkCheck) (small : n ≤ 1000) (lowRoom : i < length lows) (highRoom : i < length highs)
-      (marks : Seen bits (take i lows) (take i highs) i) (checked : LinkChecked n a b bits then r)
+  module _ (bits : List ℕ) (a b p : ℕ) (then : List ℕ) (r : LinkCheck) (lowRoom : i < length lows) (highRoom : i < length highs)
+      (marks : Seen n bits (take i lows) (take i highs) i) (checked : LinkChecked n a b bits then r)
       (scanned : scanForm text linkForm at ≡ reads (a ∷ b ∷ []) p) where
     count-of : length (take i lows) ≡ i
     count-of = length-take-le i lows (omega arith)
 
     fault-of : linkFault n (take i lows) (take i highs) (length (take i lows)) a b ≡ faultOf r
-    fault-of = rw count-of (sym (seen-fault n a b (take i lows) (take i highs) i bits then r small marks checked))
+    fault-of = rw count-of (sym (seen-fault n a b (take i lows) (take i highs) i bits then r marks checked))
 
     pub read-faulty : (refusal : Refusal) → 0 < faultOf r → refusalOf {A = Network} refusal ≡ refused (faultOf r) i
         → LinkRead text n i at lows highs lows highs then (Refused refusal)
@@ -118,9 +118,9 @@ module _ (text : List ℕ) (n i at : ℕ) (lows highs : List ℕ) where
         grown : length (take i lows ++ (a ∷ [])) ≡ i + 1
         grown = length-append (take i lows) (a ∷ []) ∙ ap (λ (k : ℕ). k + 1) count-of
 
-        more : Seen then (take i lows ++ (a ∷ [])) (take i highs ++ (b ∷ [])) (length (take i lows ++ (a ∷ [])))
+        more : Seen n then (take i lows ++ (a ∷ [])) (take i highs ++ (b ∷ [])) (length (take i lows ++ (a ∷ [])))
         more =
-            seen-snoc n a b (take i lows) (take i highs) bits then r small
+            seen-snoc n a b (take i lows) (take i highs) bits then r
             (count-of ∙ sym (length-take-le i highs (omega arith))) (rw count-of marks) checked fine
 
 -- What a link line that was read, or refused, leaves of the whole reading.
@@ -142,9 +142,9 @@ module _ (text : List ℕ) (n i at : ℕ) (lows highs lowsThen highsThen bits : 
       let rest : ℕ → Outcome Network = λ q. readLinks text n (take (i + 1) lowsThen) (take (i + 1) highsThen) q (m - (i + 1)) in
       left ∙ rw more (link .follows (m - (i + 1)) ∙ ap (λ (s : Step). onStep s rest) e)
 
-  pub link-seen : (p : ℕ) → r ≡ Next p → Seen bits (take (i + 1) lowsThen) (take (i + 1) highsThen) (i + 1)
+  pub link-seen : (p : ℕ) → r ≡ Next p → Seen n bits (take (i + 1) lowsThen) (take (i + 1) highsThen) (i + 1)
   link-seen p e =
-      subst (λ (s : Step). IfRead s (Seen bits (take (i + 1) lowsThen) (take (i + 1) highsThen) (i + 1))) e (link .seen)
+      subst (λ (s : Step). IfRead s (Seen n bits (take (i + 1) lowsThen) (take (i + 1) highsThen) (i + 1))) e (link .seen)
 
 -- No link line is left.
 pub links-over : (text : List ℕ) (n i m p : ℕ) (lows highs : List ℕ) → i ≤ m → m ≤ i

@@ -25,7 +25,7 @@ IfRead (Refused refusal) claim = Unit {0}
 pub record LinkRead (text : List ℕ) (n i at : ℕ) (lows highs lowsThen highsThen bits : List ℕ) (r : Step) : Type 0 where
   pub follows : (count : ℕ) → readLinks text n (take i lows) (take i highs) at (suc count)
       ≡ onStep r (λ p. readLinks text n (take (i + 1) lowsThen) (take (i + 1) highsThen) p count)
-  pub seen : IfRead r (Seen bits (take (i + 1) lowsThen) (take (i + 1) highsThen) (i + 1))
+  pub seen : IfRead r (Seen n bits (take (i + 1) lowsThen) (take (i + 1) highsThen) (i + 1))
   pub sameLows : length lowsThen ≡ length lows
   pub sameHighs : length highsThen ≡ length highs
 

@@ -99,8 +99,7 @@ fn read_lines(
     requires { ⌜ (n ≤ 1000) × (m ≤ length (now lows)) × (m ≤ length (now highs)) ⌝ }
     ensures { λ r. ⌜ TableRead (readLinks (now (text .entry)) n [] [] at m) (now (lows .entry)) (now (highs .entry)) (now (lows .exit)) (now (highs .exit)) r ⌝ }
 {
-    let mut seen = network::no_pairs();
-    match rows::read_links(text, n, m as usize, at, lows, highs, &mut seen) {
+    match rows::read_all_links(text, n, m as usize, at, lows, highs) {
         Step::Refused(refusal) => ReadAnswer::Refused(refusal),
         Step::Next(p) => match rows::read_end(text, p) {
             Step::Refused(refusal) => ReadAnswer::Refused(refusal),

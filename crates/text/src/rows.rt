@@ -24,10 +24,10 @@ pub fn read_link(
     at: usize,
     lows: &mut [u16],
     highs: &mut [u16],
-    seen: &mut [u64; 7805],
+    seen: &mut [u64],
 ) -> Step
     requires { ⌜ (n ≤ 1000) × (i < length (now lows)) × (i < length (now highs)) ⌝ }
-    requires { ⌜ Seen (now seen) (take i (now lows)) (take i (now highs)) i ⌝ }
+    requires { ⌜ Seen n (now seen) (take i (now lows)) (take i (now highs)) i ⌝ }
     ensures { λ r. ⌜ LinkRead (now (text .entry)) n i at (now (lows .entry)) (now (highs .entry)) (now (lows .exit)) (now (highs .exit)) (now (seen .exit)) r ⌝ }
 {
     match crate::mark::form_at(text, at, Due::Link) {
@@ -53,10 +53,10 @@ pub fn read_links(
     at: usize,
     lows: &mut [u16],
     highs: &mut [u16],
-    seen: &mut [u64; 7805],
+    seen: &mut [u64],
 ) -> Step
     requires { ⌜ (n ≤ 1000) × (m ≤ length (now lows)) × (m ≤ length (now highs)) ⌝ }
-    requires { ⌜ Seen (now seen) [] [] 0 ⌝ }
+    requires { ⌜ Seen n (now seen) [] [] 0 ⌝ }
     ensures { λ r. ⌜ LinksRead (now (text .entry)) n m at (now (lows .entry)) (now (highs .entry)) (now (lows .exit)) (now (highs .exit)) r ⌝ }
 {
     let mut p = at;
@@ -73,6 +73,26 @@ pub fn read_links(
         i += 1;
     }
     Step::Next(p)
+}
+
+// All m link lines, with marks for as many relays as it takes.
+pub fn read_all_links(
+    text: &[u8],
+    n: u16,
+    m: usize,
+    at: usize,
+    lows: &mut [u16],
+    highs: &mut [u16],
+) -> Step
+    requires { ⌜ (n ≤ 1000) × (m ≤ length (now lows)) × (m ≤ length (now highs)) ⌝ }
+    ensures { λ r. ⌜ LinksRead (now (text .entry)) n m at (now (lows .entry)) (now (highs .entry)) (now (lows .exit)) (now (highs .exit)) r ⌝ }
+{
+    if n <= 128 {
+        let mut few = network::no_pairs_of_128();
+        return read_links(text, n, m, at, lows, highs, &mut few);
+    }
+    let mut seen = network::no_pairs_of_1000();
+    read_links(text, n, m, at, lows, highs, &mut seen)
 }
 
 // The end line, and nothing after it.

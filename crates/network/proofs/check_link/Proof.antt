@@ -1,5 +1,6 @@
 -- `network::check_link` meets its contract: proofs/Links.antt has each way through the code. Assumes nothing.
 use Prim.Native.Nat.{_<_, _/_}
+use lib.ListN.{length}
 use borrow.Author.Needs.{needs}
 use native.Mathlib.Omega.{arith}
 use Rattle.network.specs.Pairs.{pair-below}
@@ -9,17 +10,17 @@ use Rattle.network.proofs.check_link.Tie as tie
 
 returns : tie.Need-returns
 returns c =
-    let a = c .before .args in
+    let a = c .before .before .args in
     low-outside (a .n) (a .a) (a .b) (a .seen .now) (c .if1 .taken)
 
 returns-2 : tie.Need-returns-2
 returns-2 c =
-    let a = c .before .before .args in
+    let a = c .before .before .before .args in
     high-outside (a .n) (a .a) (a .b) (a .seen .now) (c .before .if1 .left) (c .if2 .taken)
 
 returns-3 : tie.Need-returns-3
 returns-3 c =
-    let a = c .before .before .before .args in
+    let a = c .before .before .before .before .args in
     not-below (a .n) (a .a) (a .b) (a .seen .now) (c .before .before .if1 .left) (c .before .if2 .left) (c .if3 .taken)
 
 pair-index-requires : tie.Need-pair-index-requires
@@ -31,13 +32,13 @@ cast-pair c = search needs
 mul-bits : tie.Need-mul-bits
 mul-bits c = search needs
 
-pair-word : (c : tie.After-pair-index) → c .pair-index .result / 64 < 7805
+pair-word : (c : tie.After-pair-index) → c .pair-index .result / 64 < length (c .before .before .before .before .before .args .seen .now)
 pair-word c =
-    let a = c .before .before .before .before .args in
-    omega (arith, c .pair-index .ensures, pair-below (a .a) (a .b) (omega arith) (omega arith))
+    let a = c .before .before .before .before .before .args in
+    omega (arith, c .pair-index .ensures, pair-below (a .n) (a .a) (a .b) (omega arith) (omega arith))
 
-element-copy-out-bits : tie.Need-element-copy-out-bits
-element-copy-out-bits c = pair-word c
+slice-read-bits : tie.Need-slice-read-bits
+slice-read-bits c = pair-word (c .before)
 
 shl-marked : tie.Need-shl-marked
 shl-marked c = search needs
@@ -47,7 +48,7 @@ shr-if4 c = search needs
 
 returns-4 : tie.Need-returns-4
 returns-4 c =
-    let a = c .before .before .before .before .before .before .args in
+    let a = c .before .before .before .before .before .before .before .args in
     repeated (a .n) (a .a) (a .b) (a .seen .now)
     (omega arith) (omega arith) (omega arith)
     (c .before .before .pair-index .result)
@@ -57,12 +58,15 @@ returns-4 c =
 mul-seen : tie.Need-mul-seen
 mul-seen c = search needs
 
-element-write-seen : tie.Need-element-write-seen
-element-write-seen c = pair-word (c .before .before)
+slice-write-seen : tie.Need-slice-write-seen
+slice-write-seen c = pair-word (c .before .before)
+
+same-length : tie.Need-same-length
+same-length c = search needs
 
 returns-5 : tie.Need-returns-5
 returns-5 c =
-    let a = c .before .before .before .before .before .before .args in
+    let a = c .before .before .before .before .before .before .before .args in
     fine (a .n) (a .a) (a .b) (a .seen .now)
     (omega arith) (omega arith) (omega arith)
     (c .before .before .pair-index .result)
@@ -79,10 +83,11 @@ check-link-spec =
     pair-index-requires
     cast-pair
     mul-bits
-    element-copy-out-bits
+    slice-read-bits
     shl-marked
     shr-if4
     returns-4
     mul-seen
-    element-write-seen
+    slice-write-seen
+    same-length
     returns-5)

@@ -2,7 +2,7 @@
 use borrow.Author.Needs.{needs}
 use native.Mathlib.Omega.{arith}
 use Rattle.definitions.specs.Network.{pairNumber}
-use Rattle.network.specs.Pairs.{pair-below}
+use Rattle.network.specs.Pairs.{pair-below, rows-of-1000}
 use Rattle.network.proofs.pair_index.Statement.{statement}
 use Rattle.network.proofs.pair_index.Tie as tie
 
@@ -15,7 +15,8 @@ add-result c =
     omega (
       arith,
       c .row-start .ensures,
-      pair-below (c .before .args .a) (c .before .args .b) (c .before .pre .0) (c .before .pre .1),
+      pair-below 1000 (c .before .args .a) (c .before .args .b) (c .before .pre .0) (c .before .pre .1),
+      rows-of-1000 1000 (omega arith),
     )
 
 returns : tie.Need-returns

@@ -1,12 +1,10 @@
--- `network::table_check` meets its contract: the tests on the way to each answer are those of the definition, and no pair
--- is marked before the first link. Assumes nothing.
-use native.Mathlib.Omega.{arith}
+-- `network::table_check` meets its contract: the tests on the way to each answer are those of the definition.
+-- Assumes nothing.
 use borrow.Author.Needs.{needs}
 use borrow.Author.Tests.{lt-ltb, le-ltb, eq-eqb, ne-eqb}
 use Rattle.definitions.specs.Outcome.{refuseIf}
 use Rattle.definitions.specs.Lists.{outside}
 use Rattle.definitions.specs.Network.{tableCheck}
-use Rattle.network.specs.Seen.{seen-none}
 use Rattle.network.proofs.table_check.Statement.{statement}
 use Rattle.network.proofs.table_check.Tie as tie
 
@@ -33,26 +31,21 @@ returns-4 c =
       lt-ltb _ _ (c .if4 .taken),
     )
 
-no-pairs-requires : tie.Need-no-pairs-requires
-no-pairs-requires c κs = search needs
-
-links-check-requires : tie.Need-links-check-requires
-links-check-requires c κs =
-    let a = c .before .before .before .before .before .before .before .before .args in
-    (omega arith, omega arith, seen-none _ (a .lows .now) (a .highs .now) (c .before .no-pairs .ensures))
+all-links-check-requires : tie.Need-all-links-check-requires
+all-links-check-requires c κs = search needs
 
 returns-5 : tie.Need-returns-5
 unfolding tableCheck outside refuseIf
 returns-5 c =
     simp (
-      le-ltb _ _ (c .before .before .before .before .before .before .if1 .left),
-      le-ltb _ _ (c .before .before .before .before .before .if2 .left),
-      eq-eqb _ _ (c .before .before .before .before .if3 .left),
-      le-ltb _ _ (c .before .before .before .if4 .left),
+      le-ltb _ _ (c .before .before .before .before .if1 .left),
+      le-ltb _ _ (c .before .before .before .if2 .left),
+      eq-eqb _ _ (c .before .before .if3 .left),
+      le-ltb _ _ (c .before .if4 .left),
     )
-    (c .links-check .ensures)
+    (c .all-links-check .ensures)
 
 pub table-check-spec : {M : Type 1} → statement M
 table-check-spec =
     tie.close
-    (tie.spec returns returns-2 returns-3 returns-4 no-pairs-requires links-check-requires returns-5)
+    (tie.spec returns returns-2 returns-3 returns-4 all-links-check-requires returns-5)

@@ -1,17 +1,12 @@
 -- `text::read_lines` meets its contract: a refused link line, a refused end, or a whole table. Assumes nothing.
-use mathlib.Core.List.{[]}
 use native.Mathlib.Omega.{arith}
 use borrow.Author.Needs.{needs}
-use Rattle.network.specs.Seen.{seen-none}
 use Rattle.text.specs.Tables.{links-refused, end-refused, table-whole}
 use Rattle.text.proofs.read_lines.Statement.{statement}
 use Rattle.text.proofs.read_lines.Tie as tie
 
-no-pairs-requires : tie.Need-no-pairs-requires
-no-pairs-requires c κs = search needs
-
-read-links-requires : tie.Need-read-links-requires
-read-links-requires c κs = ((omega arith, omega arith, omega arith), seen-none _ [] [] (c .before .before .before .no-pairs .ensures))
+read-all-links-requires : tie.Need-read-all-links-requires
+read-all-links-requires c κs = search needs
 
 enum-known-refusal : tie.Need-enum-known-refusal
 enum-known-refusal c = search needs
@@ -35,7 +30,7 @@ same-length-2 : tie.Need-same-length-2
 same-length-2 c = search needs
 
 returns : tie.Need-returns
-returns c = links-refused _ _ _ _ _ _ _ _ _ (c .before .before .before .before .before .before .before .read-links .ensures) _ (c .before .refusal .given .1)
+returns c = links-refused _ _ _ _ _ _ _ _ _ (c .before .before .before .before .before .before .before .read-all-links .ensures) _ (c .before .refusal .given .1)
 
 same-length-3 : tie.Need-same-length-3
 same-length-3 c = search needs
@@ -45,7 +40,7 @@ same-length-4 c = search needs
 
 returns-2 : tie.Need-returns-2
 returns-2 c =
-    end-refused _ _ _ _ _ _ _ _ _ (c .before .before .before .before .before .before .before .before .before .before .before .read-links .ensures) _ (c .before .before .before .before .before .p .given .1) _ (c .before .before .before .read-end .ensures)
+    end-refused _ _ _ _ _ _ _ _ _ (c .before .before .before .before .before .before .before .before .before .before .before .read-all-links .ensures) _ (c .before .before .before .before .before .p .given .1) _ (c .before .before .before .read-end .ensures)
     _ (c .before .refusal2 .given .1)
 
 same-length-5 : tie.Need-same-length-5
@@ -56,15 +51,14 @@ same-length-6 c = search needs
 
 returns-3 : tie.Need-returns-3
 returns-3 c =
-    table-whole _ _ _ _ _ _ _ _ _ (c .before .before .before .before .before .before .before .before .before .before .read-links .ensures) _ (c .before .before .before .before .p .given .1) _ (c .before .before .read-end .ensures)
-    _ (c .enum-told .given .1) (omega (arith, c .before .before .before .before .before .before .before .before .before .before .before .before .before .before .before .before .before .before .pre)) (omega (arith, c .before .before .before .before .before .before .before .before .before .before .before .before .before .before .before .before .before .before .pre))
+    table-whole _ _ _ _ _ _ _ _ _ (c .before .before .before .before .before .before .before .before .before .before .read-all-links .ensures) _ (c .before .before .before .before .p .given .1) _ (c .before .before .read-end .ensures)
+    _ (c .enum-told .given .1) (omega (arith, c .before .before .before .before .before .before .before .before .before .before .before .before .before .before .before .before .pre)) (omega (arith, c .before .before .before .before .before .before .before .before .before .before .before .before .before .before .before .before .pre))
 
 pub read-lines-spec : {M : Type 1} → statement M
 read-lines-spec =
     tie.close
     (tie.spec
-    no-pairs-requires
-    read-links-requires
+    read-all-links-requires
     enum-known-refusal
     enum-known-p
     read-end-requires

@@ -20,7 +20,9 @@ enum-known-a : tie.Need-enum-known-a
 enum-known-a c = search needs
 
 check-link-requires : tie.Need-check-link-requires
-check-link-requires c κs = search needs
+check-link-requires c κs =
+    let start = c .before .before .before .before .before .before .before .before .before in
+    (start .pre .0 .0, start .pre .1 .room)
 
 enum-told : tie.Need-enum-told
 enum-told c = search needs
@@ -48,54 +50,62 @@ slice-write-highs c = search needs
 
 returns : tie.Need-returns
 returns c =
-    let a = c .before .before .before .before .before .before .before .args in
+    let a = c .before .before .before .before .before .before .before .before .args in
     read-departs (now (a .text)) (a .n) (a .i) (a .at) (now (a .lows)) (now (a .highs)) _ _
     (sym (c .before .before .before .form-at .ensures) ∙ ap pairGives (c .before .p .given .1))
-
-returns-2 : tie.Need-returns-2
-returns-2 c =
-    let a = c .before .before .before .before .before .before .before .before .before .before .before .args in
-    let fault = ap faultOf (c .enum-told .given .1) in
-    read-faulty (now (a .text)) (a .n) (a .i) (a .at) (now (a .lows)) (now (a .highs)) (now (a .seen)) _ _ _ _ _
-    (c .before .before .before .before .before .before .before .before .before .before .before .pre .0 .0) (c .before .before .before .before .before .before .before .before .before .before .before .pre .0 .1) (c .before .before .before .before .before .before .before .before .before .before .before .pre .0 .2) (c .before .before .before .before .before .before .before .before .before .before .before .pre .1)
-    (c .before .before .check-link .ensures)
-    (sym (c .before .before .before .before .before .before .before .form-at .ensures) ∙ ap pairGives (c .before .before .before .before .before .a .given .1))
-    (RelayRange (a .i)) (omega (arith, fault)) (rw fault)
-
-returns-3 : tie.Need-returns-3
-returns-3 c =
-    let a = c .before .before .before .before .before .before .before .before .before .before .before .args in
-    let fault = ap faultOf (c .enum-told2 .given .1) in
-    read-faulty (now (a .text)) (a .n) (a .i) (a .at) (now (a .lows)) (now (a .highs)) (now (a .seen)) _ _ _ _ _
-    (c .before .before .before .before .before .before .before .before .before .before .before .pre .0 .0) (c .before .before .before .before .before .before .before .before .before .before .before .pre .0 .1) (c .before .before .before .before .before .before .before .before .before .before .before .pre .0 .2) (c .before .before .before .before .before .before .before .before .before .before .before .pre .1)
-    (c .before .before .check-link .ensures)
-    (sym (c .before .before .before .before .before .before .before .form-at .ensures) ∙ ap pairGives (c .before .before .before .before .before .a .given .1))
-    (NotBelow (a .i)) (omega (arith, fault)) (rw fault)
-
-returns-4 : tie.Need-returns-4
-returns-4 c =
-    let a = c .before .before .before .before .before .before .before .before .before .before .before .args in
-    let fault = ap faultOf (c .enum-told3 .given .1) in
-    read-faulty (now (a .text)) (a .n) (a .i) (a .at) (now (a .lows)) (now (a .highs)) (now (a .seen)) _ _ _ _ _
-    (c .before .before .before .before .before .before .before .before .before .before .before .pre .0 .0) (c .before .before .before .before .before .before .before .before .before .before .before .pre .0 .1) (c .before .before .before .before .before .before .before .before .before .before .before .pre .0 .2) (c .before .before .before .before .before .before .before .before .before .before .before .pre .1)
-    (c .before .before .check-link .ensures)
-    (sym (c .before .before .before .before .before .before .before .form-at .ensures) ∙ ap pairGives (c .before .before .before .before .before .a .given .1))
-    (Repeated (a .i)) (omega (arith, fault)) (rw fault)
 
 same-length : tie.Need-same-length
 same-length c = search needs
 
+returns-2 : tie.Need-returns-2
+returns-2 c =
+    let a = c .before .before .before .before .before .before .before .before .before .before .before .before .before .before .args in
+    let pre = c .before .before .before .before .before .before .before .before .before .before .before .before .before .before .pre in
+    let scanned = sym (c .before .before .before .before .before .before .before .before .before .form-at .ensures) ∙ ap pairGives (c .before .before .before .before .before .before .before .a .given .1) in
+    let fault = ap faultOf (c .enum-told .given .1) in
+    read-faulty (now (a .text)) (a .n) (a .i) (a .at) (now (a .lows)) (now (a .highs)) (now (a .seen)) _ _ _ _ _
+    (pre .0 .1) (pre .0 .2) (pre .1) (c .before .before .before .before .check-link .ensures) scanned (RelayRange (a .i)) (omega (arith, fault)) (rw fault)
+
 same-length-2 : tie.Need-same-length-2
 same-length-2 c = search needs
 
+returns-3 : tie.Need-returns-3
+returns-3 c =
+    let a = c .before .before .before .before .before .before .before .before .before .before .before .before .before .before .args in
+    let pre = c .before .before .before .before .before .before .before .before .before .before .before .before .before .before .pre in
+    let scanned = sym (c .before .before .before .before .before .before .before .before .before .form-at .ensures) ∙ ap pairGives (c .before .before .before .before .before .before .before .a .given .1) in
+    let fault = ap faultOf (c .enum-told2 .given .1) in
+    read-faulty (now (a .text)) (a .n) (a .i) (a .at) (now (a .lows)) (now (a .highs)) (now (a .seen)) _ _ _ _ _
+    (pre .0 .1) (pre .0 .2) (pre .1) (c .before .before .before .before .check-link .ensures) scanned (NotBelow (a .i)) (omega (arith, fault)) (rw fault)
+
+same-length-3 : tie.Need-same-length-3
+same-length-3 c = search needs
+
+returns-4 : tie.Need-returns-4
+returns-4 c =
+    let a = c .before .before .before .before .before .before .before .before .before .before .before .before .before .before .args in
+    let pre = c .before .before .before .before .before .before .before .before .before .before .before .before .before .before .pre in
+    let scanned = sym (c .before .before .before .before .before .before .before .before .before .form-at .ensures) ∙ ap pairGives (c .before .before .before .before .before .before .before .a .given .1) in
+    let fault = ap faultOf (c .enum-told3 .given .1) in
+    read-faulty (now (a .text)) (a .n) (a .i) (a .at) (now (a .lows)) (now (a .highs)) (now (a .seen)) _ _ _ _ _
+    (pre .0 .1) (pre .0 .2) (pre .1) (c .before .before .before .before .check-link .ensures) scanned (Repeated (a .i)) (omega (arith, fault)) (rw fault)
+
+same-length-4 : tie.Need-same-length-4
+same-length-4 c = search needs
+
+same-length-5 : tie.Need-same-length-5
+same-length-5 c = search needs
+
+same-length-6 : tie.Need-same-length-6
+same-length-6 c = search needs
+
 returns-5 : tie.Need-returns-5
 returns-5 c =
-    let a = c .before .before .before .before .before .before .before .before .before .before .before .args in
+    let a = c .before .before .before .before .before .before .before .before .before .before .before .before .before .before .args in
+    let pre = c .before .before .before .before .before .before .before .before .before .before .before .before .before .before .pre in
+    let scanned = sym (c .before .before .before .before .before .before .before .before .before .form-at .ensures) ∙ ap pairGives (c .before .before .before .before .before .before .before .a .given .1) in
     read-fine (now (a .text)) (a .n) (a .i) (a .at) (now (a .lows)) (now (a .highs)) (now (a .seen)) _ _ _ _ _
-    (c .before .before .before .before .before .before .before .before .before .before .before .pre .0 .0) (c .before .before .before .before .before .before .before .before .before .before .before .pre .0 .1) (c .before .before .before .before .before .before .before .before .before .before .before .pre .0 .2) (c .before .before .before .before .before .before .before .before .before .before .before .pre .1)
-    (c .before .before .check-link .ensures)
-    (sym (c .before .before .before .before .before .before .before .form-at .ensures) ∙ ap pairGives (c .before .before .before .before .before .a .given .1))
-    (ap faultOf (c .enum-told4 .given .1))
+    (pre .0 .1) (pre .0 .2) (pre .1) (c .before .before .before .before .check-link .ensures) scanned (ap faultOf (c .enum-told4 .given .1))
 
 pub read-link-spec : {M : Type 1} → statement M
 read-link-spec =
@@ -114,9 +124,13 @@ read-link-spec =
     mul-highs
     slice-write-highs
     returns
-    returns-2
-    returns-3
-    returns-4
     same-length
+    returns-2
     same-length-2
+    returns-3
+    same-length-3
+    returns-4
+    same-length-4
+    same-length-5
+    same-length-6
     returns-5)

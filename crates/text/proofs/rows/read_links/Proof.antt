@@ -15,8 +15,8 @@ use Rattle.text.proofs.rows.read_links.Tie as tie
 
 abbrev Inv-loop : tie.InvT-loop
 Inv-loop text n m at lows₀ highs₀ seen₀ p₀ i₀ lows highs seen p i =
-    (i ≤ m) × (length lows ≡ length lows₀) × (length highs ≡ length highs₀)
-    × Seen seen (take i lows) (take i highs) i
+    (i ≤ m) × (length lows ≡ length lows₀) × (length highs ≡ length highs₀) × (length seen ≡ length seen₀)
+    × Seen n seen (take i lows) (take i highs) i
     × (readLinks text n [] [] at m ≡ readLinks text n (take i lows) (take i highs) p (m - i))
 
 abbrev μ-loop : tie.MeasureT-loop
@@ -24,14 +24,14 @@ abbrev μ-loop : tie.MeasureT-loop
 
 loop-holds : tie.Need-loop-holds Inv-loop μ-loop
 loop-holds c =
-    let a = c .before .before .before .args in
+    let a = c .before .before .before .before .args in
     let e : a .m - 0 ≡ a .m = omega arith in
-    (omega arith, refl, refl, c .before .before .before .pre .1, rw e)
+    (omega arith, refl, refl, refl, c .before .before .before .before .pre .1, rw e)
 
 read-link-requires : tie.Need-read-link-requires Inv-loop μ-loop
 read-link-requires c κs =
     let l = c .before .before .before .before .loop in
-    ((omega arith, omega arith, omega arith), l .inv .3)
+    ((omega arith, omega arith, omega arith), l .inv .4)
 
 enum-known-next : tie.Need-enum-known-next Inv-loop μ-loop
 enum-known-next c = search needs
@@ -40,17 +40,20 @@ enum-known-refusal : tie.Need-enum-known-refusal Inv-loop μ-loop
 enum-known-refusal c = search needs
 
 same-length : tie.Need-same-length Inv-loop μ-loop
-same-length c = c .before .before .before .before .before .before .before .read-link .ensures .sameLows ∙ c .before .before .before .before .before .before .before .before .before .before .before .before .loop .inv .1
+same-length c = c .before .before .before .before .before .before .before .before .before .read-link .ensures .sameLows ∙ c .before .before .before .before .before .before .before .before .before .before .before .before .before .before .loop .inv .1
 
 same-length-2 : tie.Need-same-length-2 Inv-loop μ-loop
-same-length-2 c = c .before .before .before .before .before .before .before .read-link .ensures .sameHighs ∙ c .before .before .before .before .before .before .before .before .before .before .before .before .loop .inv .2
+same-length-2 c = c .before .before .before .before .before .before .before .before .before .read-link .ensures .sameHighs ∙ c .before .before .before .before .before .before .before .before .before .before .before .before .before .before .loop .inv .2
+
+same-length-3 : tie.Need-same-length-3 Inv-loop μ-loop
+same-length-3 c = search needs
 
 returns : tie.Need-returns Inv-loop μ-loop
 returns c =
-    let l = c .before .before .before .before .before .before .before .before .before .before .before .before .loop in
-    let link = c .before .before .before .before .before .before .before .read-link .ensures in
+    let l = c .before .before .before .before .before .before .before .before .before .before .before .before .before .before .loop in
+    let link = c .before .before .before .before .before .before .before .before .before .read-link .ensures in
     record {
-      follows = link-refused _ _ _ _ _ _ _ _ _ _ link (c .before .refusal .given .0 .0) _ _ (c .before .refusal .given .1) (omega arith) (l .inv .4);
+      follows = link-refused _ _ _ _ _ _ _ _ _ _ link (c .before .refusal .given .0 .0) _ _ (c .before .refusal .given .1) (omega arith) (l .inv .5);
       sameLows = link .sameLows ∙ l .inv .1;
       sameHighs = link .sameHighs ∙ l .inv .2;
     }
@@ -63,27 +66,31 @@ loop-less c = omega arith
 
 loop-again : tie.Need-loop-again Inv-loop μ-loop
 loop-again c =
-    let l = c .before .before .before .before .before .before .before .before .before .before .before .before .loop in
-    let link = c .before .before .before .before .before .before .before .read-link .ensures in (
+    let l = c .before .before .before .before .before .before .before .before .before .before .before .before .before .before .loop in
+    let link = c .before .before .before .before .before .before .before .before .before .read-link .ensures in (
       omega arith,
       link .sameLows ∙ l .inv .1,
       link .sameHighs ∙ l .inv .2,
+      search needs,
       link-seen _ _ _ _ _ _ _ _ _ _ link _ (c .before .next .given .1),
-      link-next _ _ _ _ _ _ _ _ _ _ link _ _ _ (c .before .next .given .1) (omega arith) (l .inv .4),
+      link-next _ _ _ _ _ _ _ _ _ _ link _ _ _ (c .before .next .given .1) (omega arith) (l .inv .5),
     )
 
-same-length-3 : tie.Need-same-length-3 Inv-loop μ-loop
-same-length-3 c = c .before .loop .inv .1
-
 same-length-4 : tie.Need-same-length-4 Inv-loop μ-loop
-same-length-4 c = c .before .loop .inv .2
+same-length-4 c = c .before .loop .inv .1
+
+same-length-5 : tie.Need-same-length-5 Inv-loop μ-loop
+same-length-5 c = c .before .loop .inv .2
+
+same-length-6 : tie.Need-same-length-6 Inv-loop μ-loop
+same-length-6 c = c .before .loop .inv .3
 
 returns-2 : tie.Need-returns-2 Inv-loop μ-loop
 returns-2 c =
     let l = c .before .loop in
-    let a = c .before .before .before .before .before .args in
+    let a = c .before .before .before .before .before .before .args in
     record {
-      follows = l .inv .4 ∙ links-over (now (a .text)) (a .n) (l .i) (a .m) (l .p) (l .lows) (l .highs) (omega arith) (omega arith);
+      follows = l .inv .5 ∙ links-over (now (a .text)) (a .n) (l .i) (a .m) (l .p) (l .lows) (l .highs) (omega arith) (omega arith);
       sameLows = l .inv .1;
       sameHighs = l .inv .2;
     }
@@ -100,10 +107,12 @@ read-links-spec =
     enum-known-refusal
     same-length
     same-length-2
+    same-length-3
     returns
     add-i
     loop-less
     loop-again
-    same-length-3
     same-length-4
+    same-length-5
+    same-length-6
     returns-2)

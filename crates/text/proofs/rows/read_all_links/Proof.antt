@@ -1,0 +1,61 @@
+-- `text::rows::read_all_links` meets its contract: the marks have room for the pairs, and none is marked before the first
+-- line. Assumes nothing.
+use mathlib.Core.List.{[]}
+use native.Mathlib.Omega.{arith}
+use borrow.Author.Needs.{needs}
+use Rattle.network.specs.Seen.{none-of-128, none-of-1000}
+use Rattle.text.proofs.rows.read_all_links.Statement.{statement}
+use Rattle.text.proofs.rows.read_all_links.Tie as tie
+
+no-pairs-of-128-requires : tie.Need-no-pairs-of-128-requires
+no-pairs-of-128-requires c κs = search needs
+
+slice-aggregate-read-links : tie.Need-slice-aggregate-read-links
+slice-aggregate-read-links c = search needs
+
+read-links-requires : tie.Need-read-links-requires
+read-links-requires c κs = ((omega arith, omega arith, omega arith), none-of-128 _ _ [] [] (omega arith) (c .before .before .before .no-pairs-of-128 .ensures))
+
+same-length : tie.Need-same-length
+same-length c = search needs
+
+same-length-2 : tie.Need-same-length-2
+same-length-2 c = search needs
+
+returns : tie.Need-returns
+returns c = search needs
+
+no-pairs-of-1000-requires : tie.Need-no-pairs-of-1000-requires
+no-pairs-of-1000-requires c κs = search needs
+
+slice-aggregate-read-links-2 : tie.Need-slice-aggregate-read-links-2
+slice-aggregate-read-links-2 c = search needs
+
+read-links-requires-2 : tie.Need-read-links-requires-2
+read-links-requires-2 c κs = ((omega arith, omega arith, omega arith), none-of-1000 _ _ [] [] (omega arith) (c .before .before .before .no-pairs-of-1000 .ensures))
+
+same-length-3 : tie.Need-same-length-3
+same-length-3 c = search needs
+
+same-length-4 : tie.Need-same-length-4
+same-length-4 c = search needs
+
+returns-2 : tie.Need-returns-2
+returns-2 c = search needs
+
+pub read-all-links-spec : {M : Type 1} → statement M
+read-all-links-spec =
+    tie.close
+    (tie.spec
+    no-pairs-of-128-requires
+    slice-aggregate-read-links
+    read-links-requires
+    same-length
+    same-length-2
+    returns
+    no-pairs-of-1000-requires
+    slice-aggregate-read-links-2
+    read-links-requires-2
+    same-length-3
+    same-length-4
+    returns-2)
