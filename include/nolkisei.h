@@ -3,7 +3,7 @@
  *
  * A network has n relays (1 to 1,000), numbered from 0, and m links (0 to 3,000). A table is two lists, lows and highs:
  * link i joins relay lows[i] to relay highs[i], lows[i] below highs[i], no pair twice. Every list goes with its length,
- * in entries, behind it.
+ * in entries, behind it; `answer` and `output` have the length that is written here.
  *
  * Each function but nolkisei_plan returns 0 when it is done, or the number of its refusal:
  *
@@ -25,7 +25,8 @@
  *
  * Any numbers and any lengths are accepted and answered as above. What a caller owes:
  *   - a pointer is not null and is aligned for its type, even where the length is 0;
- *   - as many entries as the length says can be read there, and written where the list is not const;
+ *   - as many entries as the length says can be read there, and written where the list is not const (2 of `answer`,
+ *     4,608 of `output`);
  *   - a list that is not const overlaps no other list of the call, and nobody else uses it while the call runs.
  *
  * 'Unchanged' below means every entry of the list. After any other refusal than those named a list is unchanged. */
@@ -84,8 +85,12 @@ uint32_t nolkisei_route(uint16_t n, const uint16_t *lows, size_t lows_length, co
                         uint16_t k, uint16_t from, uint16_t to, uint16_t *counts, size_t counts_length, uint16_t *relays,
                         size_t relays_length, uint16_t *scratch, size_t scratch_length, uint64_t answer[2]);
 
-/* The planner program: a wish line and a network text in, a sheet or a refused line out. Not in the library yet.
- * Writes at most 4,608 bytes to `output`, which has room for as many, and returns how many it wrote. */
+/* The planner: a wish line `(want FROM TO K)` and behind it a network text in, the printed sheet out, or the line
+ * `(refused NUMBER PLACE)` with the first refusal met: 1 where the wish line departs from its form, at the byte; then 2,
+ * at the byte counted from the first one behind the wish line, 3, 4, 5, 6, 7; then 9; then 10, 11, 13.
+ * Returns how many bytes are printed. They stand at the output's start, and the rest of it is unchanged.
+ * The output is 4,608 bytes long, no length goes with it: no input prints more, so it is never too short, and that there
+ * are as many is the caller's to see to. */
 size_t nolkisei_plan(const uint8_t *input, size_t input_length, uint8_t output[4608]);
 
 #ifdef __cplusplus

@@ -67,19 +67,23 @@ static void marked(void) {
     is("P12 last", answer[0], 499499);
 }
 
-#ifdef WITH_plan
 static void sheet(void) {
     static const char wish[] = "(want 4 1 2)\n";
     static const char due[] = "(sheet (from 4) (to 1) (k 2))\n(route 4 3 1)\n(route 4 2 1)\n(kept 7)\n(end)\n";
     uint8_t input[200], output[4608];
     size_t start = sizeof wish - 1;
     memcpy(input, wish, start);
+    memset(output, 7, sizeof output);
     is("write", nolkisei_write(5, TABLE(mesh), input + start, sizeof input - start, answer), 0);
     size_t length = nolkisei_plan(input, start + answer[0], output);
     is("P6 length", length, sizeof due - 1);
     is("P6 sheet", memcmp(output, due, sizeof due - 1), 0);
+    for (size_t i = length; i < sizeof output; i++) {
+        is("behind the sheet", output[i], 7);
+    }
+    is("no wish", nolkisei_plan(input, 0, output), 14);
+    is("no wish line", memcmp(output, "(refused 1 0)\n", 14), 0);
 }
-#endif
 
 static void others(void) {
     is("n 0", nolkisei_check(0, none, 0, none, 0, answer), 3);
@@ -98,9 +102,7 @@ static void others(void) {
 
 int main(void) {
     marked();
-#ifdef WITH_plan
     sheet();
-#endif
     others();
     printf("document 01's examples through the C header: %s\n", failed ? "some differ" : "as printed");
     return failed != 0;

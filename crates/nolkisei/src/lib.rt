@@ -1,11 +1,14 @@
-// The C interface: each operation of document 01 as a C function. What a code and the two entries of `answer` mean is said in
-// specs/Reported.antt, and for C programs in include/nolkisei.h.
+// The C interface: each operation of document 01 as a C function, and its planner. What a code and the two entries of `answer`
+// mean is said in specs/Reported.antt, and for C programs in include/nolkisei.h.
 ghost use mathlib.Core.Path.{_≡_};
+ghost use lib.ListN.{length};
+ghost use Rattle.definitions.specs.Lists.{overwrite};
 ghost use Rattle.definitions.specs.Network.{pairAnswer, tableCheck};
 ghost use Rattle.definitions.specs.Text.{readAnswer, lowsAfter, highsAfter, writeAnswer, bufferAfter};
 ghost use Rattle.definitions.specs.Order.{orderAnswer, relaysAfter, placesAfter};
 ghost use Rattle.definitions.specs.Forests.{splitAnswer, forestsAfter, cutAnswer, marksAfter};
 ghost use Rattle.definitions.specs.Route.{routeAnswer, countsAfter, routeRelaysAfter, scratchAfter};
+ghost use Rattle.definitions.specs.Plan.{planText};
 ghost use Rattle.nolkisei.specs.Reported.{reported};
 
 mod report;
@@ -165,4 +168,13 @@ pub extern "C" fn nolkisei_route(
         RouteAnswer::Written(total) => report::give(total as u64, 0, answer),
         RouteAnswer::Refused(refusal) => report::refuse(refusal, answer),
     }
+}
+
+// The planner: the sheet or the refused line for an input, from the output's first byte on; gives its length.
+#[no_mangle]
+pub extern "C" fn nolkisei_plan(input: &[u8], output: &mut [u8; 4608]) -> usize
+    ensures length { λ r. ⌜ r ≡ length (planText (now (input .entry))) ⌝ }
+    ensures bytes { λ _. ⌜ now (output .exit) ≡ overwrite (planText (now (input .entry))) (now (output .entry)) ⌝ }
+{
+    sheet::plan(input, output)
 }

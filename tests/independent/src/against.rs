@@ -2,11 +2,11 @@
 
 use crate::flow::greatest;
 use crate::generate::{Network, any, damage, scratch};
-use crate::library::{self, Report};
+use crate::library::{self, Report, SHEET};
 use crate::random::Random;
 use crate::sweep::{self, Wish};
 use crate::table::{self, Refusal};
-use crate::{forests, text};
+use crate::{forests, plan, text};
 use std::collections::BTreeMap;
 use std::fmt::Debug;
 
@@ -82,13 +82,7 @@ pub fn read(random: &mut Random, tally: &mut Tally, input: &[u8], links: usize) 
     tally.same("read", reference.code, (report, library_lows, library_highs), (reference, lows, highs), &shown);
 }
 
-#[cfg(not(feature = "plan"))]
-pub fn planned(_: &mut Random, _: &mut Tally, _: &[u8]) {}
-
-#[cfg(feature = "plan")]
 pub fn planned(random: &mut Random, tally: &mut Tally, input: &[u8]) {
-    use crate::library::SHEET;
-    use crate::plan;
     let before = random.draw() as u8;
     let mut output = [before; SHEET];
     let length = library::plan(input, &mut output);
@@ -355,7 +349,7 @@ impl Tally {
     /// One line for each operation and each check; then the codes never met.
     pub fn lines(&self) -> (Vec<String>, Vec<String>) {
         let (mut lines, mut missing) = (vec![], vec![]);
-        for (operation, codes) in CODES.into_iter().take(if cfg!(feature = "plan") { 9 } else { 8 }) {
+        for (operation, codes) in CODES {
             let of = |code: &u32| self.codes.get(&(operation, *code)).copied().unwrap_or(0);
             missing.extend(codes.iter().filter(|code| of(code) == 0).map(|code| format!("{operation} {code}")));
             let list: Vec<String> = codes.iter().map(|code| format!("{code}: {}", of(code))).collect();

@@ -82,7 +82,6 @@ unsafe extern "C" {
         scratch_length: usize,
         answer: *mut u64,
     ) -> u32;
-    #[cfg(feature = "plan")]
     fn nolkisei_plan(input: *const u8, input_length: usize, output: *mut u8) -> usize;
 }
 
@@ -192,7 +191,6 @@ pub fn route(
 /// The most bytes that the planner prints.
 pub const SHEET: usize = 4608;
 
-#[cfg(feature = "plan")]
 pub fn plan(input: &[u8], output: &mut [u8; SHEET]) -> usize {
     unsafe { nolkisei_plan(input.as_ptr(), input.len(), output.as_mut_ptr()) }
 }

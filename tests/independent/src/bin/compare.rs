@@ -11,7 +11,7 @@ fn main() {
     for number in seed..seed + count {
         let run = std::panic::catch_unwind(std::panic::AssertUnwindSafe(|| case(number, &mut tally)));
         if run.is_err() {
-            eprintln!("case {number} fails; it runs alone as: compare {number} 1");
+            eprintln!("case {number} fails; it runs alone as: tests/run {number} 1");
             std::process::exit(1);
         }
     }
