@@ -1,20 +1,21 @@
--- What the theory of forests, trees, routes and the certificate asks of an order and a table. The order need not have every relay:
--- where the theory speaks of relays it means those of the order, and of links those with both ends in it. Then: the base has it.
-use Prim.Native.Nat.{ℕ, _<_}
+-- What the theory of forests, trees, routes and the certificate asks of an order and a table; the order as defined has it.
+-- The order need not have every relay: the theory speaks of the relays of the order, and of the links with both ends in it.
+use Prim.Native.Nat.{ℕ, _≤_, _<_}
 use mathlib.Core.Bool.{true}
 use mathlib.Core.List.{List}
 use mathlib.Core.Path.{_≡_}
 use native.Mathlib.Omega.{arith}
 use lib.ListN.{length, getD}
+use Rattle.definitions.specs.Lists.{table, has}
 use Rattle.definitions.specs.Network.{joins, linked, Accepted}
-use Rattle.definitions.specs.Order.{orderOf}
+use Rattle.definitions.specs.Order.{placedAfter, orderOf}
 use Rattle.definitions.specs.Forests.{left}
-use Rattle.definitions.specs.Route.{leftOf}
 use Rattle.definitions.specs.Demand.{NoRepeat}
+use Rattle.lists.specs.Distinct.{range-no-repeat}
 use Rattle.theory.specs.LeftLaws.{LeftLaws}
-use Rattle.theory.specs.Accepted.{accepted}
-use Rattle.theory.specs.Ordering.{order-no-repeat}
-use Rattle.theory.specs.Left.{left-laws}
+use Rattle.theory.specs.Accepted.{ProperTable, accepted}
+use Rattle.theory.specs.Ordering.{placed-length, placed-no-repeat, placed-maximal, all-long, zero-first}
+use Rattle.theory.specs.Left.{laws-of-left}
 use Rattle.theory.specs.Links.{one-link}
 use Rattle.theory.specs.ForestNumbers.{Placed, LinkForest, link-forest}
 
@@ -38,12 +39,25 @@ arranged-forest order lows highs arranged i h placed =
     let less = arranged .ordered i h in
     link-forest order lows highs i h placed (omega arith)
 
-pub base-arranged : (n : ℕ) (lows highs : List ℕ) → Accepted n lows highs → Arranged (orderOf n lows highs) lows highs
-unfolding leftOf
-base-arranged n lows highs ok =
+-- The order as defined has it, whichever relay is first, whichever are candidates, and after any number of steps.
+pub arranged-placed : (n : ℕ) (lows highs : List ℕ) → ProperTable n lows highs → (first : ℕ) (candidates : List ℕ) → NoRepeat candidates
+    → (0 < length candidates → has candidates first ≡ true) → (steps : ℕ) → steps ≤ length candidates
+    → Arranged (placedAfter (linked lows highs) first candidates steps) lows highs
+arranged-placed n lows highs proper first candidates unique firstIn steps few =
+    let order = placedAfter (linked lows highs) first candidates steps in
     record {
-      unique = order-no-repeat n lows highs;
-      ordered = accepted n lows highs ok .ordered;
-      once = one-link n lows highs (accepted n lows highs ok);
-      laws = left-laws n lows highs;
+      unique = placed-no-repeat (linked lows highs) first candidates unique firstIn steps few;
+      ordered = proper .ordered;
+      once = one-link n lows highs proper;
+      laws =
+          laws-of-left (linked lows highs) order
+          (λ v w less within.
+          placed-maximal (linked lows highs) first candidates unique firstIn steps v w few less
+          (omega (arith, placed-length (linked lows highs) first candidates steps)));
     }
+
+pub base-arranged : (n : ℕ) (lows highs : List ℕ) → Accepted n lows highs → Arranged (orderOf n lows highs) lows highs
+unfolding orderOf
+base-arranged n lows highs ok =
+    arranged-placed n lows highs (accepted n lows highs ok) 0 (table (λ r. r) 0 n) (range-no-repeat 0 n) (zero-first n lows highs) n
+    (omega (arith, all-long n lows highs))

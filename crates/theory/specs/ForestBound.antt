@@ -26,7 +26,7 @@ use Rattle.lists.specs.Counting.{count-table, length-keep, no-longer}
 use Rattle.lists.specs.Totals.{total-counts}
 use Rattle.theory.specs.LeftLaws.{index-below}
 use Rattle.theory.specs.Ordering.{order-length}
-use Rattle.theory.specs.ForestNumbers.{earlierPlace, laterPlace, linkForest, Placed, AllPlaced, links-placed, forest-of-link}
+use Rattle.theory.specs.ForestNumbers.{earlierPlace, laterPlace, linkForest, Placed, AllPlaced, links-placed}
 use Rattle.theory.specs.Arranged.{leftIn, Arranged, arranged-forest, base-arranged}
 
 -- The indices of the links of forest f.
@@ -36,12 +36,18 @@ linksIn order lows highs f = keep (λ j. eqb f (linkForest order lows highs j)) 
 -- Over any order; a link without a forest may be in the table.
 module _ (order lows highs : List ℕ) (arranged : Arranged order lows highs) where
   -- The number of a link's forest is below its later place.
-  pub forest-below : (i : ℕ) → i < length lows → Placed order lows highs i
+  forest-below : (i : ℕ) → i < length lows → Placed order lows highs i
       → linkForest order lows highs i < laterPlace order lows highs i
   forest-below i h placed =
       let link = arranged-forest order lows highs arranged i h placed in
       index-below (leftIn order lows highs) (arranged .laws) (linkForest order lows highs i)
       (laterPlace order lows highs i) (link .forest) (omega (arith, link .isLeft, link .some))
+
+  pub forest-range : (i : ℕ) → i < length lows → Placed order lows highs i
+      → (1 ≤ linkForest order lows highs i) × (linkForest order lows highs i < length order)
+  forest-range i h placed =
+      let link = arranged-forest order lows highs arranged i h placed in
+      omega (arith, link .forest, link .within, forest-below i h placed)
 
   module _ (f : ℕ) (all : AllPlaced order lows highs f) where
     in-forest : (j : ℕ) → has (linksIn order lows highs f) j ≡ true
@@ -124,10 +130,8 @@ module _ (n : ℕ) (lows highs : List ℕ) (ok : Accepted n lows highs) where
 
   pub forests-range : (i : ℕ) → i < length lows → (1 ≤ getD (forestsOf n lows highs) i 0) × (getD (forestsOf n lows highs) i 0 < n)
   forests-range i h =
-      let link = forest-of-link n lows highs ok i h in
-      let order = orderOf n lows highs in
-      let below = forest-below order lows highs (base-arranged n lows highs ok) i h (links-placed n lows highs ok i h) in
-      omega (arith, forests-at n lows highs i h, link .forest, link .within, order-length n lows highs)
+      let range = forest-range (orderOf n lows highs) lows highs (base-arranged n lows highs ok) i h (links-placed n lows highs ok i h) in
+      omega (arith, range .0, range .1, forests-at n lows highs i h, order-length n lows highs)
 
   -- "Each link is in exactly one forest, so the counts of all the forests add up to m."
   pub forests-total : total (table (λ f. count (eqb f) (forestsOf n lows highs)) 1 n) ≡ length lows

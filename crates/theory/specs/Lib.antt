@@ -30,4 +30,5 @@ pub mod RouteAnswer
 pub mod Certificate
 pub mod DemandThree
 pub mod Mesh
+pub mod AnotherOrder
 pub mod SweepTrades

@@ -236,10 +236,10 @@ module _ (n : ℕ) (lows highs : List ℕ) where
   unfolding orderOf
   order-length = placed-length (linkedIn lows highs) 0 (table (λ r. r) 0 n) n
 
-  all-long : length (table (λ r. r) 0 n) ≡ n
+  pub all-long : length (table (λ r. r) 0 n) ≡ n
   all-long = length-table (λ (r : ℕ). r) 0 n
 
-  zero-first : 0 < length (table (λ r. r) 0 n) → has (table (λ r. r) 0 n) 0 ≡ true
+  pub zero-first : 0 < length (table (λ r. r) 0 n) → has (table (λ r. r) 0 n) 0 ≡ true
   zero-first h = range-has 0 n 0 (omega arith) (omega (arith, all-long))
 
   pub order-no-repeat : NoRepeat (orderOf n lows highs)
