@@ -1,5 +1,5 @@
 -- The laws of keys. Assumes nothing.
-use Prim.Native.Nat.{ℕ, zero, suc, _+_, _/_, _<_}
+use Prim.Native.Nat.{ℕ, zero, suc, _+_, _/_, _≤_, _<_}
 use mathlib.Core.List.{List}
 use mathlib.Core.Path.{_≡_, refl, _∙_, ap}
 use native.Mathlib.Decide.{ℕ-discrete}
@@ -17,6 +17,10 @@ pub raised-some : (key : ℕ) → 0 < key → raisedKey key ≡ key + 1024
 unfolding raisedKey
 raised-some key h = rw (ne-eqb key 0 (λ e. omega arith))
 
+pub raised-up : (key : ℕ) → key ≤ raisedKey key
+raised-up zero = omega arith
+raised-up (suc key) = omega (arith, raised-some (suc key) (omega arith))
+
 pub number-none : (key old : ℕ) → key ≡ 0 → numberOf key old ≡ old
 unfolding numberOf
 number-none key old e = rw (eq-eqb key 0 e)
@@ -25,12 +29,12 @@ pub number-some : (key old : ℕ) → 0 < key → numberOf key old ≡ key / 102
 unfolding numberOf
 number-some key old h = rw (ne-eqb key 0 (λ e. omega arith))
 
-pub start-none : (keys : List ℕ) → keys ≡ replicate 1000 0 → StartKeys 0 keys
+pub start-none : (keys : List ℕ) → keys ≡ replicate 1024 0 → StartKeys 0 keys
 start-none keys e =
     record {
-      room = ap length e ∙ length-replicate {A = ℕ} 1000 0;
+      room = ap length e ∙ length-replicate {A = ℕ} 1024 0;
       waiting = λ r h. absurd (omega arith);
-      rest = λ r h. ap (λ l. getD l r 0) e ∙ zeros 1000 r;
+      rest = λ r h. ap (λ l. getD l r 0) e ∙ zeros 1024 r;
     }
   where
     zeros : (n r : ℕ) → _≡_ {A = ℕ} (getD (replicate n 0) r 0) 0

@@ -1,5 +1,6 @@
 -- Laws that the proofs of the crate's functions share.
 pub mod ChainLaws
+pub mod TopLaws
 pub mod KeyLaws
 pub mod WalkLaws
 pub mod OrderLaws

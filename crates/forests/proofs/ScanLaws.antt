@@ -14,6 +14,7 @@ use Rattle.lists.specs.Tables.{length-overwrite}
 use Rattle.lists.specs.Counting.{count-length}
 use Rattle.theory.specs.Accepted.{ProperTable, accepted}
 use Rattle.forests.specs.Chains.{Chainable}
+use Rattle.forests.specs.Tops.{Tops}
 use Rattle.forests.specs.Walk.{Walked}
 use Rattle.forests.specs.Scan.{chosen, placed, following, Placeable, PlacedOne, KeysAt, ScannedTo, Startable, Scanned}
 use Rattle.forests.proofs.OrderLaws.{placed-long, placed-suc, following-new}
@@ -30,11 +31,11 @@ use Rattle.forests.proofs.StepLaws.{
 use Rattle.forests.proofs.FinishLaws.{places-finish, forests-finish}
 
 -- What placing one relay did, in the code's terms.
-pub placed-one : {n v : ℕ} {lows highs keys keys′ relays relays′ places places′ forests forests′ : List ℕ} (x : ℕ)
+pub placed-one : {n v : ℕ} {lows highs keys keys′ tops′ relays relays′ places places′ forests forests′ : List ℕ} (x : ℕ)
     → x ≡ chosen n keys → relays′ ≡ set relays (v - 1) x → places′ ≡ set places x v
-    → Walked x lows highs keys keys′ forests forests′
-    → PlacedOne n v lows highs keys keys′ relays relays′ places places′ forests forests′
-placed-one x e r p w = record { relay = rw e at r; place = rw e at p; walked = rw e at w }
+    → Walked x lows highs keys keys′ forests forests′ × Tops keys′ tops′
+    → PlacedOne n v lows highs keys keys′ tops′ relays relays′ places places′ forests forests′
+placed-one x e r p w = record { relay = rw e at r; place = rw e at p; walked = rw e at (w .0); topped = w .1 }
 
 -- A table of fewer relays is one of 1,000.
 wide : {n : ℕ} {lows highs : List ℕ} → ProperTable n lows highs → ProperTable 1000 lows highs
@@ -82,8 +83,8 @@ keys-bound {n} {lows} {highs} {keys} k few within at r = go (decLt r n) (has (pl
         )
     go (no h) b e = omega (arith, at .rest r (omega arith))
 
-module _ {n : ℕ} {lows highs first lownext highnext keys relays places forests : List ℕ}
-    (can : Startable n lows highs first lownext highnext keys relays places forests)
+module _ {n : ℕ} {lows highs first lownext highnext keys tops relays places forests : List ℕ}
+    (can : Startable n lows highs first lownext highnext keys tops relays places forests)
   where
     proper : ProperTable n lows highs
     proper = accepted n lows highs (can .scannable .accepted)
@@ -113,8 +114,9 @@ module _ {n : ℕ} {lows highs first lownext highnext keys relays places forests
         below : chosen n keys′ < n
         below = omega (arith, choice, following-new n lows highs k within .0)
 
-        pub scan-places : Placeable n (k + 1) lows highs first lownext highnext keys′ relays′ places′ forests′
-        scan-places =
+        pub scan-places : {tops′ : List ℕ} → Tops keys′ tops′
+            → Placeable n (k + 1) lows highs first lownext highnext keys′ tops′ relays′ places′ forests′
+        scan-places topped =
             record {
               few = proper .few;
               walkable =
@@ -123,18 +125,19 @@ module _ {n : ℕ} {lows highs first lownext highnext keys relays places forests
                     chained = can .chained;
                     relay = omega (arith, below, proper .few);
                     room = omega (arith, at .forestsAt .long, can .scannable .forestRoom);
-                    keyRoom = at .keysAt .room;
-                    bound = λ r h. keys-bound k (proper .few) (omega arith) (at .keysAt) r;
+                    topped = topped;
+                    bound = λ r. keys-bound k (proper .few) (omega arith) (at .keysAt) r;
                   };
+              rest = at .keysAt .rest;
               some = omega arith;
               within = omega (arith, relays-long k (omega arith) at, can .scannable .relayRoom);
               room = omega (arith, below, at .placesAt .long, can .scannable .placeRoom);
             }
 
-        pub scan-moves : {keys″ relays″ places″ forests″ : List ℕ}
-            → PlacedOne n (k + 1) lows highs keys′ keys″ relays′ relays″ places′ places″ forests′ forests″
+        pub scan-moves : {keys″ tops″ relays″ places″ forests″ : List ℕ}
+            → PlacedOne n (k + 1) lows highs keys′ keys″ tops″ relays′ relays″ places′ places″ forests′ forests″
             → ScannedTo n lows highs (k + 1) keys″ relays relays″ places places″ forests forests″
-        scan-moves {keys″} {relays″} {places″} {forests″} p =
+        scan-moves {keys″} {tops″} {relays″} {places″} {forests″} p =
             let walked : Walked (following n lows highs k) lows highs keys′ keys″ forests′ forests″ = rw choice at (p .walked) in
             let back : k + 1 - 1 ≡ k = omega arith in
             let relay : relays″ ≡ set relays′ k (following n lows highs k) = rw (choice, back) at (p .relay) in

@@ -92,7 +92,7 @@ module _ {n : ℕ} {lows highs : List ℕ} (t : ProperTable n lows highs) (k : �
       own : getD (set keys (following n lows highs k) 0) (following n lows highs k) 0 ≡ 0
       own = getD-set-same keys (following n lows highs k) 0 0 (omega (arith, below, t .few, at .room))
 
-      nothing : (r : ℕ) → r < 1000 → getD (set keys (following n lows highs k) 0) r 0 ≡ 0 → getD keys′ r 0 ≡ 0
+      nothing : (r : ℕ) → r < 1024 → getD (set keys (following n lows highs k) 0) r 0 ≡ 0 → getD keys′ r 0 ≡ 0
       nothing r h e = w .key r h ∙ go (someBelow (joins lows highs (following n lows highs k) r) (length lows))
         where
           go : (b : Bool)
@@ -131,10 +131,10 @@ module _ {n : ℕ} {lows highs : List ℕ} (t : ProperTable n lows highs) (k : �
           record {
             room = w .keyRoom;
             key = λ r h. key r h (ℕ-discrete r (following n lows highs k)) (has (placed n lows highs k) r) refl;
-            rest = λ r h. rest r h (decLt r 1000);
+            rest = λ r h. rest r h (decLt r 1024);
           }
         where
-          rest : (r : ℕ) → n ≤ r → Dec (r < 1000) → getD keys′ r 0 ≡ 0
+          rest : (r : ℕ) → n ≤ r → Dec (r < 1024) → getD keys′ r 0 ≡ 0
           rest r h (yes p) = nothing r p (other r (λ e. omega (arith, below)) ∙ at .rest r h)
           rest r h (no p) = List·getD-eq-default keys′ 0 (omega (arith, w .keyRoom))
 

@@ -19,6 +19,7 @@ use Rattle.theory.specs.Accepted.{ProperTable}
 use Rattle.theory.specs.Links.{one-link}
 use Rattle.forests.specs.Chains.{touches, nextFrom, ChainedFrom}
 use Rattle.forests.specs.Keys.{raisedKey, numberOf}
+use Rattle.forests.specs.Tops.{Tops, Stored}
 use Rattle.forests.specs.Walk.{otherEnd, farEnd, nextOf, Visitable, Visited, WalkedTo, Walkable}
 use Rattle.forests.proofs.ChainLaws.{next-within, next-touches, next-between}
 
@@ -84,7 +85,7 @@ module _ (lows highs : List ℕ) (x : ℕ) where
           c .high j (omega arith) k ∙ ap (λ r. nextFrom lows highs r (suc j)) (eqb-true (getD highs j 0) x q)
       go false p false q e = absurd (true≢false (sym e))
 
-  walked-none : (keys forests : List ℕ) → length keys ≡ 1000 → WalkedTo lows highs x 0 keys keys forests forests
+  walked-none : (keys forests : List ℕ) → length keys ≡ 1024 → WalkedTo lows highs x 0 keys keys forests forests
   unfolding someBelow
   walked-none keys forests room =
       record {
@@ -110,7 +111,7 @@ module _ (lows highs : List ℕ) (x : ℕ) where
   far-key : {keys keys′ forests forests′ : List ℕ} (i : ℕ) → ProperTable 1000 lows highs → i < length lows
       → touches lows highs x i ≡ true → WalkedTo lows highs x i keys keys′ forests forests′
       → getD keys′ (farEnd lows highs x i) 0 ≡ getD keys (farEnd lows highs x i) 0
-  far-key {keys} {keys′} {forests} {forests′} i t within at w = w .key y (far-below i t within) ∙ rw fresh
+  far-key {keys} {keys′} {forests} {forests′} i t within at w = w .key y (omega (arith, far-below i t within)) ∙ rw fresh
     where
       y : ℕ
       y = farEnd lows highs x i
@@ -154,7 +155,7 @@ module _ (lows highs : List ℕ) (x : ℕ) where
       old : getD keys′ y 0 ≡ getD keys y 0
       old = far-key i t within at w
 
-      key : (r : ℕ) → r < 1000 → Dec (r ≡ y)
+      key : (r : ℕ) → r < 1024 → Dec (r ≡ y)
           → getD (set keys′ y (raisedKey (getD keys′ y 0))) r 0
           ≡ pick (joins lows highs x r i || someBelow (joins lows highs x r) i) (raisedKey (getD keys r 0)) (getD keys r 0)
       key r p (yes e) =
@@ -182,74 +183,84 @@ module _ (lows highs : List ℕ) (x : ℕ) where
           same (no p) = le-ltb j i (omega arith) ∙ sym (le-ltb j (suc i) (omega arith))
 
 -- What a visit did, in the code's terms.
-pub visit-done : (x i : ℕ) (lows highs lownext highnext keys forests : List ℕ) (y key number next : ℕ)
-    → y ≡ farEnd lows highs x i → key ≡ raisedKey (getD keys y 0) → number ≡ numberOf (getD keys y 0) (getD forests i 0)
+pub visit-done : {x i : ℕ} {lows highs lownext highnext keys keys′ tops′ forests : List ℕ} {key number next : ℕ} (y : ℕ)
+    → y ≡ farEnd lows highs x i → key ≡ raisedKey (getD keys y 0) → Stored y key keys keys′ tops′
+    → number ≡ numberOf (getD keys y 0) (getD forests i 0)
     → next ≡ nextOf x (getD lows i 0) (getD lownext i 0) (getD highnext i 0)
-    → Visited x i lows highs lownext highnext keys (set keys y key) forests (set forests i number) next
-visit-done x i lows highs lownext highnext keys forests y key number next e k f n =
+    → Visited x i lows highs lownext highnext keys keys′ tops′ forests (set forests i number) next
+visit-done {x} {i} {lows} {highs} {lownext} {highnext} {keys} {keys′} {tops′} {forests} {key} {number} {next} y e k s f n =
     record {
-      key = ap₂ (set keys) e (k ∙ ap (λ z. raisedKey (getD keys z 0)) e);
+      key = s .stored ∙ ap₂ (set keys) e (k ∙ ap (λ z. raisedKey (getD keys z 0)) e);
+      topped = s .topped;
       forest = ap (set forests i) (f ∙ ap (λ z. numberOf (getD keys z 0) (getD forests i 0)) e);
       onward = n;
     }
 
 -- The walk stands before link i, the next link at x; below it all is done.
-abbrev pub Walking : List ℕ → List ℕ → ℕ → ℕ → List ℕ → List ℕ → List ℕ → List ℕ → Type 0
-Walking lows highs x i keys keys′ forests forests′ =
+abbrev pub Walking : List ℕ → List ℕ → ℕ → ℕ → List ℕ → List ℕ → List ℕ → List ℕ → List ℕ → Type 0
+Walking lows highs x i keys keys′ tops′ forests forests′ =
     (i ≤ length lows)
     × (i < length lows → touches lows highs x i ≡ true)
     × WalkedTo lows highs x i keys keys′ forests forests′
+    × Tops keys′ tops′
 
-module _ {x : ℕ} {lows highs first lownext highnext keys forests : List ℕ}
-    (can : Walkable x lows highs first lownext highnext keys forests)
+-- `cleared` are the keys with x placed.
+module _ {x : ℕ} {lows highs first lownext highnext keys cleared tops tops₀ forests : List ℕ}
+    (can : Walkable x lows highs first lownext highnext keys tops forests) (c : Stored x 0 keys cleared tops₀)
   where
-    pub walk-starts : (i : ℕ) → i ≡ getD first x 0 → Walking lows highs x i (set keys x 0) (set keys x 0) forests forests
+    pub walk-starts : (i : ℕ) → i ≡ getD first x 0 → Walking lows highs x i cleared cleared tops₀ forests forests
     walk-starts i e =
         let head : i ≡ nextFrom lows highs x 0 = e ∙ can .chained .heads x (can .relay) in
-        let start = walked-none lows highs x (set keys x 0) forests (length-set keys x 0 ∙ can .keyRoom) in
+        let start = walked-none lows highs x cleared forests (c .topped .keyRoom) in
         rw head (
           next-within lows highs x 0 (omega arith) .1,
           next-touches lows highs x 0,
           walked-skip lows highs x 0 (nextFrom lows highs x 0) (omega arith) (next-between lows highs x 0) start,
+          c .topped,
         )
 
-    bounded : (r : ℕ) → r < 1000 → getD (set keys x 0) r 0 < 2000000
-    bounded r h = go (ℕ-discrete r x)
+    bounded : (r : ℕ) → getD cleared r 0 < 2000000
+    bounded r = rw (c .stored) (go (ℕ-discrete r x))
       where
         go : Dec (r ≡ x) → getD (set keys x 0) r 0 < 2000000
-        go (yes e) = omega (arith, ap (λ z. getD (set keys x 0) z 0) e, getD-set-same keys x 0 0 (omega (arith, can .keyRoom, can .relay)))
-        go (no e) = omega (arith, getD-set-other keys x r 0 0 e, can .bound r h)
+        go (yes e) =
+            omega (
+              arith,
+              ap (λ z. getD (set keys x 0) z 0) e,
+              getD-set-same keys x 0 0 (omega (arith, can .topped .keyRoom, can .relay)),
+            )
+        go (no e) = omega (arith, getD-set-other keys x r 0 0 e, can .bound r)
 
-    pub walk-visits : {keys′ forests′ : List ℕ} (i : ℕ) → i < length lows
-        → Walking lows highs x i (set keys x 0) keys′ forests forests′
-        → Visitable x i lows highs keys′ forests′
-    walk-visits {keys′} {forests′} i within w =
-        let y = farEnd lows highs x i in
-        let below : y < 1000 = far-below lows highs x i (can .proper) within in
-        record {
-          within = within;
-          same = sym (can .proper .even);
-          short = can .proper .short;
-          room = omega (arith, can .room, w .2 .long);
-          far = below;
-          keyRoom = w .2 .keyRoom;
-          bound = omega (arith, far-key lows highs x i (can .proper) within (w .1 within) (w .2), bounded y below);
-        }
+    module _ {keys′ tops′ forests′ : List ℕ} (i : ℕ) (within : i < length lows)
+        (w : Walking lows highs x i cleared keys′ tops′ forests forests′)
+      where
+        pub walk-visits : Visitable x i lows highs keys′ tops′ forests′
+        walk-visits =
+            let y = farEnd lows highs x i in
+            record {
+              within = within;
+              same = sym (can .proper .even);
+              short = can .proper .short;
+              room = omega (arith, can .room, w .2 .long);
+              far = far-below lows highs x i (can .proper) within;
+              topped = w .3;
+              bound = omega (arith, far-key lows highs x i (can .proper) within (w .1 within) (w .2), bounded y);
+            }
 
-    pub walk-moves : {keys′ keys″ forests′ forests″ : List ℕ} (i next : ℕ) → i < length lows
-        → Walking lows highs x i (set keys x 0) keys′ forests forests′
-        → Visited x i lows highs lownext highnext keys′ keys″ forests′ forests″ next
-        → (i < next) × Walking lows highs x next (set keys x 0) keys″ forests forests″
-    walk-moves {keys′} {keys″} {forests′} {forests″} i next within w v =
-        let e : next ≡ nextFrom lows highs x (suc i) =
-        v .onward ∙ next-behind lows highs x i (can .chained) (w .1 within) within in
-        let one = walked-one lows highs x i (can .proper) within (can .room) (w .1 within) (w .2) in
-        let bounds = next-within lows highs x (suc i) within in
-        rw (e, v .key, v .forest) (
-          bounds .0,
-          (
-            bounds .1,
-            next-touches lows highs x (suc i),
-            walked-skip lows highs x (suc i) (nextFrom lows highs x (suc i)) (bounds .0) (next-between lows highs x (suc i)) one,
-          ),
-        )
+        pub walk-moves : {keys″ tops″ forests″ : List ℕ} (next : ℕ)
+            → Visited x i lows highs lownext highnext keys′ keys″ tops″ forests′ forests″ next
+            → (i < next) × Walking lows highs x next cleared keys″ tops″ forests forests″
+        walk-moves {keys″} {tops″} {forests″} next v =
+            let e : next ≡ nextFrom lows highs x (suc i) =
+            v .onward ∙ next-behind lows highs x i (can .chained) (w .1 within) within in
+            let one = walked-one lows highs x i (can .proper) within (can .room) (w .1 within) (w .2) in
+            let bounds = next-within lows highs x (suc i) within in
+            rw (e, v .forest) (
+              bounds .0,
+              (
+                bounds .1,
+                next-touches lows highs x (suc i),
+                rw (v .key) (walked-skip lows highs x (suc i) (nextFrom lows highs x (suc i)) (bounds .0) (next-between lows highs x (suc i)) one),
+                v .topped,
+              ),
+            )

@@ -24,6 +24,6 @@ numberOf key old = pick (eqb key 0) old (key / 1024)
 
 -- The keys before the first relay is placed.
 pub record StartKeys (n : ℕ) (keys : List ℕ) : Type 0 where
-  pub room : length keys ≡ 1000
+  pub room : length keys ≡ 1024
   pub waiting : (r : ℕ) → r < n → getD keys r 0 ≡ keyOf 0 r
   pub rest : (r : ℕ) → n ≤ r → getD keys r 0 ≡ 0

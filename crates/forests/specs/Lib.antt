@@ -1,6 +1,7 @@
 -- What the scan and the operations over it promise, a module a subject.
 pub mod Chains
 pub mod Keys
+pub mod Tops
 pub mod Walk
 pub mod Scan
 pub mod Left

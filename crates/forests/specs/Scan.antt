@@ -11,6 +11,7 @@ use Rattle.definitions.specs.Order.{weight, nextRelay, placedAfter, orderOf, pl
 use Rattle.definitions.specs.Forests.{forestsOf}
 use Rattle.forests.specs.Chains.{ChainedFrom}
 use Rattle.forests.specs.Keys.{keyOf, relayOf, StartKeys}
+use Rattle.forests.specs.Tops.{Tops}
 use Rattle.forests.specs.Walk.{Walkable, Walked}
 
 -- The relay with the greatest key.
@@ -18,18 +19,20 @@ unfoldable pub chosen : ℕ → List ℕ → ℕ
 chosen n keys = relayOf (greatest (take n keys))
 
 -- What placing the chosen relay at v asks.
-pub record Placeable (n v : ℕ) (lows highs first lownext highnext keys relays places forests : List ℕ) : Type 0 where
+pub record Placeable (n v : ℕ) (lows highs first lownext highnext keys tops relays places forests : List ℕ) : Type 0 where
   pub few : n ≤ 1000
-  pub walkable : Walkable (chosen n keys) lows highs first lownext highnext keys forests
+  pub walkable : Walkable (chosen n keys) lows highs first lownext highnext keys tops forests
+  pub rest : (r : ℕ) → n ≤ r → getD keys r 0 ≡ 0
   pub some : 0 < v
   pub within : v ≤ length relays
   pub room : chosen n keys < length places
 
 -- What it does.
-pub record PlacedOne (n v : ℕ) (lows highs keys keys′ relays relays′ places places′ forests forests′ : List ℕ) : Type 0 where
+pub record PlacedOne (n v : ℕ) (lows highs keys keys′ tops′ relays relays′ places places′ forests forests′ : List ℕ) : Type 0 where
   pub relay : relays′ ≡ set relays (v - 1) (chosen n keys)
   pub place : places′ ≡ set places (chosen n keys) v
   pub walked : Walked (chosen n keys) lows highs keys keys′ forests forests′
+  pub topped : Tops keys′ tops′
 
 -- The first k relays of the order, and the one that comes after them.
 abbrev pub placed : ℕ → List ℕ → List ℕ → ℕ → List ℕ
@@ -40,7 +43,7 @@ following n lows highs k = nextRelay (linked lows highs) 0 (table (λ r. r) 0 n)
 
 -- The keys when k relays are placed.
 pub record KeysAt (n : ℕ) (lows highs : List ℕ) (k : ℕ) (keys : List ℕ) : Type 0 where
-  pub room : length keys ≡ 1000
+  pub room : length keys ≡ 1024
   pub key : (r : ℕ) → r < n
       → getD keys r 0 ≡ pick (has (placed n lows highs k) r) 0 (keyOf (weight (linked lows highs) (placed n lows highs k) r) r)
   pub rest : (r : ℕ) → n ≤ r → getD keys r 0 ≡ 0
@@ -75,10 +78,11 @@ pub record Scannable (n : ℕ) (lows highs relays places forests : List ℕ) : T
   pub forestRoom : length lows ≤ length forests
 
 -- The same, with chains and keys made.
-pub record Startable (n : ℕ) (lows highs first lownext highnext keys relays places forests : List ℕ) : Type 0 where
+pub record Startable (n : ℕ) (lows highs first lownext highnext keys tops relays places forests : List ℕ) : Type 0 where
   pub scannable : Scannable n lows highs relays places forests
   pub chained : ChainedFrom lows highs 0 first lownext highnext
   pub startKeys : StartKeys n keys
+  pub topped : Tops keys tops
 
 -- What the scan does.
 pub record Scanned (n : ℕ) (lows highs relays relays′ places places′ forests forests′ : List ℕ) : Type 0 where

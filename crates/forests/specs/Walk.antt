@@ -12,6 +12,7 @@ use Rattle.definitions.specs.Network.{joins}
 use Rattle.theory.specs.Accepted.{ProperTable}
 use Rattle.forests.specs.Chains.{touches, ChainedFrom}
 use Rattle.forests.specs.Keys.{raisedKey, numberOf}
+use Rattle.forests.specs.Tops.{Tops}
 
 -- The end of a link that is not x.
 unfoldable pub otherEnd : ℕ → ℕ → ℕ → ℕ
@@ -26,39 +27,40 @@ unfoldable pub nextOf : ℕ → ℕ → ℕ → ℕ → ℕ
 nextOf x low lownext highnext = pick (eqb low x) lownext highnext
 
 -- What a visit of link i at x asks.
-pub record Visitable (x i : ℕ) (lows highs keys forests : List ℕ) : Type 0 where
+pub record Visitable (x i : ℕ) (lows highs keys tops forests : List ℕ) : Type 0 where
   pub within : i < length lows
   pub same : length highs ≡ length lows
   pub short : length lows ≤ 3000
   pub room : length lows ≤ length forests
   pub far : farEnd lows highs x i < 1000
-  pub keyRoom : length keys ≡ 1000
+  pub topped : Tops keys tops
   pub bound : getD keys (farEnd lows highs x i) 0 < 2000000
 
 -- What a visit does.
-pub record Visited (x i : ℕ) (lows highs lownext highnext keys keys′ forests forests′ : List ℕ) (next : ℕ) : Type 0 where
+pub record Visited (x i : ℕ) (lows highs lownext highnext keys keys′ tops′ forests forests′ : List ℕ) (next : ℕ) : Type 0 where
   pub key : keys′ ≡ set keys (farEnd lows highs x i) (raisedKey (getD keys (farEnd lows highs x i) 0))
+  pub topped : Tops keys′ tops′
   pub forest : forests′ ≡ set forests i (numberOf (getD keys (farEnd lows highs x i) 0) (getD forests i 0))
   pub onward : next ≡ nextOf x (getD lows i 0) (getD lownext i 0) (getD highnext i 0)
 
 -- The keys and the forest numbers when all links of x below i were visited; `keys` and `forests` are those before.
 pub record WalkedTo (lows highs : List ℕ) (x i : ℕ) (keys keys′ forests forests′ : List ℕ) : Type 0 where
-  pub keyRoom : length keys′ ≡ 1000
+  pub keyRoom : length keys′ ≡ 1024
   pub long : length forests′ ≡ length forests
-  pub key : (r : ℕ) → r < 1000
+  pub key : (r : ℕ) → r < 1024
       → getD keys′ r 0 ≡ pick (someBelow (joins lows highs x r) i) (raisedKey (getD keys r 0)) (getD keys r 0)
   pub forest : (j : ℕ)
       → getD forests′ j 0
       ≡ pick (ltb j i && touches lows highs x j) (numberOf (getD keys (farEnd lows highs x j) 0) (getD forests j 0)) (getD forests j 0)
 
 -- What the walk over all links of x asks.
-pub record Walkable (x : ℕ) (lows highs first lownext highnext keys forests : List ℕ) : Type 0 where
+pub record Walkable (x : ℕ) (lows highs first lownext highnext keys tops forests : List ℕ) : Type 0 where
   pub proper : ProperTable 1000 lows highs
   pub chained : ChainedFrom lows highs 0 first lownext highnext
   pub relay : x < 1000
   pub room : length lows ≤ length forests
-  pub keyRoom : length keys ≡ 1000
-  pub bound : (r : ℕ) → r < 1000 → getD keys r 0 < 2000000
+  pub topped : Tops keys tops
+  pub bound : (r : ℕ) → getD keys r 0 < 2000000
 
 -- What it does: x is placed, so that its key is 0, and all its links are visited.
 abbrev pub Walked : ℕ → List ℕ → List ℕ → List ℕ → List ℕ → List ℕ → List ℕ → Type 0

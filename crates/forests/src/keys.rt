@@ -1,16 +1,17 @@
 // A key for each relay tells who is placed next: the relay with the greatest key. It is greater with each link to a placed
 // relay, of equals it is greatest for the lowest relay number, and a placed relay has key 0.
+use crate::tops::put_key;
 use network::Relay;
-ghost use Prim.Native.Nat.{max, _<_, _≤_};
+ghost use Prim.Native.Nat.{_<_, _≤_};
 ghost use mathlib.Core.Path.{_≡_};
-ghost use lib.ListN.{length, replicate, take};
-ghost use Rattle.definitions.specs.Lists.{greatest};
+ghost use lib.ListN.{replicate};
 ghost use Rattle.forests.specs.Keys.{keyOf, relayOf, raisedKey, numberOf, StartKeys};
+ghost use Rattle.forests.specs.Tops.{Tops};
 
-pub fn no_keys() -> [u32; 1000]
-    ensures { λ r. ⌜ r ≡ replicate 1000 0 ⌝ }
+pub fn no_keys() -> [u32; 1024]
+    ensures { λ r. ⌜ r ≡ replicate 1024 0 ⌝ }
 {
-    [0; 1000]
+    [0; 1024]
 }
 
 // The key of a relay that has no link to a placed one yet.
@@ -22,37 +23,15 @@ fn start_key(r: Relay) -> u32
 }
 
 // Relays 0 to n − 1 wait for their places.
-pub fn start_keys(n: u16, keys: &mut [u32; 1000])
-    requires { ⌜ (n ≤ 1000) × (now keys ≡ replicate 1000 0) ⌝ }
-    ensures { λ _. ⌜ StartKeys n (now (keys .exit)) ⌝ }
+pub fn start_keys(n: u16, keys: &mut [u32; 1024], tops: &mut [u32; 32])
+    requires { ⌜ (n ≤ 1000) × (now keys ≡ replicate 1024 0) × (now tops ≡ replicate 32 0) ⌝ }
+    ensures { λ _. ⌜ StartKeys n (now (keys .exit)) × Tops (now (keys .exit)) (now (tops .exit)) ⌝ }
 {
     let mut r = 0;
     while r < n {
-        let at = r as usize;
-        keys[at] = start_key(Relay(r));
+        put_key(r as usize, start_key(Relay(r)), keys, tops);
         r += 1;
     }
-}
-
-fn larger(a: u32, b: u32) -> u32
-    ensures { λ r. ⌜ r ≡ max a b ⌝ }
-{
-    if a < b { b } else { a }
-}
-
-// The greatest key of the n relays.
-pub fn greatest_key(n: u16, keys: &[u32; 1000]) -> u32
-    requires { ⌜ (n ≤ 1000) × (length (now keys) ≡ 1000) ⌝ }
-    ensures { λ r. ⌜ r ≡ greatest (take n (now (keys .entry))) ⌝ }
-{
-    let end = n as usize;
-    let mut best = 0;
-    let mut r = 0;
-    while r < end {
-        best = larger(best, keys[r]);
-        r += 1;
-    }
-    best
 }
 
 // The relay that has this key.

@@ -17,6 +17,7 @@ mod keys;
 pub mod left;
 mod marks;
 pub mod scan;
+mod tops;
 mod walk;
 
 pub enum OrderAnswer {

@@ -2,10 +2,11 @@
 use crate::chains::link_up;
 use crate::chains::no_heads;
 use crate::chains::no_nexts;
-use crate::keys::greatest_key;
 use crate::keys::no_keys;
 use crate::keys::relay_of;
 use crate::keys::start_keys;
+use crate::tops::greatest_key;
+use crate::tops::no_tops;
 use crate::walk::walk;
 use network::Place;
 use network::Relay;
@@ -56,20 +57,31 @@ fn place_next(
     first: &[u16; 1000],
     lownext: &[u16; 3000],
     highnext: &[u16; 3000],
-    keys: &mut [u32; 1000],
+    keys: &mut [u32; 1024],
+    tops: &mut [u32; 32],
     relays: &mut [u16],
     places: &mut [u16],
     forests: &mut [u16],
 )
-    requires { ⌜ Placeable n (v .0) (now lows) (now highs) (now first) (now lownext) (now highnext) (now keys)
+    requires { ⌜ Placeable n (v .0) (now lows) (now highs) (now first) (now lownext) (now highnext) (now keys) (now tops)
         (now relays) (now places) (now forests) ⌝ }
-    ensures { λ _. ⌜ PlacedOne n (v .0) (now (lows .entry)) (now (highs .entry)) (now (keys .entry)) (now (keys .exit))
+    ensures { λ _. ⌜ PlacedOne n (v .0) (now (lows .entry)) (now (highs .entry)) (now (keys .entry)) (now (keys .exit)) (now (tops .exit))
         (now (relays .entry)) (now (relays .exit)) (now (places .entry)) (now (places .exit))
         (now (forests .entry)) (now (forests .exit)) ⌝ }
 {
-    let x = relay_of(greatest_key(n, keys));
+    let x = relay_of(greatest_key(tops));
     put(x, v, relays, places);
-    walk(x, lows, highs, first, lownext, highnext, keys, forests);
+    walk(
+        x,
+        lows,
+        highs,
+        first,
+        lownext,
+        highnext,
+        keys,
+        tops,
+        forests,
+    );
 }
 
 // All n relays get their places.
@@ -80,12 +92,13 @@ fn place_all(
     first: &[u16; 1000],
     lownext: &[u16; 3000],
     highnext: &[u16; 3000],
-    keys: &mut [u32; 1000],
+    keys: &mut [u32; 1024],
+    tops: &mut [u32; 32],
     relays: &mut [u16],
     places: &mut [u16],
     forests: &mut [u16],
 )
-    requires { ⌜ Startable n (now lows) (now highs) (now first) (now lownext) (now highnext) (now keys)
+    requires { ⌜ Startable n (now lows) (now highs) (now first) (now lownext) (now highnext) (now keys) (now tops)
         (now relays) (now places) (now forests) ⌝ }
     ensures { λ _. ⌜ Scanned n (now (lows .entry)) (now (highs .entry)) (now (relays .entry)) (now (relays .exit))
         (now (places .entry)) (now (places .exit)) (now (forests .entry)) (now (forests .exit)) ⌝ }
@@ -102,6 +115,7 @@ fn place_all(
             lownext,
             highnext,
             keys,
+            tops,
             relays,
             places,
             forests,
@@ -127,7 +141,8 @@ pub fn scan(
     let mut highnext = no_nexts();
     link_up(lows, highs, &mut first, &mut lownext, &mut highnext);
     let mut keys = no_keys();
-    start_keys(n, &mut keys);
+    let mut tops = no_tops();
+    start_keys(n, &mut keys, &mut tops);
     place_all(
         n,
         lows,
@@ -136,6 +151,7 @@ pub fn scan(
         &lownext,
         &highnext,
         &mut keys,
+        &mut tops,
         relays,
         places,
         forests,

@@ -2,8 +2,11 @@
 // link's forest number.
 use crate::keys::number;
 use crate::keys::raised;
+use crate::tops::clear_key;
+use crate::tops::put_key;
 use network::Relay;
 ghost use mathlib.Core.Path.{_≡_};
+ghost use Rattle.forests.specs.Tops.{Tops};
 ghost use Rattle.forests.specs.Walk.{otherEnd, nextOf, Visitable, Visited, Walkable, Walked};
 
 fn wide(i: u16) -> usize
@@ -38,19 +41,20 @@ fn visit(
     highs: &[u16],
     lownext: &[u16; 3000],
     highnext: &[u16; 3000],
-    keys: &mut [u32; 1000],
+    keys: &mut [u32; 1024],
+    tops: &mut [u32; 32],
     forests: &mut [u16],
 ) -> usize
-    requires { ⌜ Visitable (x .0) i (now lows) (now highs) (now keys) (now forests) ⌝ }
+    requires { ⌜ Visitable (x .0) i (now lows) (now highs) (now keys) (now tops) (now forests) ⌝ }
     ensures { λ r. ⌜ Visited (x .0) i (now (lows .entry)) (now (highs .entry)) (now (lownext .entry)) (now (highnext .entry))
-        (now (keys .entry)) (now (keys .exit)) (now (forests .entry)) (now (forests .exit)) r ⌝ }
+        (now (keys .entry)) (now (keys .exit)) (now (tops .exit)) (now (forests .entry)) (now (forests .exit)) r ⌝ }
 {
     let low = Relay(lows[i]);
     let high = Relay(highs[i]);
     let y = other_end(x, low, high);
     let at = y.0 as usize;
     let key = keys[at];
-    keys[at] = raised(key);
+    put_key(at, raised(key), keys, tops);
     forests[i] = number(key, forests[i]);
     next_of(x, low, lownext[i], highnext[i])
 }
@@ -63,17 +67,19 @@ pub fn walk(
     first: &[u16; 1000],
     lownext: &[u16; 3000],
     highnext: &[u16; 3000],
-    keys: &mut [u32; 1000],
+    keys: &mut [u32; 1024],
+    tops: &mut [u32; 32],
     forests: &mut [u16],
 )
-    requires { ⌜ Walkable (x .0) (now lows) (now highs) (now first) (now lownext) (now highnext) (now keys) (now forests) ⌝ }
+    requires { ⌜ Walkable (x .0) (now lows) (now highs) (now first) (now lownext) (now highnext) (now keys) (now tops) (now forests) ⌝ }
     ensures { λ _. ⌜ Walked (x .0) (now (lows .entry)) (now (highs .entry)) (now (keys .entry)) (now (keys .exit))
         (now (forests .entry)) (now (forests .exit)) ⌝ }
+    ensures { λ _. ⌜ Tops (now (keys .exit)) (now (tops .exit)) ⌝ }
 {
     let at = x.0 as usize;
-    keys[at] = 0;
+    clear_key(at, keys, tops);
     let mut i = wide(first[at]);
     while i < lows.len() {
-        i = visit(x, i, lows, highs, lownext, highnext, keys, forests);
+        i = visit(x, i, lows, highs, lownext, highnext, keys, tops, forests);
     }
 }

@@ -3,30 +3,33 @@ use Prim.Native.Nat.{_≤_, _-_}
 use mathlib.Core.Path.{_≡_}
 use native.Mathlib.Omega.{arith}
 use Rattle.forests.specs.Keys.{StartKeys}
+use Rattle.forests.specs.Tops.{Tops}
+use Rattle.forests.proofs.TopLaws.{tops-none}
 use Rattle.forests.proofs.KeyLaws.{start-none, start-more}
 use Rattle.forests.proofs.keys.start_keys.Statement.{statement}
 use Rattle.forests.proofs.keys.start_keys.Tie as tie
 
 abbrev Inv-loop : tie.InvT-loop
-Inv-loop n keys₀ r₀ keys r = (r ≤ n) × StartKeys r keys
+Inv-loop n keys₀ tops₀ r₀ keys tops r = (r ≤ n) × StartKeys r keys × Tops keys tops
 
 abbrev μ-loop : tie.MeasureT-loop
-μ-loop n keys₀ r₀ keys r = n - r
+μ-loop n keys₀ tops₀ r₀ keys tops r = n - r
 
 loop-holds : tie.Need-loop-holds Inv-loop μ-loop
-loop-holds c = (omega arith, start-none (c .args .keys .now) (c .pre .1))
+loop-holds c =
+    let none = start-none (c .args .keys .now) (c .pre .1) in
+    (omega arith, none, tops-none (c .args .tops .now) none (c .pre .2))
 
-cast-at : tie.Need-cast-at Inv-loop μ-loop
-cast-at c = omega arith
+cast-put-key : tie.Need-cast-put-key Inv-loop μ-loop
+cast-put-key c = omega arith
 
 start-key-requires : tie.Need-start-key-requires Inv-loop μ-loop
 start-key-requires c κs = omega arith
 
-mul-keys : tie.Need-mul-keys Inv-loop μ-loop
-mul-keys c = omega arith
-
-element-write-keys : tie.Need-element-write-keys Inv-loop μ-loop
-element-write-keys c = omega arith
+put-key-requires : tie.Need-put-key-requires Inv-loop μ-loop
+put-key-requires c κs =
+    let at = c .before .before .before .before .loop in
+    (omega arith, omega (arith, at .inv .1 .rest (at .r) (omega arith)), at .inv .2)
 
 add-r : tie.Need-add-r Inv-loop μ-loop
 add-r c = omega arith
@@ -36,11 +39,13 @@ loop-less c = omega arith
 
 loop-again : tie.Need-loop-again Inv-loop μ-loop
 loop-again c =
-    let at = c .before .before .loop in
-    (omega arith, start-more (at .r) (c .start-key .result) (at .keys) (omega arith) (c .start-key .ensures) (at .inv .1))
+    let at = c .before .before .before .before .before .loop in
+    let key = c .before .before .before .start-key in
+    let more = start-more (at .r) (key .result) (at .keys) (omega arith) (key .ensures) (at .inv .1) in
+    (omega arith, rw (c .put-key .ensures .stored) more, c .put-key .ensures .topped)
 
 returns : tie.Need-returns Inv-loop μ-loop
-returns c = let p : c .before .loop .r ≡ c .before .before .args .n = omega arith in rw p at (c .before .loop .inv .1)
+returns c = let p : c .before .loop .r ≡ c .before .before .args .n = omega arith in (rw p at (c .before .loop .inv .1), c .before .loop .inv .2)
 
 pub start-keys-spec : {M : Type 1} → statement M
 start-keys-spec =
@@ -49,10 +54,9 @@ start-keys-spec =
     Inv-loop
     μ-loop
     loop-holds
-    cast-at
+    cast-put-key
     start-key-requires
-    mul-keys
-    element-write-keys
+    put-key-requires
     add-r
     loop-less
     loop-again

@@ -2,36 +2,39 @@
 use Prim.Native.Nat.{_-_, _≤_}
 use mathlib.Core.Path.{_≡_}
 use native.Mathlib.Omega.{arith}
+use Rattle.forests.specs.Tops.{Tops}
 use Rattle.forests.specs.Scan.{ScannedTo}
 use Rattle.forests.proofs.ScanLaws.{relays-long, scan-starts, scan-places, scan-moves, scan-ends}
 use Rattle.forests.proofs.scan.place_all.Statement.{statement}
 use Rattle.forests.proofs.scan.place_all.Tie as tie
 
 abbrev Inv-loop : tie.InvT-loop
-Inv-loop n lows highs first lownext highnext keys₀ relays₀ places₀ forests₀ v₀ keys relays places forests v = (v ≤ n) × ScannedTo n lows highs v keys relays₀ relays places₀ places forests₀ forests
+Inv-loop n lows highs first lownext highnext keys₀ tops₀ relays₀ places₀ forests₀ v₀ keys tops relays places forests v = (v ≤ n) × ScannedTo n lows highs v keys relays₀ relays places₀ places forests₀ forests × Tops keys tops
 
 abbrev μ-loop : tie.MeasureT-loop
-μ-loop n lows highs first lownext highnext keys₀ relays₀ places₀ forests₀ v₀ keys relays places forests v = n - v
+μ-loop n lows highs first lownext highnext keys₀ tops₀ relays₀ places₀ forests₀ v₀ keys tops relays places forests v = n - v
 
 loop-holds : tie.Need-loop-holds Inv-loop μ-loop
-loop-holds c = (omega arith, scan-starts (c .before .before .before .before .before .pre))
+loop-holds c =
+    let p = c .before .before .before .before .before .pre in
+    (omega arith, scan-starts p, p .topped)
 
 add-v : tie.Need-add-v Inv-loop μ-loop
 add-v c = omega arith
 
 place-next-requires : tie.Need-place-next-requires Inv-loop μ-loop
 place-next-requires c κs =
-    let at = c .before .before .before .before .before .loop in
-    scan-places (c .before .before .before .before .before .before .before .before .before .before .before .pre) (at .v) (omega arith) (at .inv .1)
+    let at = c .before .before .before .before .before .before in
+    scan-places (at .before .before .before .before .before .before .pre) (at .loop .v) (omega arith) (at .loop .inv .1) (at .loop .inv .2)
 
 loop-less : tie.Need-loop-less Inv-loop μ-loop
 loop-less c = omega arith
 
 loop-again : tie.Need-loop-again Inv-loop μ-loop
 loop-again c =
-    let at = c .before .before .before .before .before .before .before .before .before .before .before .before .loop in
-    let one = c .before .before .before .before .before .before .place-next in
-    (omega arith, scan-moves (c .before .before .before .before .before .before .before .before .before .before .before .before .before .before .before .before .before .before .pre) (at .v) (omega arith) (at .inv .1) (one .ensures))
+    let at = c .before .before .before .before .before .before .before .before .before .before .before .before .before in
+    let one = c .before .before .before .before .before .before .place-next .ensures in
+    (omega arith, scan-moves (at .before .before .before .before .before .before .pre) (at .loop .v) (omega arith) (at .loop .inv .1) one, one .topped)
 
 same-length : tie.Need-same-length Inv-loop μ-loop
 same-length c =

@@ -1,17 +1,21 @@
 -- The relay with the greatest key gets its place, and its links are walked. Assumes nothing.
-use Rattle.forests.proofs.ScanLaws.{placed-one}
 use mathlib.Core.Path.{_≡_, _∙_, ap}
 use Rattle.forests.specs.Keys.{relayOf}
 use Rattle.forests.specs.Scan.{chosen}
+use Rattle.forests.proofs.TopLaws.{tops-greatest}
+use Rattle.forests.proofs.ScanLaws.{placed-one}
 use borrow.Author.Needs.{needs}
 use Rattle.forests.proofs.scan.place_next.Statement.{statement}
 use Rattle.forests.proofs.scan.place_next.Tie as tie
 
 which : (c : tie.After-relay-of)
-    → let a = c .before .before .before .before .before .before .before .before .args in
+    → let a = c .before .before .before .before .before .before .before .before .before .args in
     c .relay-of .result .0 ≡ chosen (a .n) (a .keys .now)
 unfolding chosen
-which c = c .relay-of .ensures ∙ ap relayOf (c .before .greatest-key .ensures)
+which c =
+    let s = c .before .before .before .before .before .before .before .before .before in
+    let most = tops-greatest (s .args .n) (s .pre .few) (s .pre .rest) (s .pre .walkable .topped) in
+    c .relay-of .ensures ∙ ap relayOf (c .before .greatest-key .ensures ∙ most)
 
 greatest-key-requires : tie.Need-greatest-key-requires
 greatest-key-requires c κs = search needs
@@ -21,11 +25,11 @@ relay-of-requires c κs = search needs
 
 put-requires : tie.Need-put-requires
 put-requires c κs =
-    let p = c .before .before .before .before .before .before .before .before .before .before .pre in
+    let p = c .before .before .before .before .before .before .before .before .before .before .before .pre in
     (p .some, p .within, rw (which (c .before .before)) (p .room))
 
 walk-requires : tie.Need-walk-requires
-walk-requires c κs = rw (which (c .before .before .before .before .before .before .before .before .before)) (c .before .before .before .before .before .before .before .before .before .before .before .before .before .before .before .before .before .pre .walkable)
+walk-requires c κs = rw (which (c .before .before .before .before .before .before .before .before .before .before)) (c .before .before .before .before .before .before .before .before .before .before .before .before .before .before .before .before .before .before .before .pre .walkable)
 
 same-length : tie.Need-same-length
 same-length c = search needs
@@ -38,9 +42,9 @@ same-length-3 c = search needs
 
 returns : tie.Need-returns
 returns c =
-    let choice = c .before .before .before .before .before .before .before .before .before .before .before .before in
-    let stored = c .before .before .before .before .before .before .before .before .before .put in
-    placed-one (choice .relay-of .result .0) (which choice) (stored .ensures .0) (stored .ensures .1) (c .before .before .walk .ensures)
+    let stored = c .before .before .before .before .before .before .before .before .before .before in
+    let choice = stored .before .before .before in
+    placed-one (choice .relay-of .result .0) (which choice) (stored .put .ensures .0) (stored .put .ensures .1) (c .before .before .walk .ensures)
 
 pub place-next-spec : {M : Type 1} → statement M
 place-next-spec =

@@ -31,10 +31,14 @@ link-up-requires c κs =
 no-keys-requires : tie.Need-no-keys-requires
 no-keys-requires c κs = search needs
 
+no-tops-requires : tie.Need-no-tops-requires
+no-tops-requires c κs = search needs
+
 start-keys-requires : tie.Need-start-keys-requires
 start-keys-requires c κs =
-    let s = c .before .before .before .before .before .before .before .before .before .before .before .before .before .before in
-    (accepted (s .args .n) (s .args .lows .now) (s .args .highs .now) (s .pre .accepted) .few, c .before .no-keys .ensures)
+    let s = c .before .before .before .before .before .before .before .before .before .before .before .before .before .before .before .before in
+    let few = accepted (s .args .n) (s .args .lows .now) (s .args .highs .now) (s .pre .accepted) .few in
+    (few, c .before .before .before .no-keys .ensures, c .before .before .no-tops .ensures)
 
 place-all-requires : tie.Need-place-all-requires
 place-all-requires c κs = search needs
@@ -61,6 +65,7 @@ scan-spec =
     no-nexts-requires-2
     link-up-requires
     no-keys-requires
+    no-tops-requires
     start-keys-requires
     place-all-requires
     same-length

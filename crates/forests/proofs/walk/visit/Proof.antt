@@ -1,6 +1,8 @@
 -- One link of the walk: the far end is the one that the contract names. Assumes nothing.
 use native.Mathlib.Omega.{arith}
+use lib.ListN.{getD}
 use Rattle.forests.specs.Walk.{farEnd}
+use Rattle.forests.proofs.KeyLaws.{raised-up}
 use Rattle.forests.proofs.WalkLaws.{visit-done}
 use borrow.Author.Needs.{needs}
 use Rattle.forests.proofs.walk.visit.Statement.{statement}
@@ -35,12 +37,12 @@ raised-requires : tie.Need-raised-requires
 unfolding farEnd
 raised-requires c κs = rw (c .before .before .other-end .ensures) (c .before .before .before .before .before .before .before .before .pre .bound)
 
-mul-keys : tie.Need-mul-keys
-mul-keys c = search needs
-
-element-write-keys : tie.Need-element-write-keys
+put-key-requires : tie.Need-put-key-requires
 unfolding farEnd
-element-write-keys c = omega arith
+put-key-requires c κs =
+    let s = c .before .before .before .before .before .before .before .before .before .before .before in
+    let other = c .before .before .before .before .before .other-end in
+    (omega arith, omega (arith, c .before .before .raised .ensures, raised-up (getD (s .args .keys .now) (other .result .0) 0)), s .pre .topped)
 
 mul-number : tie.Need-mul-number
 mul-number c = search needs
@@ -50,7 +52,7 @@ slice-read-number c = search needs
 
 number-requires : tie.Need-number-requires
 unfolding farEnd
-number-requires c κs = rw (c .before .before .before .before .other-end .ensures) (c .before .before .before .before .before .before .before .before .before .before .pre .bound)
+number-requires c κs = rw (c .before .before .before .before .before .before .before .other-end .ensures) (c .before .before .before .before .before .before .before .before .before .before .before .before .before .pre .bound)
 
 mul-forests-3 : tie.Need-mul-forests-3
 mul-forests-3 c = search needs
@@ -79,11 +81,10 @@ same-length c = search needs
 returns : tie.Need-returns
 unfolding farEnd
 returns c =
-    let other = c .before .before .before .before .before .before .before .before in
-    let a = other .before .before .before .before .before .before .args in
-    visit-done (a .x .0) (a .i) (a .lows .now) (a .highs .now) (a .lownext .now) (a .highnext .now) (a .keys .now) (a .forests .now)
-    (other .other-end .result .0) (c .before .before .before .before .before .raised .result) (c .before .before .before .number .result) (c .next-of .result)
-    (other .other-end .ensures) (c .before .before .before .before .before .raised .ensures) (c .before .before .before .number .ensures) (c .next-of .ensures)
+    let other = c .before .before .before .before .before .before .before .before .before .before .before .other-end in
+    let stored = c .before .before .before .before .before in
+    visit-done (other .result .0) (other .ensures) (stored .before .before .before .raised .ensures) (stored .put-key .ensures)
+    (c .before .before .before .number .ensures) (c .next-of .ensures)
 
 pub visit-spec : {M : Type 1} → statement M
 visit-spec =
@@ -98,8 +99,7 @@ visit-spec =
     mul-key
     element-copy-out-key
     raised-requires
-    mul-keys
-    element-write-keys
+    put-key-requires
     mul-number
     slice-read-number
     number-requires

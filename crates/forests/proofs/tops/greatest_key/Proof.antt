@@ -1,19 +1,20 @@
--- After each turn `best` is the greatest key of that many relays. Assumes nothing.
+-- After each turn `best` is the greatest of that many keys. Assumes nothing.
 use Prim.Native.Nat.{max, _≤_, _-_}
 use mathlib.Core.Path.{_≡_, refl, sym, _∙_, ap}
 use native.Mathlib.Numerals.{add-one}
 use native.Mathlib.Omega.{arith}
 use lib.ListN.{take, getD}
+use lib.Seq.{take-all}
 use Rattle.definitions.specs.Lists.{greatest}
 use Rattle.lists.specs.Greatest.{greatest-next}
-use Rattle.forests.proofs.keys.greatest_key.Statement.{statement}
-use Rattle.forests.proofs.keys.greatest_key.Tie as tie
+use Rattle.forests.proofs.tops.greatest_key.Statement.{statement}
+use Rattle.forests.proofs.tops.greatest_key.Tie as tie
 
 abbrev Inv-loop : tie.InvT-loop
-Inv-loop n keys end best₀ r₀ best r = (r ≤ end) × (best ≡ greatest (take r keys))
+Inv-loop keys best₀ i₀ best i = (i ≤ 32) × (best ≡ greatest (take i keys))
 
 abbrev μ-loop : tie.MeasureT-loop
-μ-loop n keys end best₀ r₀ best r = end - r
+μ-loop keys best₀ i₀ best i = 32 - i
 
 loop-holds : tie.Need-loop-holds Inv-loop μ-loop
 unfolding greatest
@@ -22,14 +23,14 @@ loop-holds c = (omega arith, refl)
 mul-larger : tie.Need-mul-larger Inv-loop μ-loop
 mul-larger c = omega arith
 
-element-copy-out-larger : tie.Need-element-copy-out-larger Inv-loop μ-loop
-element-copy-out-larger c = omega arith
+shared-slice-read-larger : tie.Need-shared-slice-read-larger Inv-loop μ-loop
+shared-slice-read-larger c = omega arith
 
 larger-requires : tie.Need-larger-requires Inv-loop μ-loop
 larger-requires c κs = tt
 
-add-r : tie.Need-add-r Inv-loop μ-loop
-add-r c = omega arith
+add-i : tie.Need-add-i Inv-loop μ-loop
+add-i c = omega arith
 
 loop-less : tie.Need-loop-less Inv-loop μ-loop
 loop-less c = omega arith
@@ -37,14 +38,14 @@ loop-less c = omega arith
 loop-again : tie.Need-loop-again Inv-loop μ-loop
 loop-again c =
     let at = c .before .before .before in
-    let r = at .loop .r in
-    let keys = at .before .args .keys .now in
-    (omega arith, c .larger .ensures ∙ ap (λ b. max b (getD keys r 0)) (at .loop .inv .1) ∙ sym (greatest-next keys r (omega arith)) ∙ ap (λ j. greatest (take j keys)) (sym (add-one r)))
+    let i = at .loop .i in
+    let keys = at .before .before .args .keys .now in
+    (omega arith, c .larger .ensures ∙ ap (λ b. max b (getD keys i 0)) (at .loop .inv .1) ∙ sym (greatest-next keys i (omega arith)) ∙ ap (λ j. greatest (take j keys)) (sym (add-one i)))
 
 returns : tie.Need-returns Inv-loop μ-loop
 returns c =
-    let p : c .before .loop .r ≡ c .before .before .args .n = omega arith in
-    rw p at (c .before .loop .inv .1)
+    let keys = c .before .before .before .args .keys .now in
+    c .before .loop .inv .1 ∙ ap greatest (take-all (c .before .loop .i) keys (omega arith))
 
 pub greatest-key-spec : {M : Type 1} → statement M
 greatest-key-spec =
@@ -54,9 +55,9 @@ greatest-key-spec =
     μ-loop
     loop-holds
     mul-larger
-    element-copy-out-larger
+    shared-slice-read-larger
     larger-requires
-    add-r
+    add-i
     loop-less
     loop-again
     returns)
