@@ -1,8 +1,10 @@
--- Some number below a bound passes a test, and when none does.
-use Prim.Native.Nat.{ℕ, zero, suc, _<_}
+-- Some number below a bound passes a test, and when none does; one number more, and tests that agree below the bound.
+-- Assumes nothing.
+use Prim.Native.Nat.{ℕ, zero, suc, _+_, _<_}
 use mathlib.Core.Bool.{Bool, true, false, _||_, true≢false, false≢true}
 use mathlib.Core.Logic.{_≢_}
-use mathlib.Core.Path.{_≡_, refl, sym, _∙_, ap}
+use mathlib.Core.Path.{_≡_, refl, sym, _∙_, ap, ap₂}
+use native.Mathlib.Numerals.{add-one}
 use native.Mathlib.Omega.{arith}
 use borrow.Author.Tests.{eqb-true, eqb-false}
 use lib.Dec.{eqb}
@@ -46,3 +48,12 @@ none-below test n h = go (someBelow test n) refl
         let which = below-which test n e in
         absurd (true≢false (sym (which .2) ∙ h (which .0) (which .1)))
     go false e = refl
+
+pub some-next : (test : ℕ → Bool) (i : ℕ) → someBelow test (i + 1) ≡ (test i || someBelow test i)
+unfolding someBelow
+some-next test i = rw (add-one i) refl
+
+pub some-same : (f g : ℕ → Bool) (i : ℕ) → ((j : ℕ) → j < i → f j ≡ g j) → someBelow f i ≡ someBelow g i
+unfolding someBelow
+some-same f g zero same = refl
+some-same f g (suc i) same = ap₂ _||_ (same i (omega arith)) (some-same f g i (λ j h. same j (omega arith)))

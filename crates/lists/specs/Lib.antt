@@ -14,7 +14,6 @@ pub mod Positions
 pub mod Overwritten
 pub mod Parts
 pub mod Ranges
-pub mod SomeBelow
 pub mod Bitmap
 pub mod Rising
 pub mod Totals

@@ -1,14 +1,17 @@
 -- What `check_link` promises, way by way through its code: each answer with the tests that led to it.
 -- Assumes nothing.
-use Prim.Native.Nat.{ℕ, suc, _*_, _/_, _%_, _^_, _≤_, _<_}
-use mathlib.Core.Bool.{Bool, true, false}
-use mathlib.Core.List.{List}
+use Prim.Native.Nat.{ℕ, suc, _-_, _*_, _/_, _%_, _^_, _≤_, _<_}
+use mathlib.Core.Bool.{Bool, true, false, _||_}
+use mathlib.Core.List.{List, [], _∷_}
+use mathlib.Core.Logic.{⊎-elim}
 use mathlib.Core.Path.{_≡_, refl, sym, _∙_, ap}
 use native.Mathlib.Nat.{one-mul, mod-lt, mod-eq-of-lt}
 use native.Mathlib.Omega.{arith}
-use borrow.Author.Tests.{le-leb, lt-leb, eq-eqb, ne-eqb}
+use denote.Enum.Declared.{tagOf}
+use types.Run.{OneOf}
+use borrow.Author.Tests.{lt-leb, eq-eqb, ne-eqb}
 use lib.Bits.{bitOr}
-use lib.Dec.{lit<, eqb}
+use lib.Dec.{lit<, eqb, leb}
 use lib.ListN.{getD, set}
 use lib.Pow.{pow-lt}
 use Rattle.definitions.specs.Outcome.{pick}
@@ -16,7 +19,15 @@ use Rattle.definitions.specs.Network.{pairNumber}
 use Rattle.lists.specs.Bitmap.{bitOf, marked, mark}
 use Rattle.network.specs.declared.LinkCheck.{LinkCheck}
 use Rattle.network.specs.declared.LinkCheck.the-variants.{Fine, RelayRange, NotBelow, Repeated}
-use Rattle.network.specs.Seen.{faultOf, faultAt, bitsAfter, LinkChecked}
+use Rattle.network.proofs.LinkCheck.{the-type}
+use Rattle.network.specs.Seen.{faultOf, faultAt, fault-none, bitsAfter, LinkChecked}
+
+-- Any answer but the first of the four is a fault.
+pub some-fault : (r : LinkCheck) → OneOf (1 ∷ 2 ∷ 3 ∷ []) (tagOf the-type r) → 0 < faultOf r
+some-fault Fine keys = absurd (⊎-elim (λ e. omega arith) (⊎-elim (λ e. omega arith) (λ e. omega arith)) keys)
+some-fault RelayRange keys = omega arith
+some-fault NotBelow keys = omega arith
+some-fault Repeated keys = omega arith
 
 -- A link with a fault leaves the bits.
 refuses : (n a b : ℕ) (bits : List ℕ) (r : LinkCheck) (f : ℕ) → faultOf r ≡ suc f → faultAt n (marked bits) a b ≡ suc f
@@ -29,19 +40,41 @@ refuses n a b bits r f answer fault =
           (sym (ap (λ (x : ℕ). eqb x 0) fault ∙ ne-eqb (suc f) 0 (λ (e : suc f ≡ 0). omega arith)));
     }
 
+-- No pair was seen before.
+none : ℕ → Bool
+none p = false
+
+-- What the numbers alone are at fault for stands whatever was seen.
+fault-sooner : (n a b : ℕ) (at : ℕ → Bool) (f : ℕ) → faultAt n none a b ≡ suc f → faultAt n at a b ≡ suc f
+unfolding faultAt none
+fault-sooner n a b at f = go (leb n a || leb n b) (leb b a)
+  where
+    go : (out up : Bool) → _≡_ {A = ℕ} (pick out 5 (pick up 6 0)) (suc f)
+        → _≡_ {A = ℕ} (pick out 5 (pick up 6 (pick (at (pairNumber a b)) 7 0))) (suc f)
+    go true up e = e
+    go false true e = e
+    go false false e = absurd (omega arith)
+
+first-of : (out : Bool) (next : ℕ) → pick (eqb (pick out 5 0) 0) next (pick out 5 0) ≡ pick out 5 next
+first-of true next = refl
+first-of false next = refl
+
+-- The first fault of the numbers, of a range and a rise: they fit, or the link has this fault.
+module _ (n a b : ℕ) (range rise r : LinkCheck) (ranged : faultOf range ≡ pick (leb n a || leb n b) 5 0)
+    (risen : faultOf rise ≡ pick (leb b a) 6 0) (first : faultOf r ≡ pick (eqb (faultOf range) 0) (faultOf rise) (faultOf range)) where
+  numbers-fault : faultOf r ≡ faultAt n none a b
+  unfolding faultAt none
+  numbers-fault = first ∙ rw (ranged, risen) (first-of (leb n a || leb n b) (pick (leb b a) 6 0))
+
+  pub numbers-fit : faultOf r ≡ 0 → (a < b) × (b < n)
+  numbers-fit e = fault-none n a b none (sym numbers-fault ∙ e)
+
+  pub numbers-faulty : (bits : List ℕ) → 0 < faultOf r → LinkChecked n a b bits bits r
+  numbers-faulty bits h =
+      let some : faultOf r ≡ suc (faultOf r - 1) = omega arith in
+      refuses n a b bits r (faultOf r - 1) some (fault-sooner n a b (marked bits) (faultOf r - 1) (sym numbers-fault ∙ some))
+
 module _ (n a b : ℕ) (bits : List ℕ) where
-  pub low-outside : n ≤ a → LinkChecked n a b bits bits RelayRange
-  unfolding faultAt
-  low-outside h = refuses n a b bits RelayRange 4 refl (simp (le-leb n a h))
-
-  pub high-outside : a < n → n ≤ b → LinkChecked n a b bits bits RelayRange
-  unfolding faultAt
-  high-outside h k = refuses n a b bits RelayRange 4 refl (simp (lt-leb n a h, le-leb n b k))
-
-  pub not-below : a < n → b < n → b ≤ a → LinkChecked n a b bits bits NotBelow
-  unfolding faultAt
-  not-below h k l = refuses n a b bits NotBelow 5 refl (simp (lt-leb n a h, lt-leb n b k, le-leb b a l))
-
   fault-fit : a < n → b < n → a < b → (t : Bool) → marked bits (pairNumber a b) ≡ t
       → faultAt n (marked bits) a b ≡ pick t 7 0
   unfolding faultAt

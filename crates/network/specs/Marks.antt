@@ -8,7 +8,7 @@ use lib.Dec.{eqb}
 use lib.ListN.{getD}
 use Rattle.definitions.specs.Lists.{someBelow}
 use Rattle.definitions.specs.Network.{rowStart, pairNumber, isPair}
-use Rattle.lists.specs.SomeBelow.{some-next, some-same}
+use Rattle.lists.specs.Below.{some-next, some-same}
 use Rattle.network.specs.Pairs.{pair-below, pair-test}
 
 -- Marked are the pairs of the first i links of the table, of all pairs of n relays.

@@ -1,12 +1,15 @@
 // The table of a network: relay numbers and places, pair numbers, and the table check. What each refusal and answer
 // stands for is said in specs/Answers.antt, what the marks of the links seen so far hold in specs/Seen.antt.
+ghost use mathlib.Core.Bool.{_||_};
 ghost use mathlib.Core.Path.{_≡_};
 ghost use Prim.Native.Nat.{_<_, _≤_};
+ghost use lib.Dec.{eqb, leb};
 ghost use lib.ListN.{length, replicate};
+ghost use Rattle.definitions.specs.Outcome.{pick};
 ghost use Rattle.definitions.specs.Network.{rowStart, pairNumber, pairAnswer, linksCheck, tableCheck};
 ghost use Rattle.network.specs.Answers.{pairOutcome, checkOutcome};
 ghost use Rattle.network.specs.Refusals.{numberOf, placeOf};
-ghost use Rattle.network.specs.Seen.{RoomFor, LinkChecked, Seen};
+ghost use Rattle.network.specs.Seen.{faultOf, RoomFor, LinkChecked, Seen};
 
 // A relay number, never a place in the order.
 pub struct Relay(pub u16);
@@ -123,10 +126,9 @@ pub fn no_pairs_of_1000() -> [u64; 7805]
     [0u64; 7805]
 }
 
-// Checks the link a b after those whose pairs are marked, and marks its pair if it is fine.
-pub fn check_link(n: u16, a: u16, b: u16, seen: &mut [u64]) -> LinkCheck
-    requires { ⌜ (n ≤ 1000) × RoomFor n (now seen) ⌝ }
-    ensures { λ r. ⌜ LinkChecked n a b (now (seen .entry)) (now (seen .exit)) r ⌝ }
+// The fault of a link with a relay number not below n.
+fn range_fault(n: u16, a: u16, b: u16) -> LinkCheck
+    ensures { λ r. ⌜ faultOf r ≡ pick (leb n a || leb n b) 5 0 ⌝ }
 {
     if n <= a {
         return LinkCheck::RelayRange;
@@ -134,9 +136,34 @@ pub fn check_link(n: u16, a: u16, b: u16, seen: &mut [u64]) -> LinkCheck
     if n <= b {
         return LinkCheck::RelayRange;
     }
+    LinkCheck::Fine
+}
+
+// The fault of a link whose low number is not below its high one.
+fn rise_fault(a: u16, b: u16) -> LinkCheck
+    ensures { λ r. ⌜ faultOf r ≡ pick (leb b a) 6 0 ⌝ }
+{
     if b <= a {
         return LinkCheck::NotBelow;
     }
+    LinkCheck::Fine
+}
+
+// The first of two faults: the second stands only where the first is none.
+fn first_fault(first: LinkCheck, second: LinkCheck) -> LinkCheck
+    ensures { λ r. ⌜ faultOf r ≡ pick (eqb (faultOf first) 0) (faultOf second) (faultOf first) ⌝ }
+{
+    match first {
+        LinkCheck::Fine => second,
+        _ => first,
+    }
+}
+
+// Looks for the pair a b among those that are marked, and marks it if it is not there.
+fn mark_pair(n: u16, a: u16, b: u16, seen: &mut [u64]) -> LinkCheck
+    requires { ⌜ (n ≤ 1000) × RoomFor n (now seen) × (a < b) × (b < n) ⌝ }
+    ensures { λ r. ⌜ LinkChecked n a b (now (seen .entry)) (now (seen .exit)) r ⌝ }
+{
     let pair = pair_index(a, b) as usize;
     let word = pair / 64;
     let bit = pair % 64;
@@ -147,6 +174,20 @@ pub fn check_link(n: u16, a: u16, b: u16, seen: &mut [u64]) -> LinkCheck
     }
     seen[word] = marked;
     LinkCheck::Fine
+}
+
+// Checks the link a b after those whose pairs are marked, and marks its pair if it is fine: 5 comes before 6, 6 before 7.
+pub fn check_link(n: u16, a: u16, b: u16, seen: &mut [u64]) -> LinkCheck
+    requires { ⌜ (n ≤ 1000) × RoomFor n (now seen) ⌝ }
+    ensures { λ r. ⌜ LinkChecked n a b (now (seen .entry)) (now (seen .exit)) r ⌝ }
+{
+    let range = range_fault(n, a, b);
+    let rise = rise_fault(a, b);
+    let fault = first_fault(range, rise);
+    match fault {
+        LinkCheck::Fine => mark_pair(n, a, b, seen),
+        _ => fault,
+    }
 }
 
 // Checks link by link, where no pair is marked yet.

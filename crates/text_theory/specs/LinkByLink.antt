@@ -15,7 +15,7 @@ use Rattle.definitions.specs.Network.{isPair, linkFault, linksCheck, tableCheck
 use Rattle.definitions.specs.Form.{writeForm}
 use Rattle.definitions.specs.Text.{linkForm, linkLines}
 use Rattle.lists.specs.Outcomes.{not-refused, refuse-not}
-use Rattle.lists.specs.SomeBelow.{some-same}
+use Rattle.lists.specs.Below.{some-same}
 use Rattle.theory.specs.Accepted.{accepted}
 
 -- The lines of these links.
