@@ -1,3 +1,4 @@
 -- Laws that the proofs by hand share.
 pub mod Again
 pub mod Lending
+pub mod Frame

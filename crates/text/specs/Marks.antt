@@ -128,7 +128,9 @@ module _ (n : ℕ) (lows highs start : List ℕ) where
         same = m .put .same ∙ s .same;
         ends = rw (m .counts) (omega (arith, s .ends, m .put .ends, ap length whole, length-append form (rest ++ writeForm endForm [])));
         bytes = rw (m .counts)
-            (s .bytes ∙ (ap (sets buffer (mark .next)) whole ∙ put-rest buffer form after (rest ++ writeForm endForm []) (mark .next) (moved .next) (m .put)));
+            (s .bytes
+            ∙ (ap (sets buffer (mark .next)) whole
+            ∙ put-rest buffer form after (rest ++ writeForm endForm []) (mark .next) (moved .next) (m .put)));
       }
 
   pub end-moved : (buffer after : List ℕ) (mark moved : WriteMark) → Standing buffer mark → length lows ≤ mark .links

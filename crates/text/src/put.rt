@@ -98,7 +98,8 @@ pub fn put_pair(
     back: &[u8],
 ) -> usize
     requires { ⌜ at + length (writeForm (pairForm (now front) (now middle) (now back)) (a ∷ b ∷ [])) ≤ length (now buffer) ⌝ }
-    ensures { λ r. ⌜ Put (now (buffer .entry)) at (writeForm (pairForm (now (front .entry)) (now (middle .entry)) (now (back .entry))) (a ∷ b ∷ [])) (now (buffer .exit)) r ⌝ }
+    ensures { λ r. ⌜ Put (now (buffer .entry)) at
+        (writeForm (pairForm (now (front .entry)) (now (middle .entry)) (now (back .entry))) (a ∷ b ∷ [])) (now (buffer .exit)) r ⌝ }
 {
     let p = put_word_number(buffer, at, front, a);
     let q = put_word_number(buffer, p, middle, b);
@@ -194,7 +195,8 @@ pub fn move_mark(
     highs: &[u16],
 )
     requires { ⌜ Fits (now buffer) (now mark) due n (now lows) (now highs) ⌝ }
-    ensures { λ _. ⌜ Moved (now (buffer .entry)) (now (mark .entry)) due n (now (lows .entry)) (now (highs .entry)) (now (buffer .exit)) (now (mark .exit)) ⌝ }
+    ensures { λ _. ⌜ Moved (now (buffer .entry)) (now (mark .entry)) due n (now (lows .entry)) (now (highs .entry))
+        (now (buffer .exit)) (now (mark .exit)) ⌝ }
 {
     *mark = put_form(buffer, *mark, due, n, lows, highs);
 }

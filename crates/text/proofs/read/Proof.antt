@@ -44,9 +44,10 @@ same-length-2 c = search needs
 
 returns : tie.Need-returns
 returns c =
-    let a = c .before .before .before .before .before .before .before .before .before .before .before .before .before .before .before .before .before .before .before .before .before .args in
-    let table = c .before .before .before .before .before .before .before .before .before .before .before .before .before .before .before .read-table in
-    let e = c .before .before .before .before .before .before .before .before .before .refusal .given .1 in (
+    let m = c .before .before .before .before .before .before .before .before .before in
+    let table = m .before .before .before .before .before .before .read-table in
+    let a = m .before .before .before .before .before .before .before .before .before .before .before .before .args in
+    let e = m .refusal .given .1 in (
       sym (ap readOutcome e) ∙ answer-read (now (a .text)) (now (a .lows)) (now (a .highs)) _ _ (table .result) (table .ensures),
       (
         c .before .before .before .before .before .before .clear-from .ensures
@@ -66,9 +67,10 @@ same-length-4 c = search needs
 
 returns-2 : tie.Need-returns-2
 returns-2 c =
-    let a = c .before .before .before .before .before .before .before .before .before .before .before .before .before .before .before .before .before .before .before .before .before .args in
-    let table = c .before .before .before .before .before .before .before .before .before .before .before .before .before .before .before .read-table in
-    let e = c .before .before .before .before .before .before .before .before .before .n .given .1 in (
+    let m = c .before .before .before .before .before .before .before .before .before in
+    let table = m .before .before .before .before .before .before .read-table in
+    let a = m .before .before .before .before .before .before .before .before .before .before .before .before .args in
+    let e = m .n .given .1 in (
       sym (ap readOutcome e) ∙ answer-read (now (a .text)) (now (a .lows)) (now (a .highs)) _ _ (table .result) (table .ensures),
       (
         c .before .before .before .before .before .before .clear-from3 .ensures

@@ -35,10 +35,11 @@ same-length-2 c = search needs
 
 returns-2 : tie.Need-returns-2
 returns-2 c =
-    let a = c .before .before .before .before .before .before .before .before .before .before .before .before .before .before .args in
+    let m = c .before .before .before .before .before .before .before .before in
+    let a = m .before .before .before .before .before .before .args in
     table-same _ _ _ _ _ _ _
     (header-read (now (a .text)) _ _ _ (length (now (a .lows))) (length (now (a .highs)))
-    (sym (c .before .before .before .before .before .before .before .before .before .before .form-at .ensures) ∙ ap pairGives (c .before .before .before .before .before .before .before .before .n .given .1)))
+    (sym (m .before .before .form-at .ensures) ∙ ap pairGives (m .n .given .1)))
     (c .before .before .before .before .read-rows .ensures)
 
 pub read-table-spec : {M : Type 1} → statement M

@@ -47,7 +47,8 @@ put-text-requires c κs = omega (arith, c .before .before .text-length .ensures)
 returns-2 : tie.Need-returns-2
 returns-2 c =
     let a = c .before .before .before .before .before .before .before .args in
-    let refused = write-refused (a .n) (now (a .lows)) (now (a .highs)) (now (a .buffer)) (c .before .refusal .given .0 .0) (sym (c .before .before .before .table-check .ensures) ∙ ap checkOutcome (c .before .refusal .given .1)) in
+    let checked = sym (c .before .before .before .table-check .ensures) ∙ ap checkOutcome (c .before .refusal .given .1) in
+    let refused = write-refused (a .n) (now (a .lows)) (now (a .highs)) (now (a .buffer)) (c .before .refusal .given .0 .0) checked in
     (sym (refused .0), sym (refused .1))
 
 same-length : tie.Need-same-length
@@ -55,11 +56,13 @@ same-length c = search needs
 
 returns-3 : tie.Need-returns-3
 returns-3 c =
-    let a = c .before .before .before .before .before .before .before .before .before .before .before .before .args in
+    let m = c .before .before .before .before .before .before in
+    let a = m .before .before .before .before .before .before .args in
     let good : Accepted (a .n) (now (a .lows)) (now (a .highs)) =
-    sym (c .before .before .before .before .before .before .before .before .table-check .ensures) ∙ ap checkOutcome (c .before .before .before .before .before .before .enum-told .given .1) in
+    sym (m .before .before .table-check .ensures) ∙ ap checkOutcome (m .enum-told .given .1) in
     let put = c .before .before .put-text .ensures in
-    let written = write-done (a .n) (now (a .lows)) (now (a .highs)) (now (a .buffer)) good (omega (arith, c .before .before .before .before .before .text-length .ensures)) in (
+    let size = c .before .before .before .before .before .text-length .ensures in
+    let written = write-done (a .n) (now (a .lows)) (now (a .highs)) (now (a .buffer)) good (omega (arith, size)) in (
       ap (λ (size : ℕ). done (size ∷ [])) (put .ends ∙ zero-add (length (textOf (a .n) (now (a .lows)) (now (a .highs))))) ∙ sym (written .0),
       put .bytes ∙ sym (written .1),
     )

@@ -18,19 +18,17 @@ width-requires-2 c κs = search needs
 add-result-2 : tie.Need-add-result-2
 add-result-2 c =
     let a = c .before .before .args in
-    omega (arith, c .before .width .ensures, c .width2 .ensures, length-decimal-at-most 4 (a .n) (omega arith), length-decimal-at-most 4 (a .m) (omega arith))
+    let one = length-decimal-at-most 4 (a .n) (omega arith) in
+    let two = length-decimal-at-most 4 (a .m) (omega arith) in
+    omega (arith, c .before .width .ensures, c .width2 .ensures, one, two)
 
 returns : tie.Need-returns
 returns c =
-    let a = c .before .before .args in (
+    let a = c .before .before .args in
+    let one = length-decimal-at-most 4 (a .n) (omega arith) in
+    let two = length-decimal-at-most 4 (a .m) (omega arith) in (
       omega (arith, c .before .width .ensures, c .width2 .ensures, length-headerForm (a .n) (a .m)),
-      omega (
-        arith,
-        c .before .width .ensures,
-        c .width2 .ensures,
-        length-decimal-at-most 4 (a .n) (omega arith),
-        length-decimal-at-most 4 (a .m) (omega arith),
-      ),
+      omega (arith, c .before .width .ensures, c .width2 .ensures, one, two),
     )
 
 pub header-length-spec : {M : Type 1} → statement M

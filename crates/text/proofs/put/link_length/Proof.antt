@@ -18,13 +18,17 @@ width-requires-2 c κs = search needs
 add-result-2 : tie.Need-add-result-2
 add-result-2 c =
     let a = c .before .before .args in
-    omega (arith, c .before .width .ensures, c .width2 .ensures, length-decimal-at-most 4 (a .a) (omega arith), length-decimal-at-most 4 (a .b) (omega arith))
+    let one = length-decimal-at-most 4 (a .a) (omega arith) in
+    let two = length-decimal-at-most 4 (a .b) (omega arith) in
+    omega (arith, c .before .width .ensures, c .width2 .ensures, one, two)
 
 returns : tie.Need-returns
 returns c =
-    let a = c .before .before .args in (
+    let a = c .before .before .args in
+    let one = length-decimal-at-most 4 (a .a) (omega arith) in
+    let two = length-decimal-at-most 4 (a .b) (omega arith) in (
       omega (arith, c .before .width .ensures, c .width2 .ensures, length-linkForm (a .a) (a .b)),
-      omega (arith, c .before .width .ensures, c .width2 .ensures, length-decimal-at-most 4 (a .a) (omega arith), length-decimal-at-most 4 (a .b) (omega arith)),
+      omega (arith, c .before .width .ensures, c .width2 .ensures, one, two),
     )
 
 pub link-length-spec : {M : Type 1} → statement M

@@ -30,8 +30,10 @@ add-links c = search needs
 put-link-requires : tie.Need-put-link-requires
 put-link-requires c κs =
     let a = c .before .before .before .before .before .before .before .before .before .args in
-    let line = entries-line (now (a .lows)) (now (a .highs)) (a .mark .links) _ _ (c .before .before .before .entry .ensures) (c .before .before .entry2 .ensures) in
-    omega (arith, due-room dues.Link (c .before .before .before .before .enum-told2 .given .1) (c .before .before .before .before .before .before .before .before .before .pre), ap length line)
+    let low = c .before .before .before .entry .ensures in
+    let line = entries-line (now (a .lows)) (now (a .highs)) (a .mark .links) _ _ low (c .before .before .entry2 .ensures) in
+    let told = c .before .before .before .before .enum-told2 .given .1 in
+    omega (arith, due-room dues.Link told (c .before .before .before .before .before .before .before .before .before .pre), ap length line)
 
 enum-told-3 : tie.Need-enum-told-3
 enum-told-3 c = search needs
@@ -51,7 +53,9 @@ same-length-2 c = search needs
 returns-2 : tie.Need-returns-2
 returns-2 c =
     let a = c .before .before .before .before .before .before .before .before .before .before .before .before .args in
-    let line = entries-line (now (a .lows)) (now (a .highs)) (a .mark .links) _ _ (c .before .before .before .before .before .before .entry .ensures) (c .before .before .before .before .before .entry2 .ensures) in
+    let low = c .before .before .before .before .before .before .entry .ensures in
+    let high = c .before .before .before .before .before .entry2 .ensures in
+    let line = entries-line (now (a .lows)) (now (a .highs)) (a .mark .links) _ _ low high in
     rw (c .before .before .before .before .before .before .before .enum-told2 .given .1)
     (record { put = same-bytes line (c .before .before .put-link .ensures); counts = refl })
 

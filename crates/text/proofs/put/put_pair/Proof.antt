@@ -35,7 +35,8 @@ returns c =
     let a = c .before .before .before .before .before .before .before .before .before .before .before .before .before .before .before .before .args in
     rw (pair-written (now (a .front)) (now (a .middle)) (now (a .back)) (a .a) (a .b))
     (put-append _ _ _ _ _ _ _ _ (c .before .before .before .before .before .before .before .before .before .before .put-word-number .ensures)
-    (put-append _ _ _ _ _ _ _ _ (c .before .before .before .before .before .before .put-word-number2 .ensures) (c .before .before .put-word .ensures)))
+    (put-append _ _ _ _ _ _ _ _ (c .before .before .before .before .before .before .put-word-number2 .ensures)
+    (c .before .before .put-word .ensures)))
 
 pub put-pair-spec : {M : Type 1} → statement M
 put-pair-spec =

@@ -45,36 +45,43 @@ returns c =
 returns-2 : tie.Need-returns-2
 unfolding withFront
 returns-2 c =
-    let a = c .before .before .before .before .before .before .before .before .before .before .before .before .args in
-    let one = c .before .before .before .before .before .before .before .word-number in
+    let m = c .before .before .before .before .before in
+    let a = m .before .before .before .before .before .before .before .args in
+    let one = m .before .before .word-number in
     let two = c .before .before .before .word-number2 in
     sym
-    (first-reads (now (a .text)) (now (a .front)) _ (a .at) _ _ (sym (one .ensures) ∙ ap numberGives (c .before .before .before .before .before .a .given .1))
+    (first-reads (now (a .text)) (now (a .front)) _ (a .at) _ _ (sym (one .ensures) ∙ ap numberGives (m .a .given .1))
     ∙ ap (withFront _) (first-departs (now (a .text)) (now (a .middle)) _ _ _ (sym (two .ensures) ∙ ap numberGives (c .before .q .given .1))))
 
 returns-3 : tie.Need-returns-3
 unfolding withFront
 returns-3 c =
-    let a = c .before .before .before .before .before .before .before .before .before .before .before .before .before .before .before .before .args in
-    let one = c .before .before .before .before .before .before .before .before .before .before .before .word-number in
-    let two = c .before .before .before .before .before .before .before .word-number2 in
+    let k = c .before .before .before .before .before in
+    let m = k .before .before .before .before in
+    let a = m .before .before .before .before .before .before .before .args in
+    let one = m .before .before .word-number in
+    let two = k .before .before .word-number2 in
+    let last = c .before .before .before .word .ensures in
     sym
-    (first-reads (now (a .text)) (now (a .front)) _ (a .at) _ _ (sym (one .ensures) ∙ ap numberGives (c .before .before .before .before .before .before .before .before .before .a .given .1))
+    (first-reads (now (a .text)) (now (a .front)) _ (a .at) _ _ (sym (one .ensures) ∙ ap numberGives (m .a .given .1))
     ∙ ap (withFront _)
-    (first-reads (now (a .text)) (now (a .middle)) _ _ _ _ (sym (two .ensures) ∙ ap numberGives (c .before .before .before .before .before .b .given .1))
-    ∙ ap (withFront _) (form-word (now (a .text)) (now (a .back)) _ ∙ sym (c .before .before .before .word .ensures) ∙ ap wordGives (c .before .s .given .1))))
+    (first-reads (now (a .text)) (now (a .middle)) _ _ _ _ (sym (two .ensures) ∙ ap numberGives (k .b .given .1))
+    ∙ ap (withFront _) (form-word (now (a .text)) (now (a .back)) _ ∙ sym last ∙ ap wordGives (c .before .s .given .1))))
 
 returns-4 : tie.Need-returns-4
 unfolding withFront
 returns-4 c =
-    let a = c .before .before .before .before .before .before .before .before .before .before .before .before .before .before .before .before .args in
-    let one = c .before .before .before .before .before .before .before .before .before .before .before .word-number in
-    let two = c .before .before .before .before .before .before .before .word-number2 in
+    let k = c .before .before .before .before .before in
+    let m = k .before .before .before .before in
+    let a = m .before .before .before .before .before .before .before .args in
+    let one = m .before .before .word-number in
+    let two = k .before .before .word-number2 in
+    let last = c .before .before .before .word .ensures in
     sym
-    (first-reads (now (a .text)) (now (a .front)) _ (a .at) _ _ (sym (one .ensures) ∙ ap numberGives (c .before .before .before .before .before .before .before .before .before .a .given .1))
+    (first-reads (now (a .text)) (now (a .front)) _ (a .at) _ _ (sym (one .ensures) ∙ ap numberGives (m .a .given .1))
     ∙ ap (withFront _)
-    (first-reads (now (a .text)) (now (a .middle)) _ _ _ _ (sym (two .ensures) ∙ ap numberGives (c .before .before .before .before .before .b .given .1))
-    ∙ ap (withFront _) (form-word (now (a .text)) (now (a .back)) _ ∙ sym (c .before .before .before .word .ensures) ∙ ap wordGives (c .before .s2 .given .1))))
+    (first-reads (now (a .text)) (now (a .middle)) _ _ _ _ (sym (two .ensures) ∙ ap numberGives (k .b .given .1))
+    ∙ ap (withFront _) (form-word (now (a .text)) (now (a .back)) _ ∙ sym last ∙ ap wordGives (c .before .s2 .given .1))))
 
 pub pair-line-spec : {M : Type 1} → statement M
 pair-line-spec =

@@ -55,9 +55,11 @@ loop-again c =
     let here : byteAt (now (a .text)) (a .at + l .loop .i) ≡ getD (now (a .letters)) (l .loop .i) 0 =
     sym (c .before .before .byte .ensures) ∙ c .if1 .left in
     let e : a .at + l .loop .i + 1 ≡ a .at + (l .loop .i + 1) = omega arith in
-    let lit : 0 < getD (now (a .letters)) (l .loop .i) 0 = no-zero-at (now (a .letters)) (l .loop .i) (l .before .before .before .pre) (omega arith) in
+    let lit : 0 < getD (now (a .letters)) (l .loop .i) 0 =
+    no-zero-at (now (a .letters)) (l .loop .i) (l .before .before .before .pre) (omega arith) in
     let within : a .at + l .loop .i < length (now (a .text)) = byte-within (now (a .text)) (a .at + l .loop .i) (omega arith) in
-    (omega arith, omega arith, l .loop .inv .2 ∙ (rw e at (word-step (now (a .text)) (now (a .letters)) (l .loop .i) (a .at + l .loop .i) (omega arith) here)))
+    let step = word-step (now (a .text)) (now (a .letters)) (l .loop .i) (a .at + l .loop .i) (omega arith) here in
+    (omega arith, omega arith, l .loop .inv .2 ∙ (rw e at step))
 
 add-t11 : tie.Need-add-t11 Inv-loop μ-loop
 add-t11 c = omega arith
