@@ -1,33 +1,15 @@
 //! The proved library against the second version: the same answers and lists from both, and what must hold of them.
 
-use crate::flow::greatest;
+use crate::facts::{disjoint, kept, parts};
+use crate::flow::{self, greatest};
 use crate::generate::{Network, any, damage, scratch};
 use crate::library::{self, Report, SHEET};
 use crate::random::Random;
 use crate::sweep::{self, Wish};
 use crate::table::{self, Refusal};
+use crate::tally::Tally;
+use crate::wishes::{any_wish, line, wish};
 use crate::{forests, plan, text};
-use std::collections::BTreeMap;
-use std::fmt::Debug;
-
-/// How often each operation gave each code.
-#[derive(Default)]
-pub struct Tally {
-    pub codes: BTreeMap<(&'static str, u32), u64>,
-    pub checks: BTreeMap<&'static str, u64>,
-}
-
-impl Tally {
-    fn same<T: PartialEq + Debug>(&mut self, operation: &'static str, code: u32, library: T, reference: T, input: &dyn Debug) {
-        *self.codes.entry((operation, code)).or_default() += 1;
-        assert!(library == reference, "{operation}: library {library:?}\nreference {reference:?}\ninput {input:?}");
-    }
-
-    fn holds(&mut self, check: &'static str, fact: bool, input: &dyn Debug) {
-        *self.checks.entry(check).or_default() += 1;
-        assert!(fact, "{check}\ninput {input:?}");
-    }
-}
 
 /// A length for a lent list of which `exact` entries are needed: exact, one short, none, a little or far too long.
 fn length(random: &mut Random, exact: usize) -> usize {
@@ -51,7 +33,7 @@ fn two_lists(random: &mut Random, first: usize, second: usize) -> (Vec<u16>, Vec
     (random.numbers(first), random.numbers(second))
 }
 
-pub fn tables(random: &mut Random, tally: &mut Tally, net: &Network) {
+fn tables(random: &mut Random, tally: &mut Tally, net: &Network) {
     let Network { n, lows, highs } = net;
     let reference = Report::of(table::check(*n, lows, highs).map(|()| [0, 0]));
     tally.same("check", reference.code, library::check(*n, lows, highs), reference, net);
@@ -63,7 +45,7 @@ pub fn tables(random: &mut Random, tally: &mut Tally, net: &Network) {
     tally.same("pair", reference.code, library::pair(a, b), reference, &(a, b));
 }
 
-pub fn written(random: &mut Random, tally: &mut Tally, net: &Network) {
+fn written(random: &mut Random, tally: &mut Tally, net: &Network) {
     let Network { n, lows, highs } = net;
     let size = length(random, text::text(*n, lows, highs).len());
     let mut ours = random.bytes(size);
@@ -82,19 +64,21 @@ pub fn read(random: &mut Random, tally: &mut Tally, input: &[u8], links: usize) 
     tally.same("read", reference.code, (report, library_lows, library_highs), (reference, lows, highs), &shown);
 }
 
-pub fn planned(random: &mut Random, tally: &mut Tally, input: &[u8]) {
+/// Compares what the planner prints, and gives it.
+pub fn planned(random: &mut Random, tally: &mut Tally, input: &[u8]) -> String {
     let before = random.draw() as u8;
     let mut output = [before; SHEET];
     let length = library::plan(input, &mut output);
     let reference = plan::plan(input);
     let code = reference.strip_prefix("(refused ").map_or(0, |rest| rest.split(' ').next().unwrap().parse().unwrap());
     let shown = String::from_utf8_lossy(input);
-    let printed = String::from_utf8_lossy(&output[..length]).into_owned();
-    tally.same("plan", code, printed, reference, &shown);
-    tally.holds("plan leaves what follows", output[length..].iter().all(|&byte| byte == before), &shown);
+    let printed = String::from_utf8_lossy(&output[..length]);
+    tally.same("plan", code, &*printed, &reference, &shown);
+    tally.holds("plan", "what follows is left", output[length..].iter().all(|&byte| byte == before), &shown);
+    reference
 }
 
-pub fn ordered(random: &mut Random, tally: &mut Tally, net: &Network) {
+fn ordered(random: &mut Random, tally: &mut Tally, net: &Network) {
     let Network { n, lows, highs } = net;
     let (mut relays, mut places) = two_lists(random, usize::from(*n), usize::from(*n));
     let (mut library_relays, mut library_places) = (relays.clone(), places.clone());
@@ -118,30 +102,7 @@ pub fn ordered(random: &mut Random, tally: &mut Tally, net: &Network) {
     tally.same("cut", reference.code, (report, theirs), (reference, ours), &(net, k));
 }
 
-/// A wish that a network may well meet: k within its forests, and often the ends of one link.
-pub fn wish(random: &mut Random, net: &Network, numbers: &[u16]) -> Wish {
-    let n = usize::from(net.n);
-    let (mut from, mut to) = (random.below(n) as u16, random.below(n) as u16);
-    let highest = numbers.iter().copied().max().unwrap_or(0);
-    let mut k = random.within(1, usize::from(highest.clamp(1, 32))) as u16;
-    if !numbers.is_empty() && random.once_in(2) {
-        let link = random.below(numbers.len());
-        (from, to) = (net.lows[link], net.highs[link]);
-        k = random.within(1, usize::from(numbers[link].min(32))) as u16;
-    }
-    if random.once_in(2) {
-        (from, to) = (to, from);
-    }
-    match random.below(20) {
-        0 => k = *random.pick(&[0, 32, 33, 1000, 65535]),
-        1 => from = *random.pick(&[net.n, net.n.wrapping_add(1), 65535, to]),
-        2 => to = *random.pick(&[net.n, net.n.wrapping_add(1), 65535, from]),
-        _ => {}
-    }
-    Wish { k, from, to }
-}
-
-pub fn routed(random: &mut Random, tally: &mut Tally, net: &Network, wish: Wish) {
+fn routed(random: &mut Random, tally: &mut Tally, net: &Network, wish: Wish) {
     let Network { n, lows, highs } = net;
     let (k, size) = (usize::from(wish.k.min(40)), usize::from(*n));
     let lent = |random: &mut Random, exact: usize| {
@@ -154,75 +115,32 @@ pub fn routed(random: &mut Random, tally: &mut Tally, net: &Network, wish: Wish)
     let mut scratch = lent(random, k * size);
     let mut theirs = (counts.clone(), relays.clone(), scratch.clone());
     let outcome = sweep::route(*n, lows, highs, wish, &mut counts, &mut relays, &mut scratch);
-    let report = library::route(*n, lows, highs, wish, &mut theirs.0, &mut theirs.1, &mut theirs.2);
+    let report = library::route(*n, lows, highs, wish.k, wish.from, wish.to, &mut theirs.0, &mut theirs.1, &mut theirs.2);
     let reference = one(outcome);
     tally.same("route", reference.code, (report, &theirs), (reference, &(counts, relays, scratch)), &(net, wish));
     if report.code == 0 {
-        disjoint(tally, net, wish, &theirs.0[..k], &theirs.1[..report.answer[0] as usize]);
+        let mut marks = vec![9; lows.len()];
+        library::cut(*n, lows, highs, wish.k, &mut marks);
+        let lists = (&theirs.0[..k], &theirs.1[..report.answer[0] as usize]);
+        disjoint(tally, "route", net, Some(&marks), wish, lists);
+        flowed(tally, net, wish);
     }
 }
 
-/// The routes as the library wrote them: along kept links, without a relay in common between the ends, and no more than there are.
-fn disjoint(tally: &mut Tally, net: &Network, wish: Wish, counts: &[u16], relays: &[u16]) {
+/// Where there are k routes the flow program has k, too.
+fn flowed(tally: &mut Tally, net: &Network, wish: Wish) {
     let Network { n, lows, highs } = net;
-    let mut marks = vec![9; lows.len()];
-    library::cut(*n, lows, highs, wish.k, &mut marks);
-    let mut seen = vec![false; usize::from(*n)];
-    let mut direct = 0;
-    let mut at = 0;
-    for &count in counts {
-        let route = &relays[at..at + usize::from(count)];
-        at += route.len();
-        tally.holds("a route has two ends", route.len() >= 2, &(net, wish, route));
-        let ends = (route[0], route[route.len() - 1]);
-        tally.holds("a route joins its ends", ends == (wish.from, wish.to), &(net, wish, route));
-        direct += usize::from(route.len() == 2);
-        for two in route.windows(2) {
-            let (low, high) = (two[0].min(two[1]), two[0].max(two[1]));
-            let kept = (0..lows.len()).any(|link| lows[link] == low && highs[link] == high && marks[link] == 1);
-            tally.holds("a route runs along kept links", kept, &(net, wish, route));
-        }
-        for &relay in &route[1..route.len() - 1] {
-            let fresh = relay != wish.from && relay != wish.to && !seen[usize::from(relay)];
-            tally.holds("no relay between the ends is used twice", fresh, &(net, wish, route));
-            seen[usize::from(relay)] = true;
-        }
-    }
-    tally.holds("one route at most goes straight", direct <= 1, &(net, wish));
-    tally.holds("the count is that of the relays written", at == relays.len(), &(net, wish));
-    let most = greatest(*n, lows, highs, wish.from, wish.to, usize::MAX);
-    tally.holds("no more routes than the flow allows", counts.len() <= most, &(net, wish));
-}
-
-fn root(parent: &mut [usize], mut relay: usize) -> usize {
-    while parent[relay] != relay {
-        parent[relay] = parent[parent[relay]];
-        relay = parent[relay];
-    }
-    relay
-}
-
-/// The live part of a network that the links with a mark join, as the lowest relay of each part.
-fn parts(net: &Network, dead: &[bool], marks: Option<&[u16]>) -> Vec<usize> {
-    let mut parent: Vec<usize> = (0..usize::from(net.n)).collect();
-    for link in 0..net.lows.len() {
-        let (a, b) = (usize::from(net.lows[link]), usize::from(net.highs[link]));
-        if !dead[a] && !dead[b] && marks.is_none_or(|marks| marks[link] == 1) {
-            let (a, b) = (root(&mut parent, a), root(&mut parent, b));
-            parent[a.max(b)] = a.min(b);
-        }
-    }
-    (0..parent.len()).map(|relay| root(&mut parent, relay)).collect()
-}
-
-fn kept(net: &Network, marks: &[u16]) -> Network {
-    let chosen = |list: &[u16]| list.iter().zip(marks).filter(|two| *two.1 == 1).map(|two| *two.0).collect();
-    Network { n: net.n, lows: chosen(&net.lows), highs: chosen(&net.highs) }
+    let (k, size) = (usize::from(wish.k), usize::from(*n));
+    let (mut counts, mut relays) = (vec![0; k], vec![0; size - 2 + 2 * k]);
+    let written = flow::route(*n, lows, highs, wish, &mut counts, &mut relays);
+    tally.holds("flow", "it finds as many routes", written.is_some(), &(net, wish));
+    relays.truncate(written.unwrap_or(0));
+    disjoint(tally, "flow", net, None, wish, (&counts, &relays));
 }
 
 /// Kept links against all links: with fewer than k relays dead they join the same live relays, and between two relays
 /// there are as many disjoint routes, counted up to k.
-pub fn certified(random: &mut Random, tally: &mut Tally, net: &Network) {
+fn certified(random: &mut Random, tally: &mut Tally, net: &Network) {
     let Network { n, lows, highs } = net;
     let n = usize::from(*n);
     for _ in 0..3 {
@@ -230,9 +148,14 @@ pub fn certified(random: &mut Random, tally: &mut Tally, net: &Network) {
         let mut marks = vec![9; lows.len()];
         let report = library::cut(net.n, lows, highs, k, &mut marks);
         let ones = marks.iter().filter(|&&mark| mark == 1).count();
-        tally.holds("the count is that of the kept links", report == Report { code: 0, answer: [ones as u64, 0] }, &(net, k));
+        tally.holds(
+            "cut",
+            "the count is that of the kept links",
+            report == Report { code: 0, answer: [ones as u64, 0] },
+            &(net, k),
+        );
         let few = n * usize::from(k);
-        tally.holds("at most k times n links are kept", ones <= few, &(net, k));
+        tally.holds("cut", "at most k times n links are kept", ones <= few, &(net, k));
 
         let mut dead = vec![false; n];
         let centre = random.below(n) as u16;
@@ -246,7 +169,7 @@ pub fn certified(random: &mut Random, tally: &mut Tally, net: &Network) {
             dead[relay] = true;
         }
         let same = parts(net, &dead, None) == parts(net, &dead, Some(&marks));
-        tally.holds("kept links join what all links join, fewer than k dead", same, &(net, k, &dead));
+        tally.holds("cut", "kept links join what all links join, fewer than k dead", same, &(net, k, &dead));
 
         let less = kept(net, &marks);
         let (from, to) = (random.below(n) as u16, random.below(n) as u16);
@@ -254,29 +177,25 @@ pub fn certified(random: &mut Random, tally: &mut Tally, net: &Network) {
             let most = usize::from(k);
             let all = greatest(net.n, lows, highs, from, to, most);
             let over_kept = greatest(net.n, &less.lows, &less.highs, from, to, most);
-            tally.holds("kept links have as many disjoint routes, up to k", all == over_kept, &(net, k, from, to));
+            tally.holds("cut", "kept links have as many disjoint routes, up to k", all == over_kept, &(net, k, from, to));
+            flowed(tally, net, Wish { k: all as u16, from, to });
         }
     }
 }
 
-pub fn want(random: &mut Random, net: &Network) -> Vec<u8> {
-    let number = |random: &mut Random, top: usize| {
-        if random.once_in(10) { random.below(10001) } else { random.below(top + 1) }
-    };
-    let n = usize::from(net.n);
-    let (from, to) = (number(random, n.saturating_sub(1)), number(random, n.saturating_sub(1)));
-    let k = if random.once_in(8) { random.below(40) } else { random.within(1, 4) };
-    format!("(want {from} {to} {k})\n").into_bytes()
+/// The planner's input: the line of a wish, and where it ends the network's text.
+pub fn input(net: &Network, wish: Wish) -> (Vec<u8>, usize) {
+    let mut input = line(wish);
+    let end = input.len();
+    input.extend(text::text(net.n, &net.lows, &net.highs).bytes());
+    (input, end)
 }
 
 /// Texts and inputs: as written, damaged, and small ones damaged at every byte.
-pub fn texts(random: &mut Random, tally: &mut Tally, net: &Network) {
-    let whole = text::text(net.n, &net.lows, &net.highs).into_bytes();
+fn texts(random: &mut Random, tally: &mut Tally, net: &Network, wish: Wish) {
+    let (input, line) = input(net, wish);
     let links = net.lows.len();
-    read(random, tally, &whole, links);
-    let mut input = want(random, net);
-    let line = input.len();
-    input.extend(&whole);
+    read(random, tally, &input[line..], links);
     planned(random, tally, &input);
     for _ in 0..3 {
         let mut bad = input.clone();
@@ -286,7 +205,7 @@ pub fn texts(random: &mut Random, tally: &mut Tally, net: &Network) {
         planned(random, tally, &bad);
         read(random, tally, bad.get(line..).unwrap_or_default(), links);
     }
-    if whole.len() <= 150 {
+    if input.len() <= 165 {
         for at in 0..=input.len() {
             let byte = *random.pick(b"019() \nlnra\0\xff:/");
             let mut more = input.clone();
@@ -307,6 +226,25 @@ pub fn texts(random: &mut Random, tally: &mut Tally, net: &Network) {
     }
 }
 
+/// A table through every operation, with some wishes if it is accepted; then it gives the forest of each link.
+pub fn operations(random: &mut Random, tally: &mut Tally, net: &Network, wishes: usize) -> Option<Vec<u16>> {
+    tables(random, tally, net);
+    written(random, tally, net);
+    ordered(random, tally, net);
+    if table::check(net.n, &net.lows, &net.highs).is_err() {
+        routed(random, tally, net, Wish { k: 2, from: 1, to: 0 });
+        return None;
+    }
+    certified(random, tally, net);
+    let numbers = forests::numbers(net.n, &net.lows, &net.highs);
+    for _ in 0..wishes {
+        let wish = wish(random, net, &numbers);
+        routed(random, tally, net, wish);
+        planned(random, tally, &input(net, wish).0);
+    }
+    Some(numbers)
+}
+
 /// One network from a seed, with its texts, through every operation.
 pub fn case(seed: u64, tally: &mut Tally) {
     let random = &mut Random::new(seed);
@@ -316,50 +254,9 @@ pub fn case(seed: u64, tally: &mut Tally) {
             damage(random, &mut net);
         }
     }
-    tables(random, tally, &net);
-    written(random, tally, &net);
-    ordered(random, tally, &net);
-    texts(random, tally, &net);
-    if table::check(net.n, &net.lows, &net.highs).is_ok() {
-        certified(random, tally, &net);
-        let numbers = forests::numbers(net.n, &net.lows, &net.highs);
-        for _ in 0..4 {
-            let wish = wish(random, &net, &numbers);
-            routed(random, tally, &net, wish);
-        }
-    } else {
-        routed(random, tally, &net, Wish { k: 2, from: 1, to: 0 });
-    }
-}
-
-/// Every code that an operation can give.
-pub const CODES: [(&str, &[u32]); 9] = [
-    ("check", &[0, 3, 4, 5, 6, 7]),
-    ("pair", &[0, 5, 6]),
-    ("read", &[0, 2, 3, 4, 5, 6, 7, 8]),
-    ("write", &[0, 3, 4, 5, 6, 7, 12]),
-    ("order", &[0, 3, 4, 5, 6, 7, 12]),
-    ("split", &[0, 3, 4, 5, 6, 7, 12]),
-    ("cut", &[0, 3, 4, 5, 6, 7, 9, 12]),
-    ("route", &[0, 3, 4, 5, 6, 7, 9, 10, 11, 12, 13]),
-    ("plan", &[0, 1, 2, 3, 4, 5, 6, 7, 9, 10, 11, 13]),
-];
-
-impl Tally {
-    /// One line for each operation and each check; then the codes never met.
-    pub fn lines(&self) -> (Vec<String>, Vec<String>) {
-        let (mut lines, mut missing) = (vec![], vec![]);
-        for (operation, codes) in CODES {
-            let of = |code: &u32| self.codes.get(&(operation, *code)).copied().unwrap_or(0);
-            missing.extend(codes.iter().filter(|code| of(code) == 0).map(|code| format!("{operation} {code}")));
-            let list: Vec<String> = codes.iter().map(|code| format!("{code}: {}", of(code))).collect();
-            lines.push(format!("{operation:6} {}", list.join(", ")));
-        }
-        lines.extend(self.checks.iter().map(|(check, times)| format!("{times:9} {check}")));
-        (lines, missing)
-    }
-
-    pub fn compared(&self) -> u64 {
-        self.codes.values().sum()
-    }
+    let wish = match operations(random, tally, &net, 4) {
+        None => any_wish(random, &net),
+        Some(numbers) => wish(random, &net, &numbers),
+    };
+    texts(random, tally, &net, wish);
 }

@@ -7,7 +7,7 @@ use crate::random::Random;
 use crate::sweep::{Wish, routes};
 use crate::table::{Refusal, check, pair};
 use crate::text::{read, text, write};
-use crate::{flow, swift};
+use crate::{flow, swift, swift_text};
 
 fn net(n: u16, links: &[(u16, u16)]) -> Network {
     Network { n, lows: links.iter().map(|link| link.0).collect(), highs: links.iter().map(|link| link.1).collect() }
@@ -102,11 +102,11 @@ fn two_ways_agree() {
         swift::scan_by::<swift::Blocks>(n, lows, highs, &mut swift_relays, &mut swift_places, &mut swift_forests);
         assert_eq!((relays, forests), (swift_relays, swift_forests));
         let (mut one, mut two) = ([7; 50_000], [7; 50_000]);
-        assert_eq!(write(n, lows, highs, &mut one), swift::write(n, lows, highs, &mut two));
+        assert_eq!(write(n, lows, highs, &mut one), swift_text::write(n, lows, highs, &mut two));
         assert!(one == two);
         let written = text(n, lows, highs);
         let (mut a, mut b) = (vec![1; 3000], vec![1; 3000]);
-        assert_eq!(swift::read(written.as_bytes(), &mut a, &mut b), Ok((n, lows.len() as u16)));
+        assert_eq!(swift_text::read(written.as_bytes(), &mut a, &mut b), Ok((n, lows.len() as u16)));
         assert_eq!((&a[..lows.len()], &b[..lows.len()]), (lows, highs));
         if n > 1 {
             let from = random.below(usize::from(n)) as u16;

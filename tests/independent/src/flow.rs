@@ -1,5 +1,7 @@
 //! An ordinary flow program: Dinic on split relays. It knows nothing of orders and forests.
 
+use crate::sweep::Wish;
+
 /// A network with every relay split into a way in (2r) and a way out (2r + 1).
 pub struct Flow {
     first: Vec<i32>,
@@ -100,9 +102,56 @@ impl Flow {
         }
         found
     }
+
+    /// The relays that the flow goes on to from a relay.
+    fn onward(&self, relay: u16) -> impl Iterator<Item = u16> {
+        let mut edge = self.first[2 * usize::from(relay) + 1];
+        std::iter::from_fn(move || {
+            while edge >= 0 {
+                let at = edge as usize;
+                edge = self.next[at];
+                if at.is_multiple_of(2) && self.room[at] == 0 {
+                    return Some((self.head[at] / 2) as u16);
+                }
+            }
+            None
+        })
+    }
+
+    /// Writes the routes found as Route lists them: how many relays each has, and the relays one after another.
+    /// Gives how many relays it wrote.
+    pub fn write(&self, from: u16, to: u16, counts: &mut [u16], relays: &mut [u16]) -> usize {
+        let mut written = 0;
+        for (count, second) in counts.iter_mut().zip(self.onward(from)) {
+            let start = written;
+            relays[written] = from;
+            written += 1;
+            let mut relay = second;
+            while relay != to {
+                relays[written] = relay;
+                written += 1;
+                relay = self.onward(relay).next().expect("a route goes on to its end");
+            }
+            relays[written] = to;
+            written += 1;
+            *count = (written - start) as u16;
+        }
+        written
+    }
 }
 
 /// The greatest number of routes between two different relays without a relay in common between the ends, counted up to `most`.
 pub fn greatest(n: u16, lows: &[u16], highs: &[u16], from: u16, to: u16, most: usize) -> usize {
     Flow::new(n, lows, highs, from, to).routes(from, to, most)
+}
+
+/// An ordinary program in Route's place: finds k routes, writes them as Route does and gives how many relays it wrote; none if there
+/// are fewer routes. It checks nothing.
+pub fn route(n: u16, lows: &[u16], highs: &[u16], wish: Wish, counts: &mut [u16], relays: &mut [u16]) -> Option<usize> {
+    let Wish { k, from, to } = wish;
+    let mut flow = Flow::new(n, lows, highs, from, to);
+    if flow.routes(from, to, usize::from(k)) < usize::from(k) {
+        return None;
+    }
+    Some(flow.write(from, to, &mut counts[..usize::from(k)], relays))
 }

@@ -1,6 +1,6 @@
 //! The order, the forests and the cut, in the paper's words.
 
-use crate::table::{Refusal, check, plain};
+use crate::table::{Refusal, check, known, room};
 
 /// The order of an accepted network: the relay at place p stands at index p − 1.
 pub fn ordering(n: u16, lows: &[u16], highs: &[u16]) -> Vec<u16> {
@@ -65,9 +65,8 @@ pub fn numbers(n: u16, lows: &[u16], highs: &[u16]) -> Vec<u16> {
 pub fn order(n: u16, lows: &[u16], highs: &[u16], relays: &mut [u16], places: &mut [u16]) -> Result<(), Refusal> {
     check(n, lows, highs)?;
     let count = usize::from(n);
-    if relays.len() < count || places.len() < count {
-        return plain(12);
-    }
+    room(relays, count)?;
+    room(places, count)?;
     let order = ordering(n, lows, highs);
     relays[..count].copy_from_slice(&order);
     places[..count].copy_from_slice(&self::places(&order));
@@ -77,9 +76,7 @@ pub fn order(n: u16, lows: &[u16], highs: &[u16], relays: &mut [u16], places: &m
 /// Split: the highest forest used.
 pub fn split(n: u16, lows: &[u16], highs: &[u16], forests: &mut [u16]) -> Result<u16, Refusal> {
     check(n, lows, highs)?;
-    if forests.len() < lows.len() {
-        return plain(12);
-    }
+    room(forests, lows.len())?;
     let numbers = numbers(n, lows, highs);
     forests[..lows.len()].copy_from_slice(&numbers);
     Ok(numbers.iter().copied().max().unwrap_or(0))
@@ -88,12 +85,8 @@ pub fn split(n: u16, lows: &[u16], highs: &[u16], forests: &mut [u16]) -> Result
 /// Cut: the count of ones.
 pub fn cut(n: u16, lows: &[u16], highs: &[u16], k: u16, marks: &mut [u16]) -> Result<u16, Refusal> {
     check(n, lows, highs)?;
-    if k == 0 || k > 32 {
-        return plain(9);
-    }
-    if marks.len() < lows.len() {
-        return plain(12);
-    }
+    known(k)?;
+    room(marks, lows.len())?;
     let mut kept = 0;
     for (mark, forest) in marks.iter_mut().zip(numbers(n, lows, highs)) {
         *mark = u16::from(forest <= k);

@@ -245,11 +245,10 @@ pub fn scratch(random: &mut Random, text: &mut Vec<u8>) {
             let lines: Vec<&[u8]> = text.split_inclusive(|&byte| byte == b'\n').collect();
             let mut lines: Vec<Vec<u8>> = lines.into_iter().map(<[u8]>::to_vec).collect();
             let (from, to) = (random.below(lines.len()), random.below(lines.len()));
-            if random.once_in(2) {
-                lines.swap(from, to);
-            } else {
-                let line = lines[from].clone();
-                lines.insert(to, line);
+            match random.below(3) {
+                0 => lines.swap(from, to),
+                1 => lines.insert(to, lines[from].clone()),
+                _ => drop(lines.remove(from)),
             }
             *text = lines.concat();
         }
@@ -266,5 +265,15 @@ pub fn scratch(random: &mut Random, text: &mut Vec<u8>) {
             text.splice(at..last, number.bytes());
         }
         _ => text[at] = byte,
+    }
+}
+
+/// Sets the number of links in a planner's input to that of its link lines, so that damage behind the header is met.
+pub fn mend(text: &mut Vec<u8>) {
+    let links = text.split(|&byte| byte == b'\n').filter(|line| line.starts_with(b"(link")).count();
+    let at = text.windows(7).position(|word| word == b"(links ").map(|at| at + 7);
+    if let Some(at) = at {
+        let digits = text[at..].iter().take_while(|byte| byte.is_ascii_digit()).count();
+        text.splice(at..at + digits, links.to_string().bytes());
     }
 }

@@ -1,7 +1,7 @@
 //! Route: the sweep over whole paths, as the paper tells it.
 
 use crate::forests::{earlier, ordering, places};
-use crate::table::{Refusal, check, plain};
+use crate::table::{Refusal, check, known, plain, room};
 
 type Path = Vec<u16>;
 
@@ -123,9 +123,7 @@ pub fn route(
 ) -> Result<u16, Refusal> {
     let Wish { k, from, to } = wish;
     check(n, lows, highs)?;
-    if k == 0 || k > 32 {
-        return plain(9);
-    }
+    known(k)?;
     if from >= n || to >= n {
         return plain(10);
     }
@@ -133,9 +131,9 @@ pub fn route(
         return plain(11);
     }
     let (count, size) = (usize::from(k), usize::from(n));
-    if counts.len() < count || relays.len() < size - 2 + 2 * count || scratch.len() < count * size {
-        return plain(12);
-    }
+    room(counts, count)?;
+    room(relays, size - 2 + 2 * count)?;
+    room(scratch, count * size)?;
     scratch.fill(0);
     let Some(routes) = routes(n, lows, highs, k, from, to) else { return plain(13) };
     let all = routes.concat();

@@ -19,6 +19,16 @@ pub fn refuse<T>(number: u32, place: usize) -> Result<T, Refusal> {
     Err(Refusal { number, place })
 }
 
+/// Refusal 9: k outside 1 to 32.
+pub fn known(k: u16) -> Result<(), Refusal> {
+    if k == 0 || k > 32 { plain(9) } else { Ok(()) }
+}
+
+/// Refusal 12: a lent list shorter than what it is to hold.
+pub fn room<T>(list: &[T], needed: usize) -> Result<(), Refusal> {
+    if list.len() < needed { plain(12) } else { Ok(()) }
+}
+
 /// B × (B − 1) / 2 + A
 pub fn pair(a: u16, b: u16) -> Result<u64, Refusal> {
     if a >= 1000 || b >= 1000 {

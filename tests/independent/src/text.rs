@@ -1,6 +1,6 @@
 //! The network's text: Read and Write.
 
-use crate::table::{Refusal, Seen, check, plain, refuse};
+use crate::table::{Refusal, Seen, check, plain, refuse, room};
 
 /// Reads one form from `start`: `#` in the pattern stands for a number, every other byte for itself.
 /// Gives the numbers and the next offset, or the offset of the first byte that departs.
@@ -28,7 +28,7 @@ pub fn form(text: &[u8], start: usize, pattern: &str) -> Result<(Vec<u16>, usize
     Ok((numbers, at))
 }
 
-fn links(text: &[u8], room: usize) -> Result<(u16, Vec<(u16, u16)>), Refusal> {
+fn links(text: &[u8], entries: usize) -> Result<(u16, Vec<(u16, u16)>), Refusal> {
     let departs = |place| Refusal { number: 2, place };
     let (header, mut at) = form(text, 0, "(net (relays #) (links #))\n").map_err(departs)?;
     let (n, m) = (header[0], header[1]);
@@ -38,7 +38,7 @@ fn links(text: &[u8], room: usize) -> Result<(u16, Vec<(u16, u16)>), Refusal> {
     if m > 3000 {
         return plain(4);
     }
-    if room < usize::from(m) {
+    if entries < usize::from(m) {
         return plain(8);
     }
     let mut seen = Seen::new(n);
@@ -78,11 +78,7 @@ pub fn text(n: u16, lows: &[u16], highs: &[u16]) -> String {
 pub fn write(n: u16, lows: &[u16], highs: &[u16], buffer: &mut [u8]) -> Result<usize, Refusal> {
     check(n, lows, highs)?;
     let text = text(n, lows, highs);
-    match buffer.get_mut(..text.len()) {
-        None => plain(12),
-        Some(part) => {
-            part.copy_from_slice(text.as_bytes());
-            Ok(text.len())
-        }
-    }
+    room(buffer, text.len())?;
+    buffer[..text.len()].copy_from_slice(text.as_bytes());
+    Ok(text.len())
 }

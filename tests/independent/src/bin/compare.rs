@@ -1,7 +1,8 @@
 //! Compares the proved library with the second version of document 01, on seeded networks and texts.
 //! compare [SEED [COUNT]]: case i of COUNT uses the seed SEED + i, so a failure names a case that can be run alone.
 
-use independent::against::{Tally, case};
+use independent::against::case;
+use independent::tally::Tally;
 
 fn main() {
     let mut words = std::env::args().skip(1).map(|word| word.parse().expect("SEED and COUNT are numbers"));

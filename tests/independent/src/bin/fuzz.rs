@@ -1,92 +1,134 @@
-//! Mutates texts and tables for a time, keeping those that answer in a new way, and compares the library with the second version.
-//! fuzz [SEED [SECONDS]]
+//! Changes texts and tables for a time, keeps those that are answered in a new manner and changes them on, and compares the proved
+//! library with the second version on each: Read and the planner on texts, every operation on tables.
+//! fuzz [SECONDS [SEED]]: 60 seconds and seed 1 if not given. The same seed tries the same inputs in the same order.
 
-use independent::against::{Tally, certified, ordered, planned, read, routed, tables, want, wish, written};
-use independent::generate::{Network, alter, any, damage, scratch};
+use independent::against::{input, operations, planned, read};
+use independent::generate::{Network, alter, any, damage, mend, scratch};
+use independent::manner::{self, Manner};
 use independent::random::Random;
-use independent::{forests, table, text};
+use independent::tally::Tally;
+use independent::wishes::{any_wish, wish};
 use std::collections::HashSet;
 use std::time::{Duration, Instant};
 
-/// How an input answers: the refusal with its place, or how large an accepted one is.
-fn manner(outcome: Result<usize, table::Refusal>) -> (u32, usize) {
-    outcome.map_or_else(|refusal| (refusal.number, refusal.place), |size| (0, size.ilog2() as usize))
+/// The longest input that is kept, and how many it is started with.
+const LONGEST: usize = 3000;
+const FIRST: usize = 40;
+
+struct Fuzz {
+    random: Random,
+    tally: Tally,
+    /// The kept texts, by the number that the planner prints for them, 0 for a sheet.
+    texts: [Vec<Vec<u8>>; 14],
+    nets: Vec<Network>,
+    known: HashSet<Manner>,
+    tried: [u64; 2],
 }
 
-fn texts(random: &mut Random, tally: &mut Tally, pool: &mut Vec<Vec<u8>>, known: &mut HashSet<(u32, usize)>) {
-    let mut input = random.pick(pool).clone();
-    for _ in 0..random.within(1, 4) {
-        scratch(random, &mut input);
-    }
-    if random.once_in(10) {
-        let other = random.pick(pool);
-        let (here, there) = (random.below(input.len() + 1), random.below(other.len() + 1));
-        input.splice(here.., other[there..].iter().copied());
-    }
-    planned(random, tally, &input);
-    let line = input.iter().position(|&byte| byte == b'\n').map_or(0, |at| at + 1);
-    let room = if random.once_in(4) { 40 } else { 400 };
-    read(random, tally, &input[line..], room);
-    let (mut lows, mut highs) = ([0; 3000], [0; 3000]);
-    let manner = manner(text::read(&input[line..], &mut lows, &mut highs).map(|_| input.len()));
-    if input.len() < 2000 && known.insert(manner) {
-        pool.push(input);
-    }
-}
-
-fn networks(random: &mut Random, tally: &mut Tally, pool: &mut Vec<Network>, known: &mut HashSet<(u16, u16, usize)>) {
-    let mut net = random.pick(pool).clone();
-    for _ in 0..random.within(1, 5) {
-        alter(random, &mut net);
-    }
-    if random.once_in(3) {
-        damage(random, &mut net);
-    }
-    tables(random, tally, &net);
-    written(random, tally, &net);
-    ordered(random, tally, &net);
-    if table::check(net.n, &net.lows, &net.highs).is_ok() {
-        certified(random, tally, &net);
-        let numbers = forests::numbers(net.n, &net.lows, &net.highs);
-        for _ in 0..3 {
-            let wish = wish(random, &net, &numbers);
-            routed(random, tally, &net, wish);
+impl Fuzz {
+    fn new(seed: u64) -> Fuzz {
+        let mut random = Random::new(seed);
+        let nets: Vec<Network> = (0..FIRST).map(|_| any(&mut random, 60)).collect();
+        let mut fuzz =
+            Fuzz { random, tally: Tally::default(), texts: Default::default(), nets, known: HashSet::new(), tried: [0; 2] };
+        for at in 0..FIRST {
+            let wish = any_wish(&mut fuzz.random, &fuzz.nets[at]);
+            let text = input(&fuzz.nets[at], wish).0;
+            fuzz.texts[0].push(text);
         }
-        let highest = numbers.iter().copied().max().unwrap_or(0);
-        if known.insert((net.n, highest, numbers.len() / 8)) {
-            pool.push(net);
+        fuzz
+    }
+
+    /// A kept text: of any number as soon as of any other.
+    fn kept(&mut self) -> &Vec<u8> {
+        let met: Vec<&Vec<Vec<u8>>> = self.texts.iter().filter(|texts| !texts.is_empty()).collect();
+        let texts = self.random.pick(&met);
+        self.random.pick(texts)
+    }
+
+    /// A kept text with some damage, at times a large network's.
+    fn changed(&mut self) -> Vec<u8> {
+        let mut text = self.kept().clone();
+        if self.random.once_in(500) {
+            let net = any(&mut self.random, 1000);
+            let wish = any_wish(&mut self.random, &net);
+            text = input(&net, wish).0;
+        }
+        let changes = if self.random.once_in(2) { 1 } else { self.random.within(2, 4) };
+        (0..changes).for_each(|_| scratch(&mut self.random, &mut text));
+        if self.random.once_in(10) {
+            let other = self.kept().clone();
+            let (here, there) = (self.random.below(text.len() + 1), self.random.below(other.len() + 1));
+            text.splice(here.., other[there..].iter().copied());
+        }
+        if self.random.once_in(2) {
+            mend(&mut text);
+        }
+        text
+    }
+
+    /// A text through the planner and, behind its first line, through Read.
+    fn text(&mut self) {
+        let text = self.changed();
+        let sheet = planned(&mut self.random, &mut self.tally, &text);
+        let lines = text.iter().filter(|&&byte| byte == b'\n').count();
+        let links = if self.random.once_in(3) { lines.saturating_sub(3) } else { 3000 };
+        let behind = text.iter().position(|&byte| byte == b'\n').map_or(0, |at| at + 1);
+        read(&mut self.random, &mut self.tally, &text[behind..], links);
+        self.tried[0] += 1;
+        let manner = manner::printed(&text, &sheet);
+        if text.len() < LONGEST && !self.known.contains(&manner) {
+            self.texts[manner.number()].push(text);
+        }
+        self.known.insert(manner);
+    }
+
+    /// A kept table changed, at times so that it is refused, through every operation; a table that is met anew gives a text, too.
+    fn table(&mut self) {
+        let random = &mut self.random;
+        let mut net = random.pick(&self.nets).clone();
+        for _ in 0..random.within(1, 5) {
+            alter(random, &mut net);
+        }
+        if random.once_in(4) {
+            damage(random, &mut net);
+        }
+        let numbers = operations(random, &mut self.tally, &net, 2);
+        self.tried[1] += 1;
+        let Some(numbers) = numbers else {
+            self.known.extend(manner::refused(&net));
+            return;
+        };
+        let wish = wish(random, &net, &numbers);
+        if wish.from < net.n && wish.to < net.n && (1..33).contains(&wish.k) {
+            let new = manner::swept(&net, wish).is_some_and(|manner| self.known.insert(manner));
+            let text = input(&net, wish).0;
+            if new && text.len() < LONGEST {
+                self.texts[0].push(text);
+                self.nets.push(net);
+            }
         }
     }
 }
 
 fn main() {
-    let mut words = std::env::args().skip(1).map(|word| word.parse().expect("SEED and SECONDS are numbers"));
-    let seed: u64 = words.next().unwrap_or(1);
+    let mut words = std::env::args().skip(1).map(|word| word.parse().expect("SECONDS and SEED are numbers"));
     let seconds: u64 = words.next().unwrap_or(60);
-    let random = &mut Random::new(seed);
-    let tally = &mut Tally::default();
-    let mut nets: Vec<Network> = (0..40).map(|_| any(random, 60)).collect();
-    let mut inputs = vec![];
-    for net in &nets {
-        let mut input = want(random, net);
-        input.extend(text::text(net.n, &net.lows, &net.highs).bytes());
-        inputs.push(input);
-    }
-    let (mut known_texts, mut known_nets) = (HashSet::new(), HashSet::new());
-    let (start, mut rounds) = (Instant::now(), 0u64);
+    let seed: u64 = words.next().unwrap_or(1);
+    let mut fuzz = Fuzz::new(seed);
+    let start = Instant::now();
     while start.elapsed() < Duration::from_secs(seconds) {
-        for _ in 0..20 {
-            texts(random, tally, &mut inputs, &mut known_texts);
-        }
-        networks(random, tally, &mut nets, &mut known_nets);
-        rounds += 1;
+        (0..20).for_each(|_| fuzz.text());
+        fuzz.table();
     }
-    tally.lines().0.iter().for_each(|line| println!("{line}"));
+    fuzz.tally.lines().0.iter().for_each(|line| println!("{line}"));
+    let [texts, tables] = fuzz.tried;
     println!(
-        "seed {seed}, {seconds} s: {} texts and {rounds} tables, {} and {} kept as new, {} answers with their lists compared, 0 differ",
-        20 * rounds,
-        inputs.len() - 40,
-        nets.len() - 40,
-        tally.compared()
+        "{seconds} s from seed {seed}: {texts} texts and {tables} tables tried, {} manners of answering met, {} texts and {} tables kept;\n\
+         {} answers with their lists compared, 0 differ",
+        fuzz.known.len(),
+        fuzz.texts.iter().map(Vec::len).sum::<usize>() - FIRST,
+        fuzz.nets.len() - FIRST,
+        fuzz.tally.compared()
     );
 }

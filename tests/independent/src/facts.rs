@@ -1,0 +1,71 @@
+//! What must hold of routes and of kept links, whoever found them.
+
+use crate::generate::Network;
+use crate::sweep::Wish;
+use crate::tally::Tally;
+
+/// Whether two relays are the ends of a link, one with a mark if there are marks.
+fn joined(net: &Network, marks: Option<&[u16]>, one: u16, two: u16) -> bool {
+    let (low, high) = (one.min(two), one.max(two));
+    let here = |link: usize| net.lows[link] == low && net.highs[link] == high;
+    (0..net.lows.len()).any(|link| here(link) && marks.is_none_or(|marks| marks[link] == 1))
+}
+
+/// Routes as the two lists give them: from end to end along the links, those with a mark if there are marks, and without a relay
+/// in common between the ends. `who` found them.
+pub fn disjoint(
+    tally: &mut Tally,
+    who: &'static str,
+    net: &Network,
+    marks: Option<&[u16]>,
+    wish: Wish,
+    (counts, relays): (&[u16], &[u16]),
+) {
+    let mut seen = vec![false; usize::from(net.n)];
+    let (mut direct, mut at) = (0, 0);
+    for &count in counts {
+        let route = &relays[at..at + usize::from(count)];
+        at += route.len();
+        let input = &(net, wish, route);
+        tally.holds(who, "a route has two ends", route.len() >= 2, input);
+        let ends = (route[0], route[route.len() - 1]);
+        tally.holds(who, "a route joins its ends", ends == (wish.from, wish.to), input);
+        direct += usize::from(route.len() == 2);
+        let along = route.windows(2).all(|two| joined(net, marks, two[0], two[1]));
+        tally.holds(who, "a route runs along its links", along, input);
+        for &relay in &route[1..route.len() - 1] {
+            let fresh = relay != wish.from && relay != wish.to && !seen[usize::from(relay)];
+            tally.holds(who, "no relay between the ends is used twice", fresh, input);
+            seen[usize::from(relay)] = true;
+        }
+    }
+    tally.holds(who, "one route at most goes straight", direct <= 1, &(net, wish));
+    tally.holds(who, "the count is that of the relays written", at == relays.len(), &(net, wish));
+}
+
+fn root(parent: &mut [usize], mut relay: usize) -> usize {
+    while parent[relay] != relay {
+        parent[relay] = parent[parent[relay]];
+        relay = parent[relay];
+    }
+    relay
+}
+
+/// The parts into which the links, those with a mark if there are marks, join the live relays: the lowest relay of each one's part.
+pub fn parts(net: &Network, dead: &[bool], marks: Option<&[u16]>) -> Vec<usize> {
+    let mut parent: Vec<usize> = (0..usize::from(net.n)).collect();
+    for link in 0..net.lows.len() {
+        let (a, b) = (usize::from(net.lows[link]), usize::from(net.highs[link]));
+        if !dead[a] && !dead[b] && marks.is_none_or(|marks| marks[link] == 1) {
+            let (a, b) = (root(&mut parent, a), root(&mut parent, b));
+            parent[a.max(b)] = a.min(b);
+        }
+    }
+    (0..parent.len()).map(|relay| root(&mut parent, relay)).collect()
+}
+
+/// The network of the links with a mark.
+pub fn kept(net: &Network, marks: &[u16]) -> Network {
+    let chosen = |list: &[u16]| list.iter().zip(marks).filter(|two| *two.1 == 1).map(|two| *two.0).collect();
+    Network { n: net.n, lows: chosen(&net.lows), highs: chosen(&net.highs) }
+}

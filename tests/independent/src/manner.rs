@@ -1,0 +1,118 @@
+//! How an input is answered, coarsely: the fuzzer keeps what is answered in a new manner. What the two versions agree on is taken
+//! from the second one, so the manners stand for the ways through the reader, the refusals and the sweep.
+
+use crate::forests::{earlier, numbers, ordering, places};
+use crate::generate::Network;
+use crate::sweep::{Wish, sweep};
+use crate::table;
+use std::cell::RefCell;
+
+/// A manner of answering: an input's of the planner, a refused table's or a sweep's.
+#[derive(Clone, Debug, PartialEq, Eq, Hash)]
+pub enum Manner {
+    /// The number printed, 0 for a sheet, the line that it is about by its shape, what stands there or k, and two sizes.
+    Printed(u32, Vec<u8>, u8, [u32; 2]),
+    /// The number, and the sizes of its place and of the table.
+    Table(u32, [u32; 2]),
+    /// k, the sizes of the network and its highest forest, how many ends were replaced in a row at most, and the sizes of how many
+    /// ends were replaced and appended in all.
+    Sweep(u16, [u32; 3], u32, [u32; 2]),
+}
+
+impl Manner {
+    /// The number of the refusal, or 0.
+    pub fn number(&self) -> usize {
+        match self {
+            Manner::Printed(number, ..) | Manner::Table(number, _) => *number as usize,
+            Manner::Sweep(..) => 0,
+        }
+    }
+}
+
+/// Numbers of one length in base two have one size.
+fn size(number: usize) -> u32 {
+    usize::BITS - number.leading_zeros()
+}
+
+/// A line with all digits alike, but for a 0 that a number begins with.
+fn shape(line: &[u8]) -> Vec<u8> {
+    let starts = |at: usize| at == 0 || !line[at - 1].is_ascii_digit();
+    let alike = |at: usize| if line[at].is_ascii_digit() && !(line[at] == b'0' && starts(at)) { b'9' } else { line[at] };
+    (0..line.len().min(40)).map(alike).collect()
+}
+
+/// The kind of the byte at a place.
+fn found(input: &[u8], place: usize) -> u8 {
+    match input.get(place) {
+        None => b'$',
+        Some(byte) if byte.is_ascii_lowercase() => b'a',
+        Some(byte) if b"0 ()\n".contains(byte) => *byte,
+        Some(byte) if byte.is_ascii_digit() => b'9',
+        Some(byte) if byte.is_ascii() => b'!',
+        Some(_) => b'~',
+    }
+}
+
+/// The lines of a text with their ends.
+fn lines(text: &[u8]) -> Vec<&[u8]> {
+    text.split_inclusive(|&byte| byte == b'\n').collect()
+}
+
+/// The manner of an input for which the planner printed this: the line up to the byte for 1 and 2, the link's line for 5 to 7,
+/// otherwise the header line; for a sheet k and the sizes of its longest route and of all of them.
+pub fn printed(input: &[u8], sheet: &str) -> Manner {
+    let words: Vec<usize> = sheet.split(|c: char| !c.is_ascii_digit()).filter_map(|word| word.parse().ok()).collect();
+    let all = lines(input);
+    if !sheet.starts_with("(refused") {
+        let lengths = sheet.lines().filter(|line| line.starts_with("(route")).map(|line| line.split(' ').count());
+        let (longest, whole) = lengths.fold((0, 0), |(longest, whole), length| (longest.max(length), whole + length));
+        return Manner::Printed(0, vec![], words[2] as u8, [size(longest), size(whole)]);
+    }
+    let (number, place) = (words[0] as u32, words[1]);
+    match number {
+        1 | 2 => {
+            let at = if number == 1 { place } else { all[0].len() + place };
+            let start = input[..at].iter().rposition(|&byte| byte == b'\n').map_or(0, |newline| newline + 1);
+            let before = input[..start].iter().filter(|&&byte| byte == b'\n').count();
+            Manner::Printed(number, shape(&input[start..at]), found(input, at), [size(before).min(3), 0])
+        }
+        5..=7 => Manner::Printed(number, shape(all[place + 2]), 0, [size(place), 0]),
+        _ => Manner::Printed(number, shape(all[1]), 0, [0, size(all.len())]),
+    }
+}
+
+/// The manner of a table that the check refuses.
+pub fn refused(net: &Network) -> Option<Manner> {
+    let refusal = table::check(net.n, &net.lows, &net.highs).err()?;
+    Some(Manner::Table(refusal.number, [size(refusal.place), size(net.lows.len())]))
+}
+
+/// The manner in which the sweep meets a wish, from the order in which it looks left up: an end that is appended is looked up at the
+/// place under treatment, which only falls, an end that is replaced at a later place.
+pub fn swept(net: &Network, wish: Wish) -> Option<Manner> {
+    let Network { n, lows, highs } = net;
+    let places = places(&ordering(*n, lows, highs));
+    let earlier = earlier(*n, lows, highs, &places);
+    let (p, q) = (places[usize::from(wish.from)], places[usize::from(wish.to)]);
+    let (s, t) = (p.max(q), p.min(q));
+    let k = usize::from(wish.k);
+    if s == t || (t + 1..=s).any(|v| earlier[usize::from(v)].len() < k) {
+        return None;
+    }
+    let asked = RefCell::new(vec![]);
+    sweep(k, s, t, &|i, v| {
+        asked.borrow_mut().push(v);
+        earlier[usize::from(v)].get(i - 1).map(|&(place, _)| place)
+    });
+    let (mut lowest, mut row, mut longest, mut replaced) = (s, 0, 0, 0);
+    let asked = asked.into_inner();
+    for &v in &asked {
+        row = if v > lowest { row + 1 } else { 0 };
+        replaced += usize::from(v > lowest);
+        longest = longest.max(row);
+        lowest = lowest.min(v);
+    }
+    let highest = numbers(*n, lows, highs).into_iter().max().unwrap_or(0);
+    let sizes = [size(usize::from(*n)), size(lows.len()), size(usize::from(highest))];
+    Some(Manner::Sweep(wish.k, sizes, longest, [size(replaced), size(asked.len() - replaced)]))
+}

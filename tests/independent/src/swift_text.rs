@@ -1,0 +1,165 @@
+//! Read, Write and the planner by the methods of an ordinary program that is to be fast.
+
+use crate::sweep::Wish;
+use crate::swift::{check, cut, link, routes};
+use crate::table::{Refusal, plain, refuse, room};
+
+#[inline]
+fn number(text: &[u8], at: &mut usize) -> Result<u16, Refusal> {
+    let digit = |at: usize| text.get(at).map_or(10, |byte| byte.wrapping_sub(b'0'));
+    let mut value = u16::from(digit(*at));
+    if value > 9 {
+        return refuse(2, *at);
+    }
+    *at += 1;
+    let stop = *at + if value == 0 { 0 } else { 3 };
+    while *at < stop && digit(*at) <= 9 {
+        value = 10 * value + u16::from(digit(*at));
+        *at += 1;
+    }
+    Ok(value)
+}
+
+#[inline]
+fn word(text: &[u8], at: &mut usize, word: &[u8]) -> Result<(), Refusal> {
+    for &byte in word {
+        if text.get(*at) != Some(&byte) {
+            return refuse(2, *at);
+        }
+        *at += 1;
+    }
+    Ok(())
+}
+
+fn read_links(text: &[u8], lows: &mut [u16], highs: &mut [u16]) -> Result<(u16, u16), Refusal> {
+    let mut at = 0;
+    word(text, &mut at, b"(net (relays ")?;
+    let n = number(text, &mut at)?;
+    word(text, &mut at, b") (links ")?;
+    let m = number(text, &mut at)?;
+    word(text, &mut at, b"))\n")?;
+    if n == 0 || n > 1000 {
+        return plain(3);
+    }
+    if m > 3000 {
+        return plain(4);
+    }
+    if lows.len().min(highs.len()) < usize::from(m) {
+        return plain(8);
+    }
+    let mut seen = [0u64; 7805];
+    for index in 0..usize::from(m) {
+        word(text, &mut at, b"(link ")?;
+        let a = number(text, &mut at)?;
+        word(text, &mut at, b" ")?;
+        let b = number(text, &mut at)?;
+        word(text, &mut at, b")\n")?;
+        link(n, &mut seen, index, a, b)?;
+        lows[index] = a;
+        highs[index] = b;
+    }
+    word(text, &mut at, b"(end)\n")?;
+    if at < text.len() { refuse(2, at) } else { Ok((n, m)) }
+}
+
+/// Read.
+pub fn read(text: &[u8], lows: &mut [u16], highs: &mut [u16]) -> Result<(u16, u16), Refusal> {
+    let answer = read_links(text, lows, highs);
+    let kept = answer.map_or(0, |(_, m)| usize::from(m));
+    lows[kept..].fill(0);
+    highs[kept..].fill(0);
+    answer
+}
+
+fn put_number(buffer: &mut [u8], at: &mut usize, value: u16) {
+    for unit in [1000, 100, 10, 1] {
+        if value >= unit || unit == 1 {
+            buffer[*at] = b'0' + (value / unit % 10) as u8;
+            *at += 1;
+        }
+    }
+}
+
+fn put(buffer: &mut [u8], at: &mut usize, word: &[u8]) {
+    buffer[*at..*at + word.len()].copy_from_slice(word);
+    *at += word.len();
+}
+
+fn digits(value: u16) -> usize {
+    1 + usize::from(value >= 10) + usize::from(value >= 100) + usize::from(value >= 1000)
+}
+
+/// Write.
+pub fn write(n: u16, lows: &[u16], highs: &[u16], buffer: &mut [u8]) -> Result<usize, Refusal> {
+    check(n, lows, highs)?;
+    let m = lows.len() as u16;
+    let links: usize = lows.iter().zip(highs).map(|(&a, &b)| 9 + digits(a) + digits(b)).sum();
+    let length = 25 + digits(n) + digits(m) + links + 6;
+    room(buffer, length)?;
+    let mut at = 0;
+    put(buffer, &mut at, b"(net (relays ");
+    put_number(buffer, &mut at, n);
+    put(buffer, &mut at, b") (links ");
+    put_number(buffer, &mut at, m);
+    put(buffer, &mut at, b"))\n");
+    for (&a, &b) in lows.iter().zip(highs) {
+        put(buffer, &mut at, b"(link ");
+        put_number(buffer, &mut at, a);
+        put(buffer, &mut at, b" ");
+        put_number(buffer, &mut at, b);
+        put(buffer, &mut at, b")\n");
+    }
+    put(buffer, &mut at, b"(end)\n");
+    Ok(at)
+}
+
+fn sheet(input: &[u8]) -> Result<Vec<u8>, Refusal> {
+    let wish = |at: &mut usize| -> Result<Wish, Refusal> {
+        word(input, at, b"(want ")?;
+        let from = number(input, at)?;
+        word(input, at, b" ")?;
+        let to = number(input, at)?;
+        word(input, at, b" ")?;
+        let k = number(input, at)?;
+        word(input, at, b")\n")?;
+        Ok(Wish { k, from, to })
+    };
+    let mut at = 0;
+    let wish = wish(&mut at).map_err(|refusal| Refusal { number: 1, ..refusal })?;
+    let (mut lows, mut highs) = ([0; 3000], [0; 3000]);
+    let (n, m) = read(&input[at..], &mut lows, &mut highs)?;
+    let (lows, highs) = (&lows[..usize::from(m)], &highs[..usize::from(m)]);
+    let kept = cut(n, lows, highs, wish.k, &mut [0; 3000])?;
+    if wish.from >= n || wish.to >= n {
+        return plain(10);
+    }
+    if wish.from == wish.to {
+        return plain(11);
+    }
+    let Some(routes) = routes(n, lows, highs, wish) else { return plain(13) };
+    let mut sheet = vec![0; 4608];
+    let mut at = 0;
+    for (front, value) in [(&b"(sheet (from "[..], wish.from), (b") (to ", wish.to), (b") (k ", wish.k)] {
+        put(&mut sheet, &mut at, front);
+        put_number(&mut sheet, &mut at, value);
+    }
+    put(&mut sheet, &mut at, b"))\n");
+    for route in routes {
+        put(&mut sheet, &mut at, b"(route");
+        for relay in route {
+            put(&mut sheet, &mut at, b" ");
+            put_number(&mut sheet, &mut at, relay);
+        }
+        put(&mut sheet, &mut at, b")\n");
+    }
+    put(&mut sheet, &mut at, b"(kept ");
+    put_number(&mut sheet, &mut at, kept);
+    put(&mut sheet, &mut at, b")\n(end)\n");
+    sheet.truncate(at);
+    Ok(sheet)
+}
+
+/// What the planner prints for an input.
+pub fn plan(input: &[u8]) -> Vec<u8> {
+    sheet(input).unwrap_or_else(|Refusal { number, place }| format!("(refused {number} {place})\n").into_bytes())
+}
