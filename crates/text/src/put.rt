@@ -17,8 +17,8 @@ pub struct WriteMark {
     pub links: usize,
 }
 
-// How many digits a number has, counted by tens.
-fn width_by_tens(x: usize) -> usize
+// How many digits a number has.
+pub fn width(x: usize) -> usize
     ensures { λ r. ⌜ r ≡ length (decimal x) ⌝ }
 {
     let mut count: usize = 1;
@@ -28,22 +28,6 @@ fn width_by_tens(x: usize) -> usize
         count += 1;
     }
     count
-}
-
-// How many digits a number has. Relay numbers have at most three, and need no division.
-pub fn width(x: usize) -> usize
-    ensures { λ r. ⌜ r ≡ length (decimal x) ⌝ }
-{
-    if x < 10 {
-        return 1;
-    }
-    if x < 100 {
-        return 2;
-    }
-    if x < 1000 {
-        return 3;
-    }
-    width_by_tens(x)
 }
 
 // A word to the letter.

@@ -1,25 +1,35 @@
--- `text::put::width` meets its contract. Assumes nothing.
-use mathlib.Core.Path.{sym}
+-- `text::put::width` meets its contract. The loop: the digits counted and those of the tens left make those of the number.
+-- Assumes nothing.
+use Prim.Native.Nat.{_+_, _≤_}
+use mathlib.Core.Path.{_≡_}
 use native.Mathlib.Omega.{arith}
-use borrow.Author.Needs.{needs}
-use Rattle.text_theory.specs.Decimal.{length-decimal-one, length-decimal-two, length-decimal-three}
+use lib.ListN.{length}
+use Rattle.definitions.specs.Form.{decimal}
+use Rattle.text_theory.specs.Decimal.{length-decimal-one, length-decimal-tens}
 use Rattle.text.proofs.put.width.Statement.{statement}
 use Rattle.text.proofs.put.width.Tie as tie
 
-returns : tie.Need-returns
-returns c = sym (length-decimal-one _ (omega arith))
+abbrev Inv-loop : tie.InvT-loop
+Inv-loop x count₀ tens₀ count tens =
+    (count + tens ≤ x + 1) × (count + length (decimal tens) ≡ length (decimal x) + 1)
 
-returns-2 : tie.Need-returns-2
-returns-2 c = sym (length-decimal-two _ (omega arith) (omega arith))
+abbrev μ-loop : tie.MeasureT-loop
+μ-loop x count₀ tens₀ count tens = tens
 
-returns-3 : tie.Need-returns-3
-returns-3 c = sym (length-decimal-three _ (omega arith) (omega arith))
+loop-holds : tie.Need-loop-holds Inv-loop μ-loop
+loop-holds c = omega arith
 
-width-by-tens-requires : tie.Need-width-by-tens-requires
-width-by-tens-requires c κs = search needs
+add-count : tie.Need-add-count Inv-loop μ-loop
+add-count c = omega arith
 
-returns-4 : tie.Need-returns-4
-returns-4 c = search needs
+loop-less : tie.Need-loop-less Inv-loop μ-loop
+loop-less c = omega arith
+
+loop-again : tie.Need-loop-again Inv-loop μ-loop
+loop-again c = omega (arith, length-decimal-tens (c .before .loop .tens) (c .loop-test .taken))
+
+returns : tie.Need-returns Inv-loop μ-loop
+returns c = omega (arith, length-decimal-one (c .before .loop .tens) (omega arith))
 
 pub width-spec : {M : Type 1} → statement M
-width-spec = tie.close (tie.spec returns returns-2 returns-3 width-by-tens-requires returns-4)
+width-spec = tie.close (tie.spec Inv-loop μ-loop loop-holds add-count loop-less loop-again returns)
