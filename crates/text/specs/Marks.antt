@@ -25,9 +25,16 @@ linksAfter dues.Header i = i
 linksAfter dues.Link i = i + 1
 linksAfter dues.End i = i
 
--- The buffer has the room for the form.
+-- A link line needs an entry in each list.
+abbrev pub DueEntries : Due → ℕ → List ℕ → List ℕ → Type 0
+DueEntries dues.Header i lows highs = Unit {0}
+DueEntries dues.Link i lows highs = (i < length lows) × (i < length highs)
+DueEntries dues.End i lows highs = Unit {0}
+
+-- The buffer has the room for the form, and the lists have what it says.
 pub record Fits (buffer : List ℕ) (mark : WriteMark) (due : Due) (n : ℕ) (lows highs : List ℕ) : Type 0 where
   pub within : mark .links ≤ length lows
+  pub entries : DueEntries due (mark .links) lows highs
   pub room : mark .next + length (dueText due n lows highs (mark .links)) ≤ length buffer
 
 -- The form stands at the mark, and the mark behind it.
@@ -41,6 +48,10 @@ pub record Moved
 pub due-room : {buffer : List ℕ} {mark : WriteMark} {due : Due} {n : ℕ} {lows highs : List ℕ} (form : Due) → due ≡ form
     → Fits buffer mark due n lows highs → mark .next + length (dueText form n lows highs (mark .links)) ≤ length buffer
 due-room form e fits = rw (sym e) (fits .room)
+
+pub due-entries : {buffer : List ℕ} {mark : WriteMark} {due : Due} {n : ℕ} {lows highs : List ℕ} (form : Due) → due ≡ form
+    → Fits buffer mark due n lows highs → DueEntries form (mark .links) lows highs
+due-entries form e fits = rw (sym e) (fits .entries)
 
 -- A link's line, from the two numbers that were looked up.
 pub entries-line : (lows highs : List ℕ) (i low high : ℕ) → low ≡ getD lows i 0 → high ≡ getD highs i 0
@@ -56,6 +67,11 @@ same-bytes e put = rw (sym e) put
 abbrev pub first : WriteMark
 first = record { next = 0; links = 0 }
 
+-- A table of two equal lists, and a buffer with the room for its text.
+pub record Writable (n : ℕ) (lows highs buffer : List ℕ) : Type 0 where
+  pub even : length lows ≡ length highs
+  pub enough : length (textOf n lows highs) ≤ length buffer
+
 -- ---- the text of a table, from the buffer `start` on
 module _ (n : ℕ) (lows highs start : List ℕ) where
   -- What is left of the text behind i links.
@@ -69,17 +85,19 @@ module _ (n : ℕ) (lows highs start : List ℕ) where
     pub ends : mark .next + length (left (mark .links)) ≡ length (textOf n lows highs)
     pub bytes : sets start 0 (textOf n lows highs) ≡ sets buffer (mark .next) (left (mark .links))
 
-  module _ (enough : length (textOf n lows highs) ≤ length start) where
+  module _ (writable : Writable n lows highs start) where
     pub header-fits : Fits start first dues.Header n lows highs
-    header-fits = record { within = omega arith; room = omega (arith, length-text n lows highs) }
+    header-fits = record { within = omega arith; entries = tt; room = omega (arith, writable .enough, length-text n lows highs) }
 
     pub link-fits : (buffer : List ℕ) (mark : WriteMark) → Standing buffer mark → mark .links < length lows
         → Fits buffer mark dues.Link n lows highs
     link-fits buffer mark s h =
         record {
           within = s .within;
+          entries = (h, omega (arith, writable .even));
           room = omega (
             arith,
+            writable .enough,
             s .same,
             s .ends,
             length-append (linkLines lows highs (mark .links) (length lows - mark .links)) (writeForm endForm []),
@@ -91,8 +109,10 @@ module _ (n : ℕ) (lows highs start : List ℕ) where
     end-fits buffer mark s =
         record {
           within = s .within;
+          entries = tt;
           room = omega (
             arith,
+            writable .enough,
             s .same,
             s .ends,
             length-append (linkLines lows highs (mark .links) (length lows - mark .links)) (writeForm endForm []),

@@ -14,6 +14,7 @@ ghost use Rattle.definitions.specs.Text.{
   bufferAfter,
 };
 ghost use Rattle.text.specs.Answers.{readOutcome, writeOutcome};
+ghost use Rattle.text.specs.Marks.{Writable};
 ghost use Rattle.text.specs.Put.{Put};
 ghost use Rattle.text.specs.Tables.{afterHeader, TableRead};
 
@@ -58,7 +59,7 @@ fn text_length(n: u16, lows: &[u16], highs: &[u16]) -> usize
 
 // The whole text of a table, from the buffer's first byte on: one write mark moves over it, form by form.
 fn put_text(buffer: &mut [u8], n: u16, lows: &[u16], highs: &[u16]) -> usize
-    requires { ⌜ length (textOf n (now lows) (now highs)) ≤ length (now buffer) ⌝ }
+    requires { ⌜ Writable n (now lows) (now highs) (now buffer) ⌝ }
     ensures { λ r. ⌜ Put (now (buffer .entry)) 0 (textOf n (now (lows .entry)) (now (highs .entry))) (now (buffer .exit)) r ⌝ }
 {
     let mut mark = WriteMark { next: 0, links: 0 };

@@ -2,7 +2,7 @@
 // Each gives the offset behind what it wrote.
 ghost use mathlib.Core.List.{[], _∷_};
 ghost use mathlib.Core.Path.{_≡_};
-ghost use Prim.Native.Nat.{_+_, _≤_};
+ghost use Prim.Native.Nat.{_+_, _≤_, _<_};
 ghost use lib.ListN.{length, getD};
 ghost use Rattle.definitions.specs.Form.{word, numeral, decimal, writeForm};
 ghost use Rattle.definitions.specs.Text.{headerForm, linkForm, endForm};
@@ -129,11 +129,12 @@ pub fn link_length(a: usize, b: usize) -> usize
     9 + width(a) + width(b)
 }
 
-// An entry of a list; past its end 0.
+// An entry of a list.
 fn entry(list: &[u16], i: usize) -> usize
+    requires { ⌜ i < length (now list) ⌝ }
     ensures { λ r. ⌜ r ≡ getD (now (list .entry)) i 0 ⌝ }
 {
-    if i < list.len() { list[i] as usize } else { 0 }
+    list[i] as usize
 }
 
 // The form that is due at a mark, and the mark behind it.

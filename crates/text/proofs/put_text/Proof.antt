@@ -39,7 +39,7 @@ use denote.Triple.Table.{entered, cited}
 use denote.Triple.Walked.{needs, goes-none, goes-none-slice, goes-slice, Walks, walked, walk-meets}
 use denote.Exit.{yes}
 use Rattle.definitions.specs.Text.{textOf}
-use Rattle.text.specs.Marks.{first as mark₀, header-fits, link-fits, end-fits, header-moved, link-moved, end-moved}
+use Rattle.text.specs.Marks.{Writable, first as mark₀, header-fits, link-fits, end-fits, header-moved, link-moved, end-moved}
 use Rattle.text.specs.declared.put.WriteMark.{WriteMark}
 use Rattle.text.specs.declared.scan.Due.{Due}
 use Rattle.text.specs.declared.scan.Due.the-variants as dues
@@ -71,7 +71,7 @@ link =
 
 module _ {M : Type 1} (𝓤 : URA M) (H : Heap 𝓤) (A : Atoms 𝓤) (W : Given 𝓤 H A) (at-mem : Memory → SProp 𝓤) (run : Routine → Fun 𝓤)
     (L : Loan) (room : Room u8 (length (L .start))) (n-fits : L .n < 2 ^ 16) (lows-room : length (L .lo .now) < 2 ^ 64)
-    (enough : length (textOf (L .n) (L .lo .now) (L .hi .now)) ≤ length (L .start)) where
+    (writable : Writable (L .n) (L .lo .now) (L .hi .now) (L .start)) where
   open Loan L using (κ, κ₂, κ₃, q, q₂, q₃, start, n, lo, hi)
 
   abbrev lows : List ℕ
@@ -146,7 +146,7 @@ module _ {M : Type 1} (𝓤 : URA M) (H : Heap 𝓤) (A : Atoms 𝓤) (W : Given
         (init ! 22 refl (due-typed 𝓤 H A W dues.End)) $
         move ! (44 ∷ 45 ∷ 32 ∷ 46 ∷ 47 ∷ 48 ∷ 49 ∷ []) $
         lends L l5 (i .0 .0) (i .0 .1) dues.End W at-mem run (i .1 .0 .same) n-fits (i .1 .1) (is-due dues.End)
-        (end-fits n lows highs start enough (i .0 .0) (i .0 .1) (i .1 .0)) ! tt (λ N.
+        (end-fits n lows highs start writable (i .0 .0) (i .0 .1) (i .1 .0)) ! tt (λ N.
         calls-at ! fm mover known (to (i .0) dues.End N) (and-then ! (load ! (from ! (stop !)) (look ! 6 refl))
         (and-then ! (load ! (from ! (stop !)) (look ! 4 refl)) (and-then ! (load ! (from ! (stop !)) (look ! 26 refl))
         (and-then ! (load ! (from ! (stop !)) (look ! 41 refl)) (and-then ! (load ! (from ! (stop !)) (look ! 39 refl))
@@ -192,7 +192,7 @@ module _ {M : Type 1} (𝓤 : URA M) (H : Heap 𝓤) (A : Atoms 𝓤) (W : Given
         (init ! 6 refl (due-typed 𝓤 H A W dues.Link)) $
         move ! (44 ∷ 45 ∷ 32 ∷ 46 ∷ 47 ∷ 48 ∷ 49 ∷ []) $
         lends L l5 (i .0 .0) (i .0 .1) dues.Link W at-mem run (i .1 .0 .same) n-fits (i .1 .1) (is-due dues.Link)
-        (link-fits n lows highs start enough (i .0 .0) (i .0 .1) (i .1 .0) (short i less)) ! tt (λ N.
+        (link-fits n lows highs start writable (i .0 .0) (i .0 .1) (i .1 .0) (short i less)) ! tt (λ N.
         calls-at-last ! fm mover known (to (i .0) dues.Link N) (and-then ! (load ! (from ! (stop !)) (look ! 14 refl))
         (and-then ! (load ! (from ! (stop !)) (look ! 12 refl)) (and-then ! (load ! (from ! (stop !)) (look ! 10 refl))
         (and-then ! (load ! (from ! (stop !)) (look ! 41 refl)) (and-then ! (load ! (from ! (stop !)) (look ! 39 refl))
@@ -219,7 +219,7 @@ module _ {M : Type 1} (𝓤 : URA M) (H : Heap 𝓤) (A : Atoms 𝓤) (W : Given
         (init ! 22 refl (due-typed 𝓤 H A W dues.Header)) $
         move ! (44 ∷ 45 ∷ 32 ∷ 46 ∷ 47 ∷ 48 ∷ 49 ∷ []) $
         lends L l5 start mark₀ dues.Header W at-mem run refl n-fits is-first (is-due dues.Header)
-        (header-fits n lows highs start enough) ! tt (λ N.
+        (header-fits n lows highs start writable) ! tt (λ N.
         calls-at ! fm mover known (to (start, mark₀) dues.Header N) (and-then ! (load ! (from ! (stop !)) (look ! 30 refl))
         (and-then ! (load ! (from ! (stop !)) (look ! 28 refl)) (and-then ! (load ! (from ! (stop !)) (look ! 26 refl))
         (and-then ! (load ! (from ! (stop !)) (look ! 41 refl)) (and-then ! (load ! (from ! (stop !)) (look ! 39 refl))
@@ -265,9 +265,9 @@ module _ {M : Type 1} (𝓤 : URA M) (H : Heap 𝓤) (A : Atoms 𝓤) (W : Given
         ),
       ))
       (λ κs qs bounds a g are.
-      needs 𝓤 (length (textOf (a .1 .0) (a .1 .1 .0 .now) (a .1 .1 .1 .0 .now)) ≤ length (a .0 .now)) _ (λ enough.
+      needs 𝓤 (Writable (a .1 .0) (a .1 .1 .0 .now) (a .1 .1 .1 .0 .now) (a .0 .now)) _ (λ writable.
       walk 𝓤 H A W mem run (loan κs qs a)
-      (are .0 .0 .1) (are .1 .0 .1) (are .1 .1 .0 .0 .1 .0) enough 𝓣 known (are .1 .1 .0) (are .1 .1 .1 .0)))
+      (are .0 .0 .1) (are .1 .0 .1) (are .1 .1 .0 .0 .1 .0) writable 𝓣 known (are .1 .1 .0) (are .1 .1 .1 .0)))
 
   put-text-meets : Meets 𝓤 H A put-text.signature (WpFn 𝓤 H (𝓣 .C) (𝓣 .Λ) code.function) (put-text.spec 𝓤 H A mem run)
   put-text-meets =

@@ -42,7 +42,14 @@ returns c =
     (sym (short .0), sym (short .1))
 
 put-text-requires : tie.Need-put-text-requires
-put-text-requires c κs = omega (arith, c .before .before .text-length .ensures)
+put-text-requires c κs =
+    let a = c .before .before .before .before .before .before .before .before .before .args in
+    let good : Accepted (a .n) (now (a .lows)) (now (a .highs)) =
+    sym (c .before .before .before .before .before .table-check .ensures) ∙ ap checkOutcome (c .before .before .before .enum-told .given .1) in
+    record {
+      even = accepted (a .n) (now (a .lows)) (now (a .highs)) good .even;
+      enough = omega (arith, c .before .before .text-length .ensures);
+    }
 
 returns-2 : tie.Need-returns-2
 returns-2 c =

@@ -5,7 +5,7 @@ use lib.ListN.{length}
 use borrow.Author.Needs.{needs}
 use denote.Ref.{now}
 use Rattle.text.specs.declared.scan.Due.the-variants as dues
-use Rattle.text.specs.Marks.{due-room, entries-line, same-bytes}
+use Rattle.text.specs.Marks.{due-room, due-entries, entries-line, same-bytes}
 use Rattle.text.proofs.put.put_form.Statement.{statement}
 use Rattle.text.proofs.put.put_form.Tie as tie
 
@@ -19,10 +19,10 @@ enum-told-2 : tie.Need-enum-told-2
 enum-told-2 c = search needs
 
 entry-requires : tie.Need-entry-requires
-entry-requires c κs = search needs
+entry-requires c κs = due-entries dues.Link (c .enum-told2 .given .1) (c .before .before .before .before .before .pre) .0
 
 entry-requires-2 : tie.Need-entry-requires-2
-entry-requires-2 c κs = search needs
+entry-requires-2 c κs = due-entries dues.Link (c .before .enum-told2 .given .1) (c .before .before .before .before .before .before .pre) .1
 
 add-links : tie.Need-add-links
 add-links c = search needs
