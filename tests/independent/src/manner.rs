@@ -1,10 +1,10 @@
 //! How an input is answered, coarsely: the fuzzer keeps what is answered in a new manner. What the two versions agree on is taken
 //! from the second one, so the manners stand for the ways through the reader, the refusals and the sweep.
 
-use crate::forests::{earlier, numbers, ordering, places};
+use crate::forests::{earlier, ordering, places};
 use crate::generate::Network;
 use crate::sweep::{Wish, sweep};
-use crate::table;
+use crate::table::{check, known};
 use std::cell::RefCell;
 
 /// A manner of answering: an input's of the planner, a refused table's or a sweep's.
@@ -14,17 +14,16 @@ pub enum Manner {
     Printed(u32, Vec<u8>, u8, [u32; 2]),
     /// The number, and the sizes of its place and of the table.
     Table(u32, [u32; 2]),
-    /// k, the sizes of the network and its highest forest, how many ends were replaced in a row at most, and the sizes of how many
+    /// k, the sizes of the network and its highest forest, how many ends one exchange replaced at most, and the sizes of how many
     /// ends were replaced and appended in all.
     Sweep(u16, [u32; 3], u32, [u32; 2]),
 }
 
 impl Manner {
-    /// The number of the refusal, or 0.
-    pub fn number(&self) -> usize {
+    /// The class among its like: the number, or how many ends one exchange replaced at most.
+    pub fn class(&self) -> u32 {
         match self {
-            Manner::Printed(number, ..) | Manner::Table(number, _) => *number as usize,
-            Manner::Sweep(..) => 0,
+            Manner::Printed(class, ..) | Manner::Table(class, _) | Manner::Sweep(_, _, class, _) => *class,
         }
     }
 }
@@ -83,36 +82,52 @@ pub fn printed(input: &[u8], sheet: &str) -> Manner {
 
 /// The manner of a table that the check refuses.
 pub fn refused(net: &Network) -> Option<Manner> {
-    let refusal = table::check(net.n, &net.lows, &net.highs).err()?;
+    let refusal = check(net.n, &net.lows, &net.highs).err()?;
     Some(Manner::Table(refusal.number, [size(refusal.place), size(net.lows.len())]))
 }
 
-/// The manner in which the sweep meets a wish, from the order in which it looks left up: an end that is appended is looked up at the
-/// place under treatment, which only falls, an end that is replaced at a later place.
-pub fn swept(net: &Network, wish: Wish) -> Option<Manner> {
-    let Network { n, lows, highs } = net;
-    let places = places(&ordering(*n, lows, highs));
-    let earlier = earlier(*n, lows, highs, &places);
-    let (p, q) = (places[usize::from(wish.from)], places[usize::from(wish.to)]);
-    let (s, t) = (p.max(q), p.min(q));
-    let k = usize::from(wish.k);
-    if s == t || (t + 1..=s).any(|v| earlier[usize::from(v)].len() < k) {
-        return None;
+/// What the sweep looks up in an accepted network.
+pub struct Lefts {
+    places: Vec<u16>,
+    earlier: Vec<Vec<(u16, usize)>>,
+    sizes: [u32; 3],
+}
+
+impl Lefts {
+    pub fn new(net: &Network) -> Lefts {
+        let Network { n, lows, highs } = net;
+        let places = places(&ordering(*n, lows, highs));
+        let earlier = earlier(*n, lows, highs, &places);
+        let highest = earlier.iter().map(Vec::len).max().unwrap_or(0);
+        Lefts { places, earlier, sizes: [size(usize::from(*n)), size(lows.len()), size(highest)] }
     }
-    let asked = RefCell::new(vec![]);
-    sweep(k, s, t, &|i, v| {
-        asked.borrow_mut().push(v);
-        earlier[usize::from(v)].get(i - 1).map(|&(place, _)| place)
-    });
-    let (mut lowest, mut row, mut longest, mut replaced) = (s, 0, 0, 0);
-    let asked = asked.into_inner();
-    for &v in &asked {
-        row = if v > lowest { row + 1 } else { 0 };
-        replaced += usize::from(v > lowest);
-        longest = longest.max(row);
-        lowest = lowest.min(v);
+
+    /// The later and the earlier place of a wish that can be met.
+    fn ends(&self, wish: Wish) -> Option<(u16, u16)> {
+        let (p, q) = (*self.places.get(usize::from(wish.from))?, *self.places.get(usize::from(wish.to))?);
+        let (s, t) = (p.max(q), p.min(q));
+        let tree = (t + 1..=s).all(|v| self.earlier[usize::from(v)].len() >= usize::from(wish.k));
+        if s != t && tree && known(wish.k).is_ok() { Some((s, t)) } else { None }
     }
-    let highest = numbers(*n, lows, highs).into_iter().max().unwrap_or(0);
-    let sizes = [size(usize::from(*n)), size(lows.len()), size(usize::from(highest))];
-    Some(Manner::Sweep(wish.k, sizes, longest, [size(replaced), size(asked.len() - replaced)]))
+
+    /// The manner in which the sweep meets a wish, if it can, from the order in which it looks left up: for an end that is appended
+    /// at the place under treatment, which only falls, for an end that is replaced at a later place, and within one exchange in
+    /// rising i.
+    pub fn manner(&self, wish: Wish) -> Option<Manner> {
+        let (s, t) = self.ends(wish)?;
+        let asked = RefCell::new(vec![]);
+        sweep(usize::from(wish.k), s, t, &|i, v| {
+            asked.borrow_mut().push((i, v));
+            self.earlier[usize::from(v)].get(i - 1).map(|&(place, _)| place)
+        });
+        let asked = asked.into_inner();
+        let (mut lowest, mut last, mut row, mut longest, mut replaced) = (s, 0, 0, 0, 0);
+        for &(i, v) in &asked {
+            row = if v > lowest { 1 + if i > last { row } else { 0 } } else { 0 };
+            replaced += usize::from(v > lowest);
+            longest = longest.max(row);
+            (lowest, last) = (lowest.min(v), i);
+        }
+        Some(Manner::Sweep(wish.k, self.sizes, longest, [size(replaced), size(asked.len() - replaced)]))
+    }
 }

@@ -4,23 +4,45 @@
 
 use independent::against::{input, operations, planned, read};
 use independent::generate::{Network, alter, any, damage, mend, scratch};
-use independent::manner::{self, Manner};
+use independent::manner::{self, Lefts, Manner};
 use independent::random::Random;
 use independent::tally::Tally;
 use independent::wishes::{any_wish, wish};
-use std::collections::HashSet;
+use std::collections::{BTreeMap, HashSet};
 use std::time::{Duration, Instant};
 
-/// The longest input that is kept, and how many it is started with.
+/// The longest text that is kept, the most relays and links of a table that is, and how many of each there are at the start.
 const LONGEST: usize = 3000;
+const RELAYS: u16 = 100;
+const LINKS: usize = 250;
 const FIRST: usize = 40;
+
+/// What is kept, in classes.
+struct Kept<T>(BTreeMap<u32, Vec<T>>);
+
+impl<T> Kept<T> {
+    fn keep(&mut self, class: u32, one: T) {
+        self.0.entry(class).or_default().push(one);
+    }
+
+    /// One of any class as soon as of any other.
+    fn pick(&self, random: &mut Random) -> &T {
+        let class = self.0.values().nth(random.below(self.0.len())).expect("something is kept");
+        random.pick(class)
+    }
+
+    fn count(&self) -> usize {
+        self.0.values().map(Vec::len).sum()
+    }
+}
 
 struct Fuzz {
     random: Random,
     tally: Tally,
-    /// The kept texts, by the number that the planner prints for them, 0 for a sheet.
-    texts: [Vec<Vec<u8>>; 14],
-    nets: Vec<Network>,
+    /// By the number that the planner prints for them.
+    texts: Kept<Vec<u8>>,
+    /// By how many ends one exchange of their sweep replaces.
+    nets: Kept<Network>,
     known: HashSet<Manner>,
     tried: [u64; 2],
 }
@@ -28,27 +50,19 @@ struct Fuzz {
 impl Fuzz {
     fn new(seed: u64) -> Fuzz {
         let mut random = Random::new(seed);
-        let nets: Vec<Network> = (0..FIRST).map(|_| any(&mut random, 60)).collect();
-        let mut fuzz =
-            Fuzz { random, tally: Tally::default(), texts: Default::default(), nets, known: HashSet::new(), tried: [0; 2] };
-        for at in 0..FIRST {
-            let wish = any_wish(&mut fuzz.random, &fuzz.nets[at]);
-            let text = input(&fuzz.nets[at], wish).0;
-            fuzz.texts[0].push(text);
+        let (mut texts, mut nets) = (Kept(BTreeMap::new()), Kept(BTreeMap::new()));
+        for _ in 0..FIRST {
+            let net = any(&mut random, 60);
+            let wish = any_wish(&mut random, &net);
+            texts.keep(0, input(&net, wish).0);
+            nets.keep(0, net);
         }
-        fuzz
-    }
-
-    /// A kept text: of any number as soon as of any other.
-    fn kept(&mut self) -> &Vec<u8> {
-        let met: Vec<&Vec<Vec<u8>>> = self.texts.iter().filter(|texts| !texts.is_empty()).collect();
-        let texts = self.random.pick(&met);
-        self.random.pick(texts)
+        Fuzz { random, tally: Tally::default(), texts, nets, known: HashSet::new(), tried: [0; 2] }
     }
 
     /// A kept text with some damage, at times a large network's.
     fn changed(&mut self) -> Vec<u8> {
-        let mut text = self.kept().clone();
+        let mut text = self.texts.pick(&mut self.random).clone();
         if self.random.once_in(500) {
             let net = any(&mut self.random, 1000);
             let wish = any_wish(&mut self.random, &net);
@@ -57,7 +71,7 @@ impl Fuzz {
         let changes = if self.random.once_in(2) { 1 } else { self.random.within(2, 4) };
         (0..changes).for_each(|_| scratch(&mut self.random, &mut text));
         if self.random.once_in(10) {
-            let other = self.kept().clone();
+            let other = self.texts.pick(&mut self.random);
             let (here, there) = (self.random.below(text.len() + 1), self.random.below(other.len() + 1));
             text.splice(here.., other[there..].iter().copied());
         }
@@ -77,35 +91,43 @@ impl Fuzz {
         read(&mut self.random, &mut self.tally, &text[behind..], links);
         self.tried[0] += 1;
         let manner = manner::printed(&text, &sheet);
-        if text.len() < LONGEST && !self.known.contains(&manner) {
-            self.texts[manner.number()].push(text);
+        let class = manner.class();
+        if self.known.insert(manner) && text.len() <= LONGEST {
+            self.texts.keep(class, text);
         }
-        self.known.insert(manner);
     }
 
-    /// A kept table changed, at times so that it is refused, through every operation; a table that is met anew gives a text, too.
+    /// A kept table changed, at times so that it is refused, through every operation.
     fn table(&mut self) {
         let random = &mut self.random;
-        let mut net = random.pick(&self.nets).clone();
+        let mut net = self.nets.pick(random).clone();
         for _ in 0..random.within(1, 5) {
             alter(random, &mut net);
         }
         if random.once_in(4) {
             damage(random, &mut net);
         }
-        let numbers = operations(random, &mut self.tally, &net, 2);
         self.tried[1] += 1;
-        let Some(numbers) = numbers else {
-            self.known.extend(manner::refused(&net));
-            return;
-        };
-        let wish = wish(random, &net, &numbers);
-        if wish.from < net.n && wish.to < net.n && (1..33).contains(&wish.k) {
-            let new = manner::swept(&net, wish).is_some_and(|manner| self.known.insert(manner));
-            let text = input(&net, wish).0;
-            if new && text.len() < LONGEST {
-                self.texts[0].push(text);
-                self.nets.push(net);
+        match operations(random, &mut self.tally, &net, 2) {
+            None => self.known.extend(manner::refused(&net)),
+            Some(numbers) => self.wishes(&net, &numbers),
+        }
+    }
+
+    /// An accepted table with some wishes: where the sweep goes in a new manner the planner is asked, and both are kept.
+    fn wishes(&mut self, net: &Network, numbers: &[u16]) {
+        let lefts = Lefts::new(net);
+        for _ in 0..16 {
+            let wish = wish(&mut self.random, net, numbers);
+            let Some(manner) = lefts.manner(wish) else { continue };
+            let class = manner.class();
+            if self.known.insert(manner) {
+                let text = input(net, wish).0;
+                planned(&mut self.random, &mut self.tally, &text);
+                if net.n <= RELAYS && net.lows.len() <= LINKS {
+                    self.texts.keep(0, text);
+                    self.nets.keep(class, net.clone());
+                }
             }
         }
     }
@@ -118,7 +140,7 @@ fn main() {
     let mut fuzz = Fuzz::new(seed);
     let start = Instant::now();
     while start.elapsed() < Duration::from_secs(seconds) {
-        (0..20).for_each(|_| fuzz.text());
+        (0..10).for_each(|_| fuzz.text());
         fuzz.table();
     }
     fuzz.tally.lines().0.iter().for_each(|line| println!("{line}"));
@@ -127,8 +149,8 @@ fn main() {
         "{seconds} s from seed {seed}: {texts} texts and {tables} tables tried, {} manners of answering met, {} texts and {} tables kept;\n\
          {} answers with their lists compared, 0 differ",
         fuzz.known.len(),
-        fuzz.texts.iter().map(Vec::len).sum::<usize>() - FIRST,
-        fuzz.nets.len() - FIRST,
+        fuzz.texts.count() - FIRST,
+        fuzz.nets.count() - FIRST,
         fuzz.tally.compared()
     );
 }
