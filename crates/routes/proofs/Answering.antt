@@ -1,11 +1,12 @@
 -- What Route's inner functions ask of each other and answer, in the code's terms.
 use Prim.Native.Nat.{ℕ, _*_, _≤_, _<_}
 use mathlib.Core.Bool.{Bool, true, false}
-use mathlib.Core.List.{List, [], _∷_, map}
+use mathlib.Core.List.{List, [], _∷_, _++_, map, append-nil}
 use mathlib.Core.Path.{_≡_, refl, sym, _∙_, ap}
 use native.Mathlib.Nat.{zero-add}
 use native.Mathlib.Omega.{arith}
-use lib.ListN.{length, getD, replicate, length-replicate}
+use lib.ListN.{length, drop, getD, replicate, length-replicate, List·getD-append}
+use lib.Seq.{drop-length}
 use Rattle.definitions.specs.Outcome.{pick, refused, done}
 use Rattle.definitions.specs.Lists.{overwrite, zeroed, joinAll}
 use Rattle.definitions.specs.Network.{linked, Accepted}
@@ -48,10 +49,10 @@ place-entry n lows highs places places′ e r less =
 
 pub table-asks : (n k : ℕ) (lows highs order order′ places places′ numbers numbers′ table : List ℕ) → Accepted n lows highs
     → Scanned n lows highs order order′ places places′ numbers numbers′
-    → length places′ ≡ 1000 → length numbers′ ≡ 3000 → k * n ≤ length table → table ≡ zeroed table
+    → length places′ ≡ 1000 → length numbers′ ≡ 3000 → k * n ≤ length table → ((j : ℕ) → j < k * n → getD table j 0 ≡ 0)
     → LeftInput n k lows highs places′ numbers′ table
-unfolding zeroed forestsOf
-table-asks n k lows highs order order′ places places′ numbers numbers′ table ok scanned placesLong numbersLong room clear =
+unfolding forestsOf
+table-asks n k lows highs order order′ places places′ numbers numbers′ table ok scanned placesLong numbersLong room zeros =
     let proper = accepted n lows highs ok in
     let forest = forestOf (linked lows highs) (orderOf n lows highs) lows highs in
     record {
@@ -64,7 +65,7 @@ table-asks n k lows highs order order′ places places′ numbers numbers′ tab
           ap (λ (l : List ℕ). getD l i 0) (scanned .theForests)
           ∙ getD-overwrite (forestsOf n lows highs) numbers i 0 (omega (arith, length-table forest 0 (length lows)))
           ∙ getD-table forest 0 (length lows) i 0 less ∙ ap forest (zero-add i);
-      zeros = λ j less. ap (λ (l : List ℕ). getD l j 0) clear ∙ zeros-entry (length table) j;
+      zeros = zeros;
     }
 
 module _ (left : ℕ → ℕ → ℕ) (k p q : ℕ) (order counts relays : List ℕ) (test : Bool) (e : test ≡ joinedIn left k p q) where
@@ -135,23 +136,30 @@ module _ (n : ℕ) (lows highs : List ℕ) (k from to : ℕ) (counts relays scra
       let atQ : q ≡ Q = eq ∙ place-entry n lows highs places places′ (made .thePlaces) to (asked .goal) in
       omega (arith, atP, atQ, relay-placed n lows highs from (asked .source) .0, relay-placed n lows highs to (asked .goal) .0, asked .few)
 
-zeroed-same : (one two : List ℕ) → length one ≡ length two → zeroed one ≡ zeroed two
+-- A list cleared as far as it goes, which was as long as another.
+pub clear-whole : (old mid last : List ℕ) → length mid ≡ length old → last ≡ replicate (length mid) 0 ++ drop (length mid) mid
+    → last ≡ zeroed old
 unfolding zeroed
-zeroed-same one two e = ap (λ (x : ℕ). replicate x 0) e
+clear-whole old mid last e clear =
+    clear ∙ rw (drop-length mid) (append-nil (replicate (length mid) 0)) ∙ ap (λ (x : ℕ). replicate x 0) e
 
-pub zeroed-twice : (old mid last : List ℕ) → length mid ≡ length old → last ≡ zeroed mid → last ≡ zeroed old
-zeroed-twice old mid last e clear = clear ∙ zeroed-same mid old e
+clear-front : (count : ℕ) (old new : List ℕ) → new ≡ replicate count 0 ++ drop count old → (j : ℕ) → j < count → getD new j 0 ≡ 0
+clear-front count old new clear j less =
+    ap (λ (l : List ℕ). getD l j 0) clear
+    ∙ List·getD-append (replicate count 0) (drop count old) 0 j (omega (arith, length-replicate {A = ℕ} count 0))
+    ∙ zeros-entry count j
 
--- What preparing asks, after scratch is cleared.
+-- What preparing asks, after the front of scratch is cleared.
 pub prepare-asks : (n : ℕ) (lows highs : List ℕ) (k from to : ℕ) (counts relays scratch scratch′ order places : List ℕ)
     → Routable n lows highs k from to counts relays scratch → order ≡ replicate 1000 0 → places ≡ replicate 1000 0
-    → scratch′ ≡ zeroed scratch → length scratch′ ≡ length scratch
-    → Accepted n lows highs × (((length order ≡ 1000) × (length places ≡ 1000)) × ((k * n ≤ length scratch′) × (scratch′ ≡ zeroed scratch′)))
+    → scratch′ ≡ replicate (k * n) 0 ++ drop (k * n) scratch → length scratch′ ≡ length scratch
+    → Accepted n lows highs × (((length order ≡ 1000) × (length places ≡ 1000))
+    × ((k * n ≤ length scratch′) × ((j : ℕ) → j < k * n → getD scratch′ j 0 ≡ 0)))
 prepare-asks n lows highs k from to counts relays scratch scratch′ order places asked eo ep clear long = (
   asked .accepted,
   (
     (ap length eo ∙ length-replicate {A = ℕ} 1000 0, ap length ep ∙ length-replicate {A = ℕ} 1000 0),
-    (omega (arith, asked .scratchRoom), zeroed-twice scratch′ scratch scratch′ (sym long) clear),
+    (omega (arith, asked .scratchRoom), clear-front (k * n) scratch scratch′ clear),
   ),
 )
 

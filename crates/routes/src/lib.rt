@@ -10,9 +10,10 @@ use network::Place;
 use network::Refusal;
 use network::Relay;
 use network::table_check;
+ghost use mathlib.Core.List.{_++_};
 ghost use mathlib.Core.Path.{_≡_};
-ghost use Prim.Native.Nat.{_*_, _≤_, _<_};
-ghost use lib.ListN.{length, replicate};
+ghost use Prim.Native.Nat.{ℕ, _*_, _≤_, _<_};
+ghost use lib.ListN.{length, drop, getD, replicate};
 ghost use Rattle.definitions.specs.Lists.{zeroed};
 ghost use Rattle.definitions.specs.Network.{Accepted};
 ghost use Rattle.definitions.specs.Route.{routeAnswer, countsAfter, routeRelaysAfter, scratchAfter};
@@ -31,12 +32,13 @@ pub enum RouteAnswer {
     Refused(Refusal),
 }
 
-// All zeros.
-fn clear(list: &mut [u16])
-    ensures { λ _. ⌜ now (list .exit) ≡ zeroed (now (list .entry)) ⌝ }
+// Zeros for the first `count` entries.
+fn clear(list: &mut [u16], count: usize)
+    requires { ⌜ count ≤ length (now list) ⌝ }
+    ensures { λ _. ⌜ now (list .exit) ≡ replicate count 0 ++ drop count (now (list .entry)) ⌝ }
 {
     let mut i = 0;
-    while i < list.len() {
+    while i < count {
         list[i] = 0;
         i += 1;
     }
@@ -108,7 +110,7 @@ fn prepare(
 )
     requires { ⌜ Accepted n (now lows) (now highs) ⌝ }
     requires { ⌜ (length (now order) ≡ 1000) × (length (now places) ≡ 1000) ⌝ }
-    requires { ⌜ (k * n ≤ length (now table)) × (now table ≡ zeroed (now table)) ⌝ }
+    requires { ⌜ (k * n ≤ length (now table)) × ((j : ℕ) → j < k * n → getD (now table) j 0 ≡ 0) ⌝ }
     ensures { λ _. ⌜ Prepared n k (now (lows .entry)) (now (highs .entry)) (now (order .entry)) (now (order .exit)) (now (places .entry)) (now (places .exit)) (now (table .entry)) (now (table .exit)) ⌝ }
 {
     let mut numbers = no_links();
@@ -154,12 +156,14 @@ fn route_accepted(
 {
     let mut order = no_relays();
     let mut places = no_relays();
-    clear(scratch);
+    let entries = k as usize * n as usize;
+    clear(scratch, entries);
     prepare(n, lows, highs, k, &mut order, &mut places, scratch);
     let p = place_of(&places, Relay(from));
     let q = place_of(&places, Relay(to));
     let result = answer(scratch, n, k, p, q, &order, counts, relays);
-    clear(scratch);
+    let whole = scratch.len();
+    clear(scratch, whole);
     result
 }
 

@@ -1,20 +1,18 @@
 -- `clear` meets its contract. The loop's invariant: what is left to do gives what the whole gives. Assumes nothing.
-use Rattle.definitions.specs.Lists.{zeroed}
 use borrow.Author.Fill.{fill-none, fill-more}
-use lib.Seq.{drop-length}
 use lib.ListN.{length, drop, set, replicate, length-set}
 use native.Mathlib.Omega.{arith}
 use mathlib.Core.Path.{_≡_, refl, _∙_, ap}
-use mathlib.Core.List.{List, _++_, append-nil}
+use mathlib.Core.List.{List, _++_}
 use Prim.Native.Nat.{_-_, _≤_, ℕ}
 use Rattle.routes.proofs.clear.Statement.{statement}
 use Rattle.routes.proofs.clear.Tie as tie
 
 abbrev Inv-loop : tie.InvT-loop
-Inv-loop list₀ i₀ list i = (length list ≡ length list₀) × (i ≤ length list₀) × (list ≡ replicate i 0 ++ drop i list₀)
+Inv-loop list₀ count i₀ list i = (length list ≡ length list₀) × (i ≤ count) × (list ≡ replicate i 0 ++ drop i list₀)
 
 abbrev μ-loop : tie.MeasureT-loop
-μ-loop list₀ i₀ list i = length list₀ - i
+μ-loop list₀ count i₀ list i = count - i
 
 loop-holds : tie.Need-loop-holds Inv-loop μ-loop
 loop-holds c = (refl, omega arith, fill-none (c .args .list .now) 0)
@@ -43,14 +41,10 @@ same-length : tie.Need-same-length Inv-loop μ-loop
 same-length c = c .before .loop .inv .0
 
 returns : tie.Need-returns Inv-loop μ-loop
-unfolding zeroed
 returns c =
     let a = c .before .before .args in
-    let done : c .before .loop .i ≡ length (a .list .now) = omega arith in
-    c .before .loop .inv .2
-    ∙ ap (λ (i : ℕ). replicate i 0 ++ drop i (a .list .now)) done
-    ∙ ap (λ (l : List ℕ). replicate (length (a .list .now)) 0 ++ l) (drop-length (a .list .now))
-    ∙ append-nil (replicate (length (a .list .now)) 0)
+    let done : c .before .loop .i ≡ a .count = omega arith in
+    c .before .loop .inv .2 ∙ ap (λ (i : ℕ). replicate i 0 ++ drop i (a .list .now)) done
 
 pub clear-spec : {M : Type 1} → statement M
 clear-spec =

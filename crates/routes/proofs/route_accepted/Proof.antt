@@ -1,5 +1,5 @@
 -- `route_accepted` meets its contract. Assumes nothing.
-use Rattle.routes.proofs.Answering.{prepare-asks, place-asks, places-some, answers-tree, zeroed-twice}
+use Rattle.routes.proofs.Answering.{prepare-asks, place-asks, places-some, answers-tree, clear-whole}
 use Rattle.routes.specs.Answers.{routeOutcome, answered}
 use mathlib.Core.Path.{_∙_}
 use borrow.Author.Needs.{needs}
@@ -11,6 +11,9 @@ no-relays-requires c κs = search needs
 
 no-relays-requires-2 : tie.Need-no-relays-requires-2
 no-relays-requires-2 c κs = search needs
+
+mul-entries : tie.Need-mul-entries
+mul-entries c = search needs
 
 clear-requires : tie.Need-clear-requires
 clear-requires c κs = search needs
@@ -109,7 +112,7 @@ returns c =
           (atPlaceOf .place-of .result .0) (atPlaceOf2 .place-of2 .result .0)
           (answered (atAnswer .answer .last .1 .1 .1 .1 .1 .1 .0) (atAnswer .answer .last .1 .1 .1 .1 .1 .1 .1 .0) (routeOutcome (atAnswer .answer .result)))
           (atPlaceOf .place-of .ensures) (atPlaceOf2 .place-of2 .ensures) (atAnswer .answer .ensures),
-      zeroed-twice (a .scratch .now) (made .last .1 .1 .1 .1 .1 .1 .0) (c .before .before .clear2 .last .0)
+      clear-whole (a .scratch .now) (made .last .1 .1 .1 .1 .1 .1 .0) (c .before .before .clear2 .last .0)
           (made .kept .1 .1 .1 .1 .1 .1 .0 ∙ atClear .clear .kept .0) (c .before .before .clear2 .ensures),
     )
 
@@ -119,6 +122,7 @@ route-accepted-spec =
     (tie.spec
     no-relays-requires
     no-relays-requires-2
+    mul-entries
     clear-requires
     slice-aggregate-prepare
     slice-aggregate-prepare-2
