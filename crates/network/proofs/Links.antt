@@ -1,6 +1,6 @@
 -- What `check_link` promises, way by way through its code: each answer with the tests that led to it.
 -- Assumes nothing.
-use Prim.Native.Nat.{ℕ, suc, _-_, _*_, _/_, _%_, _^_, _≤_, _<_}
+use Prim.Native.Nat.{ℕ, zero, suc, _*_, _/_, _%_, _^_, _<_}
 use mathlib.Core.Bool.{Bool, true, false, _||_}
 use mathlib.Core.List.{List, [], _∷_}
 use mathlib.Core.Logic.{⊎-elim}
@@ -59,20 +59,21 @@ first-of : (out : Bool) (next : ℕ) → pick (eqb (pick out 5 0) 0) next (pick 
 first-of true next = refl
 first-of false next = refl
 
--- The first fault of the numbers, of a range and a rise: they fit, or the link has this fault.
-module _ (n a b : ℕ) (range rise r : LinkCheck) (ranged : faultOf range ≡ pick (leb n a || leb n b) 5 0)
-    (risen : faultOf rise ≡ pick (leb b a) 6 0) (first : faultOf r ≡ pick (eqb (faultOf range) 0) (faultOf rise) (faultOf range)) where
-  numbers-fault : faultOf r ≡ faultAt n none a b
-  unfolding faultAt none
-  numbers-fault = first ∙ rw (ranged, risen) (first-of (leb n a || leb n b) (pick (leb b a) 6 0))
+-- The first fault of the numbers, 5 before 6.
+pub numbers-first : (n a b : ℕ) (range rise r : LinkCheck) → faultOf range ≡ pick (leb n a || leb n b) 5 0 → faultOf rise ≡ pick (leb b a) 6 0
+    → faultOf r ≡ pick (eqb (faultOf range) 0) (faultOf rise) (faultOf range) → faultOf r ≡ pick (leb n a || leb n b) 5 (pick (leb b a) 6 0)
+numbers-first n a b range rise r ranged risen first =
+    first ∙ rw (ranged, risen) (first-of (leb n a || leb n b) (pick (leb b a) 6 0))
 
-  pub numbers-fit : faultOf r ≡ 0 → (a < b) × (b < n)
-  numbers-fit e = fault-none n a b none (sym numbers-fault ∙ e)
-
-  pub numbers-faulty : (bits : List ℕ) → 0 < faultOf r → LinkChecked n a b bits bits r
-  numbers-faulty bits h =
-      let some : faultOf r ≡ suc (faultOf r - 1) = omega arith in
-      refuses n a b bits r (faultOf r - 1) some (fault-sooner n a b (marked bits) (faultOf r - 1) (sym numbers-fault ∙ some))
+-- A link whose numbers do not fit has their fault.
+pub unfit : (n a b : ℕ) (bits : List ℕ) (r : LinkCheck) → faultOf r ≡ pick (leb n a || leb n b) 5 (pick (leb b a) 6 0)
+    → (a < b → b < n → ⊥) → LinkChecked n a b bits bits r
+unfolding faultAt none
+unfit n a b bits r fault never = go (faultOf r) refl
+  where
+    go : (f : ℕ) → faultOf r ≡ f → LinkChecked n a b bits bits r
+    go zero e = let fit = fault-none n a b none (sym fault ∙ e) in absurd (never (fit .0) (fit .1))
+    go (suc f) e = refuses n a b bits r f e (fault-sooner n a b (marked bits) f (sym fault ∙ e))
 
 module _ (n a b : ℕ) (bits : List ℕ) where
   fault-fit : a < n → b < n → a < b → (t : Bool) → marked bits (pairNumber a b) ≡ t

@@ -159,6 +159,15 @@ fn first_fault(first: LinkCheck, second: LinkCheck) -> LinkCheck
     }
 }
 
+// The fault of a link's numbers alone: 5 comes before 6.
+fn number_fault(n: u16, a: u16, b: u16) -> LinkCheck
+    ensures { λ r. ⌜ faultOf r ≡ pick (leb n a || leb n b) 5 (pick (leb b a) 6 0) ⌝ }
+{
+    let range = range_fault(n, a, b);
+    let rise = rise_fault(a, b);
+    first_fault(range, rise)
+}
+
 // Looks for the pair a b among those that are marked, and marks it if it is not there.
 fn mark_pair(n: u16, a: u16, b: u16, seen: &mut [u64]) -> LinkCheck
     requires { ⌜ (n ≤ 1000) × RoomFor n (now seen) × (a < b) × (b < n) ⌝ }
@@ -176,18 +185,17 @@ fn mark_pair(n: u16, a: u16, b: u16, seen: &mut [u64]) -> LinkCheck
     LinkCheck::Fine
 }
 
-// Checks the link a b after those whose pairs are marked, and marks its pair if it is fine: 5 comes before 6, 6 before 7.
+// Checks the link a b after those whose pairs are marked, and marks its pair if it is fine.
 pub fn check_link(n: u16, a: u16, b: u16, seen: &mut [u64]) -> LinkCheck
     requires { ⌜ (n ≤ 1000) × RoomFor n (now seen) ⌝ }
     ensures { λ r. ⌜ LinkChecked n a b (now (seen .entry)) (now (seen .exit)) r ⌝ }
 {
-    let range = range_fault(n, a, b);
-    let rise = rise_fault(a, b);
-    let fault = first_fault(range, rise);
-    match fault {
-        LinkCheck::Fine => mark_pair(n, a, b, seen),
-        _ => fault,
+    if a < b {
+        if b < n {
+            return mark_pair(n, a, b, seen);
+        }
     }
+    number_fault(n, a, b)
 }
 
 // Checks link by link, where no pair is marked yet.
