@@ -1,10 +1,10 @@
--- `text_examples::all_replaced` meets its contract: the text and the lists keep their lengths. Assumes nothing.
+-- `text_examples::changes::all_replaced` meets its contract: the text and the lists keep their lengths. Assumes nothing.
 use Prim.Native.Nat.{_-_, _≤_}
 use mathlib.Core.Path.{_≡_}
 use lib.ListN.{length}
 use borrow.Author.Needs.{needs}
-use Rattle.text_examples.proofs.all_replaced.Statement.{statement}
-use Rattle.text_examples.proofs.all_replaced.Tie as tie
+use Rattle.text_examples.proofs.changes.all_replaced.Statement.{statement}
+use Rattle.text_examples.proofs.changes.all_replaced.Tie as tie
 
 abbrev Inv-loop : tie.InvT-loop
 Inv-loop bytes input₀ lows₀ highs₀ j₀ input lows highs j =
@@ -16,11 +16,11 @@ abbrev μ-loop : tie.MeasureT-loop
 loop-holds : tie.Need-loop-holds Inv-loop μ-loop
 loop-holds c = search needs
 
-shared-slice-read-replaced : tie.Need-shared-slice-read-replaced Inv-loop μ-loop
-shared-slice-read-replaced c = search needs
+shared-slice-read-show-replaced : tie.Need-shared-slice-read-show-replaced Inv-loop μ-loop
+shared-slice-read-show-replaced c = search needs
 
-replaced-requires : tie.Need-replaced-requires Inv-loop μ-loop
-replaced-requires c κs = search needs
+show-replaced-requires : tie.Need-show-replaced-requires Inv-loop μ-loop
+show-replaced-requires c κs = search needs
 
 add-j : tie.Need-add-j Inv-loop μ-loop
 add-j c = search needs
@@ -50,8 +50,8 @@ all-replaced-spec =
     Inv-loop
     μ-loop
     loop-holds
-    shared-slice-read-replaced
-    replaced-requires
+    shared-slice-read-show-replaced
+    show-replaced-requires
     add-j
     loop-less
     loop-again

@@ -1,9 +1,9 @@
--- `text_examples::prefix` meets its contract: as many bytes as the text has can be lent. Assumes nothing.
+-- `text_examples::changes::prefix` meets its contract: as many bytes as the text has can be lent. Assumes nothing.
 use mathlib.Core.Path.{sym}
 use lib.Seq.{length-take-le}
 use borrow.Author.Needs.{needs}
-use Rattle.text_examples.proofs.prefix.Statement.{statement}
-use Rattle.text_examples.proofs.prefix.Tie as tie
+use Rattle.text_examples.proofs.changes.prefix.Statement.{statement}
+use Rattle.text_examples.proofs.changes.prefix.Tie as tie
 
 slice-aggregate-code : tie.Need-slice-aggregate-code
 slice-aggregate-code c =

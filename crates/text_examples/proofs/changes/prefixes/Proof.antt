@@ -1,23 +1,17 @@
--- `text_examples::prefixes` meets its contract: the lists keep their lengths. Assumes nothing.
+-- `text_examples::changes::prefixes` meets its contract: the lists keep their lengths. Assumes nothing.
 use Prim.Native.Nat.{_-_, _≤_}
 use mathlib.Core.Path.{_≡_}
 use lib.ListN.{length}
 use borrow.Author.Needs.{needs}
-use Rattle.text_examples.proofs.prefixes.Statement.{statement}
-use Rattle.text_examples.proofs.prefixes.Tie as tie
+use Rattle.text_examples.proofs.changes.prefixes.Statement.{statement}
+use Rattle.text_examples.proofs.changes.prefixes.Tie as tie
 
 abbrev Inv-loop : tie.InvT-loop
-Inv-loop input lows₀ highs₀ k₀ t6 lows highs k =
-    (k ≤ length input) × (length lows ≡ length lows₀) × (length highs ≡ length highs₀) × (length t6 ≡ 1)
+Inv-loop input lows₀ highs₀ k₀ lows highs k =
+    (k ≤ length input) × (length lows ≡ length lows₀) × (length highs ≡ length highs₀)
 
 abbrev μ-loop : tie.MeasureT-loop
-μ-loop input lows₀ highs₀ k₀ t6 lows highs k = length input - k
-
-slice-aggregate-write-all : tie.Need-slice-aggregate-write-all Inv-loop μ-loop
-slice-aggregate-write-all c = search needs
-
-write-all-requires : tie.Need-write-all-requires Inv-loop μ-loop
-write-all-requires c κs = search needs
+μ-loop input lows₀ highs₀ k₀ lows highs k = length input - k
 
 loop-holds : tie.Need-loop-holds Inv-loop μ-loop
 loop-holds c = search needs
@@ -37,12 +31,6 @@ loop-again c = search needs
 code-requires : tie.Need-code-requires Inv-loop μ-loop
 code-requires c κs = search needs
 
-slice-aggregate-write-all-2 : tie.Need-slice-aggregate-write-all-2 Inv-loop μ-loop
-slice-aggregate-write-all-2 c = search needs
-
-write-all-requires-2 : tie.Need-write-all-requires-2 Inv-loop μ-loop
-write-all-requires-2 c κs = search needs
-
 same-length : tie.Need-same-length Inv-loop μ-loop
 same-length c = search needs
 
@@ -58,16 +46,12 @@ prefixes-spec =
     (tie.spec
     Inv-loop
     μ-loop
-    slice-aggregate-write-all
-    write-all-requires
     loop-holds
     prefix-requires
     add-k
     loop-less
     loop-again
     code-requires
-    slice-aggregate-write-all-2
-    write-all-requires-2
     same-length
     same-length-2
     returns)

@@ -1,0 +1,89 @@
+// A good text cut off at every byte, and with another byte in the place of every byte in turn: `ok`, or the refusal's number
+// and place, for each.
+ghost use Prim.Native.Nat.{_≤_, _<_};
+ghost use lib.ListN.{length};
+use libc::STDOUT_FILENO;
+use text::ReadAnswer;
+
+// One outcome in short.
+fn code(input: &[u8], lows: &mut [u16], highs: &mut [u16]) {
+    match text::read(input, lows, highs) {
+        ReadAnswer::Table(_, _) => {
+            io::write_all(STDOUT_FILENO, b" ok");
+        }
+        ReadAnswer::Refused(refusal) => {
+            show::show_number(b" ", network::refusal_number(refusal) as usize);
+            show::show_number(b":", network::refusal_place(refusal));
+        }
+    }
+}
+
+// The first k bytes.
+fn prefix(k: usize, input: &[u8], lows: &mut [u16], highs: &mut [u16])
+    requires { ⌜ k ≤ length (now input) ⌝ }
+{
+    code(&input[..k], lows, highs);
+}
+
+// The first k bytes, for every k up to the whole.
+fn prefixes(input: &[u8], lows: &mut [u16], highs: &mut [u16]) {
+    let mut k: usize = 0;
+    while k < input.len() {
+        prefix(k, input, lows, highs);
+        k += 1;
+    }
+    code(input, lows, highs);
+}
+
+// The byte in the place of byte i.
+fn replaced_at(byte: u8, i: usize, input: &mut [u8], lows: &mut [u16], highs: &mut [u16])
+    requires { ⌜ i < length (now input) ⌝ }
+{
+    let kept = input[i];
+    input[i] = byte;
+    code(input, lows, highs);
+    input[i] = kept;
+}
+
+// The byte in the place of every byte in turn.
+fn replaced(byte: u8, input: &mut [u8], lows: &mut [u16], highs: &mut [u16]) {
+    let mut i: usize = 0;
+    while i < input.len() {
+        replaced_at(byte, i, input, lows, highs);
+        i += 1;
+    }
+}
+
+fn show_replaced(byte: u8, input: &mut [u8], lows: &mut [u16], highs: &mut [u16]) {
+    show::show_number(b"byte ", byte as usize);
+    io::write_all(STDOUT_FILENO, b":");
+    replaced(byte, input, lows, highs);
+    io::write_all(STDOUT_FILENO, b"\n");
+}
+
+// Each of these bytes in the place of every byte.
+fn all_replaced(bytes: &[u8], input: &mut [u8], lows: &mut [u16], highs: &mut [u16]) {
+    let mut j: usize = 0;
+    while j < bytes.len() {
+        show_replaced(bytes[j], input, lows, highs);
+        j += 1;
+    }
+}
+
+// A good text with numbers of one to four digits, written and then changed.
+fn change(buffer: &mut [u8], lows: &mut [u16], highs: &mut [u16]) {
+    io::write_all(STDOUT_FILENO, b"to be changed:");
+    crate::tables::write_into(1000, &[0u16, 3, 33], &[3u16, 30, 333], buffer);
+    io::write_all(STDOUT_FILENO, b"prefixes:");
+    prefixes(buffer, lows, highs);
+    io::write_all(STDOUT_FILENO, b"\n");
+    all_replaced(b"\x00\xff03 ()\n\r", buffer, lows, highs);
+}
+
+// The text's own length, and lists of three entries.
+pub fn changed_texts(buffer: &mut [u8], lows: &mut [u16], highs: &mut [u16]) {
+    let size = io::count(73, buffer);
+    let a = crate::cases::front(3, lows);
+    let b = crate::cases::front(3, highs);
+    change(&mut buffer[..size], &mut lows[..a], &mut highs[..b]);
+}
