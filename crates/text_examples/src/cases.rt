@@ -4,18 +4,8 @@ ghost use lib.ListN.{length};
 ghost use Rattle.io.specs.Counts.{Counts};
 use libc::STDOUT_FILENO;
 
-fn nines(list: &mut [u16]) {
-    let mut i: usize = 0;
-    while i < list.len() {
-        list[i] = 9;
-        i += 1;
-    }
-}
-
-// A text into two lists of nines.
+// A text into two lists.
 fn read(input: &[u8], lows: &mut [u16], highs: &mut [u16]) {
-    nines(lows);
-    nines(highs);
     crate::answers::show_read(text::read(input, lows, highs));
     show::show_list(b" lows", lows);
     show::show_list(b" highs", highs);
@@ -31,7 +21,7 @@ fn digit(byte: u8) -> usize {
 }
 
 // As many of a list's entries as are wanted, or all of them.
-pub fn front(wanted: usize, list: &[u16]) -> usize
+fn front(wanted: usize, list: &[u16]) -> usize
     ensures { λ r. ⌜ Counts r (now (list .entry)) ⌝ }
 {
     if list.len() < wanted {
@@ -40,13 +30,15 @@ pub fn front(wanted: usize, list: &[u16]) -> usize
     wanted
 }
 
-// A text into the fronts of two lists: the head of the label has a digit for each.
-fn read_labelled(label: &[u8], input: &[u8], lows: &mut [u16], highs: &mut [u16]) {
+// A text into the fronts of two lists of nines: the head of the label has a digit for each.
+fn read_labelled(label: &[u8], input: &[u8]) {
     if 4 <= label.len() {
         io::write_all(STDOUT_FILENO, &label[4..]);
         io::write_all(STDOUT_FILENO, b":");
-        let a = front(digit(label[0]), lows);
-        let b = front(digit(label[2]), highs);
+        let mut lows = [9u16; 3];
+        let mut highs = [9u16; 3];
+        let a = front(digit(label[0]), &lows);
+        let b = front(digit(label[2]), &highs);
         read(input, &mut lows[..a], &mut highs[..b]);
     }
 }
@@ -67,7 +59,7 @@ fn find(byte: u8, input: &[u8], from: usize) -> usize
 }
 
 // One text, from its label at an offset on: a label's line, then the text up to the next `#`. Gives the offset behind it.
-fn read_next(input: &[u8], at: usize, lows: &mut [u16], highs: &mut [u16]) -> usize
+fn read_next(input: &[u8], at: usize) -> usize
     requires { ⌜ at < length (now input) ⌝ }
     ensures { λ r. ⌜ (at < r) × (r ≤ length (now (input .entry))) ⌝ }
 {
@@ -77,7 +69,7 @@ fn read_next(input: &[u8], at: usize, lows: &mut [u16], highs: &mut [u16]) -> us
     }
     let start = line + 1;
     let end = find(35, input, start);
-    read_labelled(&input[at..line], &input[start..end], lows, highs);
+    read_labelled(&input[at..line], &input[start..end]);
     if input.len() <= end {
         return input.len();
     }
@@ -85,25 +77,21 @@ fn read_next(input: &[u8], at: usize, lows: &mut [u16], highs: &mut [u16]) -> us
 }
 
 // All texts of the input.
-pub fn read_all(input: &[u8], lows: &mut [u16], highs: &mut [u16]) {
+pub fn read_all(input: &[u8]) {
     let mut at: usize = 0;
     while at < input.len() {
-        at = read_next(input, at, lows, highs);
+        at = read_next(input, at);
     }
 }
 
 // Two bytes that a file of lines does not show.
-pub fn odd_bytes(lows: &mut [u16], highs: &mut [u16]) {
+pub fn odd_bytes() {
     read_labelled(
         b"3 3 byte 13 in front of the line end",
         b"(net (relays 4) (links 0))\r\n(end)\n",
-        lows,
-        highs,
     );
     read_labelled(
         b"3 3 a byte 0 after the end",
         b"(net (relays 4) (links 1))\n(link 0 1)\n(end)\n\0",
-        lows,
-        highs,
     );
 }

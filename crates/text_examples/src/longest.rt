@@ -4,7 +4,7 @@ ghost use Prim.Native.Nat.{_≤_, _<_};
 ghost use lib.ListN.{length};
 use libc::STDOUT_FILENO;
 
-pub fn no_links() -> [u16; 3000]
+fn no_links() -> [u16; 3000]
     ensures { λ r. ⌜ 3000 ≡ length r ⌝ }
 {
     [0; 3000]
@@ -73,13 +73,19 @@ fn read_filled(input: &[u8], lows: &mut [u16], highs: &mut [u16])
 }
 
 // The longest text: written, the lists cleared by a text that is refused, and read back.
-pub fn longest(buffer: &mut [u8], lows: &mut [u16], highs: &mut [u16])
+fn write_and_read(buffer: &mut [u8], lows: &mut [u16], highs: &mut [u16])
     requires { ⌜ (length (now lows) ≡ 3000) × (length (now highs) ≡ 3000) ⌝ }
 {
-    io::write_all(STDOUT_FILENO, b"longest:");
     fill(lows, highs);
     crate::answers::show_written(text::write(1000, lows, highs, buffer));
     read_filled(b"", lows, highs);
     read_filled(buffer, lows, highs);
+}
+
+pub fn longest(buffer: &mut [u8]) {
+    io::write_all(STDOUT_FILENO, b"longest:");
+    let mut lows = no_links();
+    let mut highs = no_links();
+    write_and_read(buffer, &mut lows, &mut highs);
     io::write_all(STDOUT_FILENO, b"\n");
 }

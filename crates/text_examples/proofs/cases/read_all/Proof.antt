@@ -1,17 +1,16 @@
--- `text_examples::cases::read_all` meets its contract: the lists keep their lengths. Assumes nothing.
+-- `text_examples::cases::read_all` meets its contract: the offset stays within the text. Assumes nothing.
 use Prim.Native.Nat.{_-_, _≤_}
-use mathlib.Core.Path.{_≡_}
 use lib.ListN.{length}
 use borrow.Author.Needs.{needs}
 use Rattle.text_examples.proofs.cases.read_all.Statement.{statement}
 use Rattle.text_examples.proofs.cases.read_all.Tie as tie
 
 abbrev Inv-loop : tie.InvT-loop
-Inv-loop input lows₀ highs₀ at₀ lows highs at =
-    (at ≤ length input) × (length lows ≡ length lows₀) × (length highs ≡ length highs₀)
+Inv-loop input at₀ at =
+    (at ≤ length input)
 
 abbrev μ-loop : tie.MeasureT-loop
-μ-loop input lows₀ highs₀ at₀ lows highs at = length input - at
+μ-loop input at₀ at = length input - at
 
 loop-holds : tie.Need-loop-holds Inv-loop μ-loop
 loop-holds c = search needs
@@ -24,12 +23,6 @@ loop-less c = search needs
 
 loop-again : tie.Need-loop-again Inv-loop μ-loop
 loop-again c = search needs
-
-same-length : tie.Need-same-length Inv-loop μ-loop
-same-length c = search needs
-
-same-length-2 : tie.Need-same-length-2 Inv-loop μ-loop
-same-length-2 c = search needs
 
 returns : tie.Need-returns Inv-loop μ-loop
 returns c = search needs
@@ -44,6 +37,4 @@ read-all-spec =
     read-next-requires
     loop-less
     loop-again
-    same-length
-    same-length-2
     returns)

@@ -7,21 +7,15 @@ use Rattle.text_examples.proofs.changes.prefix.Tie as tie
 
 slice-aggregate-code : tie.Need-slice-aggregate-code
 slice-aggregate-code c =
-    let s = c .before .before .before .before in
+    let s = c .before .before in
     sym (length-take-le (s .args .k) (s .args .input .now) (s .pre))
 
 code-requires : tie.Need-code-requires
 code-requires c κs = search needs
-
-same-length : tie.Need-same-length
-same-length c = search needs
-
-same-length-2 : tie.Need-same-length-2
-same-length-2 c = search needs
 
 returns : tie.Need-returns
 returns c = search needs
 
 pub prefix-spec : {M : Type 1} → statement M
 prefix-spec =
-    tie.close (tie.spec slice-aggregate-code code-requires same-length same-length-2 returns)
+    tie.close (tie.spec slice-aggregate-code code-requires returns)

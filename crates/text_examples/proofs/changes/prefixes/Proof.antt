@@ -1,17 +1,16 @@
--- `text_examples::changes::prefixes` meets its contract: the lists keep their lengths. Assumes nothing.
+-- `text_examples::changes::prefixes` meets its contract: the offset stays within the text. Assumes nothing.
 use Prim.Native.Nat.{_-_, _≤_}
-use mathlib.Core.Path.{_≡_}
 use lib.ListN.{length}
 use borrow.Author.Needs.{needs}
 use Rattle.text_examples.proofs.changes.prefixes.Statement.{statement}
 use Rattle.text_examples.proofs.changes.prefixes.Tie as tie
 
 abbrev Inv-loop : tie.InvT-loop
-Inv-loop input lows₀ highs₀ k₀ lows highs k =
-    (k ≤ length input) × (length lows ≡ length lows₀) × (length highs ≡ length highs₀)
+Inv-loop input k₀ k =
+    (k ≤ length input)
 
 abbrev μ-loop : tie.MeasureT-loop
-μ-loop input lows₀ highs₀ k₀ lows highs k = length input - k
+μ-loop input k₀ k = length input - k
 
 loop-holds : tie.Need-loop-holds Inv-loop μ-loop
 loop-holds c = search needs
@@ -31,12 +30,6 @@ loop-again c = search needs
 code-requires : tie.Need-code-requires Inv-loop μ-loop
 code-requires c κs = search needs
 
-same-length : tie.Need-same-length Inv-loop μ-loop
-same-length c = search needs
-
-same-length-2 : tie.Need-same-length-2 Inv-loop μ-loop
-same-length-2 c = search needs
-
 returns : tie.Need-returns Inv-loop μ-loop
 returns c = search needs
 
@@ -52,6 +45,4 @@ prefixes-spec =
     loop-less
     loop-again
     code-requires
-    same-length
-    same-length-2
     returns)

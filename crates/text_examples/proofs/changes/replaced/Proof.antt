@@ -1,4 +1,4 @@
--- `text_examples::changes::replaced` meets its contract: the text and the lists keep their lengths. Assumes nothing.
+-- `text_examples::changes::replaced` meets its contract: the text keeps its length. Assumes nothing.
 use Prim.Native.Nat.{_-_, _≤_}
 use mathlib.Core.Path.{_≡_}
 use lib.ListN.{length}
@@ -7,11 +7,11 @@ use Rattle.text_examples.proofs.changes.replaced.Statement.{statement}
 use Rattle.text_examples.proofs.changes.replaced.Tie as tie
 
 abbrev Inv-loop : tie.InvT-loop
-Inv-loop byte input₀ lows₀ highs₀ i₀ input lows highs i =
-    (i ≤ length input₀) × (length input ≡ length input₀) × (length lows ≡ length lows₀) × (length highs ≡ length highs₀)
+Inv-loop byte input₀ i₀ input i =
+    (i ≤ length input₀) × (length input ≡ length input₀)
 
 abbrev μ-loop : tie.MeasureT-loop
-μ-loop byte input₀ lows₀ highs₀ i₀ input lows highs i = length input₀ - i
+μ-loop byte input₀ i₀ input i = length input₀ - i
 
 loop-holds : tie.Need-loop-holds Inv-loop μ-loop
 loop-holds c = search needs
@@ -31,12 +31,6 @@ loop-again c = search needs
 same-length : tie.Need-same-length Inv-loop μ-loop
 same-length c = search needs
 
-same-length-2 : tie.Need-same-length-2 Inv-loop μ-loop
-same-length-2 c = search needs
-
-same-length-3 : tie.Need-same-length-3 Inv-loop μ-loop
-same-length-3 c = search needs
-
 returns : tie.Need-returns Inv-loop μ-loop
 returns c = search needs
 
@@ -52,6 +46,4 @@ replaced-spec =
     loop-less
     loop-again
     same-length
-    same-length-2
-    same-length-3
     returns)
