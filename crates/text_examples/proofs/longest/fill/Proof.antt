@@ -1,10 +1,10 @@
--- `text_examples::fill` meets its contract: the lists keep their lengths. Assumes nothing.
+-- `text_examples::longest::fill` meets its contract: the lists keep their lengths. Assumes nothing.
 use Prim.Native.Nat.{_-_, _≤_}
 use mathlib.Core.Path.{_≡_}
 use lib.ListN.{length}
 use borrow.Author.Needs.{needs}
-use Rattle.text_examples.proofs.fill.Statement.{statement}
-use Rattle.text_examples.proofs.fill.Tie as tie
+use Rattle.text_examples.proofs.longest.fill.Statement.{statement}
+use Rattle.text_examples.proofs.longest.fill.Tie as tie
 
 abbrev Inv-loop : tie.InvT-loop
 Inv-loop lows₀ highs₀ i₀ lows highs i =

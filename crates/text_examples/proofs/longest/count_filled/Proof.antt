@@ -1,8 +1,8 @@
--- `text_examples::count_filled` meets its contract: the count is at most the index. Assumes nothing.
+-- `text_examples::longest::count_filled` meets its contract: the count is at most the index. Assumes nothing.
 use Prim.Native.Nat.{_-_, _≤_}
 use borrow.Author.Needs.{needs}
-use Rattle.text_examples.proofs.count_filled.Statement.{statement}
-use Rattle.text_examples.proofs.count_filled.Tie as tie
+use Rattle.text_examples.proofs.longest.count_filled.Statement.{statement}
+use Rattle.text_examples.proofs.longest.count_filled.Tie as tie
 
 abbrev Inv-loop : tie.InvT-loop
 Inv-loop lows highs count₀ i₀ count i =
