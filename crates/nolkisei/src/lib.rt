@@ -72,7 +72,8 @@ pub extern "C" fn nolkisei_write(
     buffer: &mut [u8],
     answer: &mut [u64; 2],
 ) -> u32
-    ensures answer { λ r. ⌜ reported (writeAnswer n (now (lows .entry)) (now (highs .entry)) (now (buffer .entry))) ≡ (r, now (answer .exit)) ⌝ }
+    ensures answer { λ r. ⌜ reported (writeAnswer n (now (lows .entry)) (now (highs .entry)) (now (buffer .entry)))
+        ≡ (r, now (answer .exit)) ⌝ }
     ensures bytes { λ _. ⌜ now (buffer .exit) ≡ bufferAfter n (now (lows .entry)) (now (highs .entry)) (now (buffer .entry)) ⌝ }
 {
     match text::write(n, lows, highs, buffer) {
@@ -113,7 +114,8 @@ pub extern "C" fn nolkisei_split(
     forests: &mut [u16],
     answer: &mut [u64; 2],
 ) -> u32
-    ensures answer { λ r. ⌜ reported (splitAnswer n (now (lows .entry)) (now (highs .entry)) (now (forests .entry))) ≡ (r, now (answer .exit)) ⌝ }
+    ensures answer { λ r. ⌜ reported (splitAnswer n (now (lows .entry)) (now (highs .entry)) (now (forests .entry)))
+        ≡ (r, now (answer .exit)) ⌝ }
     ensures forests { λ _. ⌜ now (forests .exit) ≡ forestsAfter n (now (lows .entry)) (now (highs .entry)) (now (forests .entry)) ⌝ }
 {
     match forests::split(n, lows, highs, forests) {
@@ -132,7 +134,8 @@ pub extern "C" fn nolkisei_cut(
     marks: &mut [u16],
     answer: &mut [u64; 2],
 ) -> u32
-    ensures answer { λ r. ⌜ reported (cutAnswer n (now (lows .entry)) (now (highs .entry)) k (now (marks .entry))) ≡ (r, now (answer .exit)) ⌝ }
+    ensures answer { λ r. ⌜ reported (cutAnswer n (now (lows .entry)) (now (highs .entry)) k (now (marks .entry)))
+        ≡ (r, now (answer .exit)) ⌝ }
     ensures marks { λ _. ⌜ now (marks .exit) ≡ marksAfter n (now (lows .entry)) (now (highs .entry)) k (now (marks .entry)) ⌝ }
 {
     match forests::cut(n, lows, highs, k, marks) {
@@ -155,14 +158,18 @@ pub extern "C" fn nolkisei_route(
     scratch: &mut [u16],
     answer: &mut [u64; 2],
 ) -> u32
-    ensures answer { λ r. ⌜ reported (routeAnswer n (now (lows .entry)) (now (highs .entry)) k from to (now (counts .entry)) (now (relays .entry)) (now (scratch .entry)))
+    ensures answer { λ r. ⌜ reported
+        (routeAnswer n (now (lows .entry)) (now (highs .entry)) k from to (now (counts .entry)) (now (relays .entry)) (now (scratch .entry)))
         ≡ (r, now (answer .exit)) ⌝ }
     ensures counts { λ _. ⌜ now (counts .exit)
-        ≡ countsAfter n (now (lows .entry)) (now (highs .entry)) k from to (now (counts .entry)) (now (relays .entry)) (now (scratch .entry)) ⌝ }
+        ≡ countsAfter n (now (lows .entry)) (now (highs .entry)) k from to (now (counts .entry)) (now (relays .entry))
+        (now (scratch .entry)) ⌝ }
     ensures relays { λ _. ⌜ now (relays .exit)
-        ≡ routeRelaysAfter n (now (lows .entry)) (now (highs .entry)) k from to (now (counts .entry)) (now (relays .entry)) (now (scratch .entry)) ⌝ }
+        ≡ routeRelaysAfter n (now (lows .entry)) (now (highs .entry)) k from to (now (counts .entry)) (now (relays .entry))
+        (now (scratch .entry)) ⌝ }
     ensures scratch { λ _. ⌜ now (scratch .exit)
-        ≡ scratchAfter n (now (lows .entry)) (now (highs .entry)) k from to (now (counts .entry)) (now (relays .entry)) (now (scratch .entry)) ⌝ }
+        ≡ scratchAfter n (now (lows .entry)) (now (highs .entry)) k from to (now (counts .entry)) (now (relays .entry))
+        (now (scratch .entry)) ⌝ }
 {
     match routes::route(n, lows, highs, k, from, to, counts, relays, scratch) {
         RouteAnswer::Written(total) => report::give(total as u64, 0, answer),

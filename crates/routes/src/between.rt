@@ -55,7 +55,8 @@ fn fall(
     relays: &mut [u16],
 ) -> usize
     requires { ⌜ (0 < s .0) × (k ≤ 32) ⌝ }
-    ensures { λ r. ⌜ written (now (counts .exit)) (now (relays .exit)) r ≡ fallIn (leftIn (now (table .entry)) n) k (s .0) (t .0) (now (order .entry)) (now (counts .entry)) (now (relays .entry)) ⌝ }
+    ensures { λ r. ⌜ written (now (counts .exit)) (now (relays .exit)) r
+        ≡ fallIn (leftIn (now (table .entry)) n) k (s .0) (t .0) (now (order .entry)) (now (counts .entry)) (now (relays .entry)) ⌝ }
 {
     let mut a = no_paths();
     let mut b = no_paths();
@@ -75,7 +76,8 @@ fn rise(
     relays: &mut [u16],
 ) -> usize
     requires { ⌜ (0 < s .0) × (k ≤ 32) ⌝ }
-    ensures { λ r. ⌜ written (now (counts .exit)) (now (relays .exit)) r ≡ riseIn (leftIn (now (table .entry)) n) k (s .0) (t .0) (now (order .entry)) (now (counts .entry)) (now (relays .entry)) ⌝ }
+    ensures { λ r. ⌜ written (now (counts .exit)) (now (relays .exit)) r
+        ≡ riseIn (leftIn (now (table .entry)) n) k (s .0) (t .0) (now (order .entry)) (now (counts .entry)) (now (relays .entry)) ⌝ }
 {
     let mut a = no_paths();
     let mut b = no_paths();
@@ -95,7 +97,8 @@ pub(crate) fn between(
     relays: &mut [u16],
 ) -> usize
     requires { ⌜ (0 < p .0) × (0 < q .0) × (k ≤ 32) ⌝ }
-    ensures { λ r. ⌜ written (now (counts .exit)) (now (relays .exit)) r ≡ betweenIn (leftIn (now (table .entry)) n) k (p .0) (q .0) (now (order .entry)) (now (counts .entry)) (now (relays .entry)) ⌝ }
+    ensures { λ r. ⌜ written (now (counts .exit)) (now (relays .exit)) r
+        ≡ betweenIn (leftIn (now (table .entry)) n) k (p .0) (q .0) (now (order .entry)) (now (counts .entry)) (now (relays .entry)) ⌝ }
 {
     if q.0 < p.0 {
         fall(table, n, k, p, q, order, counts, relays)

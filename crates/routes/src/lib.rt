@@ -111,7 +111,8 @@ fn prepare(
     requires { ⌜ Accepted n (now lows) (now highs) ⌝ }
     requires { ⌜ (length (now order) ≡ 1000) × (length (now places) ≡ 1000) ⌝ }
     requires { ⌜ (k * n ≤ length (now table)) × ((j : ℕ) → j < k * n → getD (now table) j 0 ≡ 0) ⌝ }
-    ensures { λ _. ⌜ Prepared n k (now (lows .entry)) (now (highs .entry)) (now (order .entry)) (now (order .exit)) (now (places .entry)) (now (places .exit)) (now (table .entry)) (now (table .exit)) ⌝ }
+    ensures { λ _. ⌜ Prepared n k (now (lows .entry)) (now (highs .entry)) (now (order .entry)) (now (order .exit))
+        (now (places .entry)) (now (places .exit)) (now (table .entry)) (now (table .exit)) ⌝ }
 {
     let mut numbers = no_links();
     scan(n, lows, highs, order, places, &mut numbers);
@@ -130,7 +131,8 @@ fn answer(
     relays: &mut [u16],
 ) -> RouteAnswer
     requires { ⌜ (0 < p .0) × (0 < q .0) × (k ≤ 32) ⌝ }
-    ensures { λ r. ⌜ answered (now (counts .exit)) (now (relays .exit)) (routeOutcome r) ≡ answerIn (leftIn (now (table .entry)) n) k (p .0) (q .0) (now (order .entry)) (now (counts .entry)) (now (relays .entry)) ⌝ }
+    ensures { λ r. ⌜ answered (now (counts .exit)) (now (relays .exit)) (routeOutcome r)
+        ≡ answerIn (leftIn (now (table .entry)) n) k (p .0) (q .0) (now (order .entry)) (now (counts .entry)) (now (relays .entry)) ⌝ }
 {
     if joined(table, n, k, p, q) {
         return RouteAnswer::Written(between(table, n, k, p, q, order, counts, relays));
@@ -151,7 +153,8 @@ fn route_accepted(
     scratch: &mut [u16],
 ) -> RouteAnswer
     requires { ⌜ Routable n (now lows) (now highs) k from to (now counts) (now relays) (now scratch) ⌝ }
-    ensures { λ r. ⌜ answered (now (counts .exit)) (now (relays .exit)) (routeOutcome r) ≡ treeAnswer n (now (lows .entry)) (now (highs .entry)) k from to (now (counts .entry)) (now (relays .entry)) ⌝ }
+    ensures { λ r. ⌜ answered (now (counts .exit)) (now (relays .exit)) (routeOutcome r)
+        ≡ treeAnswer n (now (lows .entry)) (now (highs .entry)) k from to (now (counts .entry)) (now (relays .entry)) ⌝ }
     ensures { λ _. ⌜ now (scratch .exit) ≡ zeroed (now (scratch .entry)) ⌝ }
 {
     let mut order = no_relays();
@@ -179,10 +182,17 @@ pub fn route(
     relays: &mut [u16],
     scratch: &mut [u16],
 ) -> RouteAnswer
-    ensures answer { λ r. ⌜ routeOutcome r ≡ routeAnswer n (now (lows .entry)) (now (highs .entry)) k from to (now (counts .entry)) (now (relays .entry)) (now (scratch .entry)) ⌝ }
-    ensures counts { λ _. ⌜ now (counts .exit) ≡ countsAfter n (now (lows .entry)) (now (highs .entry)) k from to (now (counts .entry)) (now (relays .entry)) (now (scratch .entry)) ⌝ }
-    ensures relays { λ _. ⌜ now (relays .exit) ≡ routeRelaysAfter n (now (lows .entry)) (now (highs .entry)) k from to (now (counts .entry)) (now (relays .entry)) (now (scratch .entry)) ⌝ }
-    ensures scratch { λ _. ⌜ now (scratch .exit) ≡ scratchAfter n (now (lows .entry)) (now (highs .entry)) k from to (now (counts .entry)) (now (relays .entry)) (now (scratch .entry)) ⌝ }
+    ensures answer { λ r. ⌜ routeOutcome r ≡ routeAnswer n (now (lows .entry)) (now (highs .entry)) k from to (now (counts .entry))
+        (now (relays .entry)) (now (scratch .entry)) ⌝ }
+    ensures counts { λ _. ⌜ now (counts .exit)
+        ≡ countsAfter n (now (lows .entry)) (now (highs .entry)) k from to (now (counts .entry)) (now (relays .entry))
+        (now (scratch .entry)) ⌝ }
+    ensures relays { λ _. ⌜ now (relays .exit)
+        ≡ routeRelaysAfter n (now (lows .entry)) (now (highs .entry)) k from to (now (counts .entry)) (now (relays .entry))
+        (now (scratch .entry)) ⌝ }
+    ensures scratch { λ _. ⌜ now (scratch .exit)
+        ≡ scratchAfter n (now (lows .entry)) (now (highs .entry)) k from to (now (counts .entry)) (now (relays .entry))
+        (now (scratch .entry)) ⌝ }
 {
     match table_check(n, lows, highs) {
         Check::Refused(refusal) => RouteAnswer::Refused(refusal),

@@ -74,7 +74,8 @@ fn leave(b: &mut [u16], a: &[u16], table: &[u16], n: u16, k: u16, t: u16)
 // of them goes on.
 fn pass(a: &mut [u16], b: &mut [u16], table: &[u16], n: u16, v: u16, j: u16)
     requires { ⌜ 0 < j ⌝ }
-    ensures { λ _. ⌜ sides (now (a .exit)) (now (b .exit)) ≡ passAt (leftIn (now (table .entry)) n) v j (now (a .entry)) (now (b .entry)) ⌝ }
+    ensures { λ _. ⌜ sides (now (a .exit)) (now (b .exit))
+        ≡ passAt (leftIn (now (table .entry)) n) v j (now (a .entry)) (now (b .entry)) ⌝ }
 {
     make_room(a, table, n, v, j);
     make_room(b, table, n, v, j);
@@ -85,7 +86,8 @@ fn pass(a: &mut [u16], b: &mut [u16], table: &[u16], n: u16, v: u16, j: u16)
 }
 
 fn step(a: &mut [u16], b: &mut [u16], table: &[u16], n: u16, k: u16, t: u16, v: u16)
-    ensures { λ _. ⌜ sides (now (a .exit)) (now (b .exit)) ≡ stepIn (leftIn (now (table .entry)) n) k t v (now (a .entry)) (now (b .entry)) ⌝ }
+    ensures { λ _. ⌜ sides (now (a .exit)) (now (b .exit))
+        ≡ stepIn (leftIn (now (table .entry)) n) k t v (now (a .entry)) (now (b .entry)) ⌝ }
 {
     if v == t {
         leave(b, a, table, n, k, t);
@@ -100,7 +102,8 @@ fn step(a: &mut [u16], b: &mut [u16], table: &[u16], n: u16, k: u16, t: u16, v: 
 
 // The steps at v, ..., 1, where v is `from`.
 fn steps(a: &mut [u16], b: &mut [u16], table: &[u16], n: u16, k: u16, t: u16, from: u16)
-    ensures { λ _. ⌜ sides (now (a .exit)) (now (b .exit)) ≡ sweepIn (leftIn (now (table .entry)) n) k t from (now (a .entry)) (now (b .entry)) ⌝ }
+    ensures { λ _. ⌜ sides (now (a .exit)) (now (b .exit))
+        ≡ sweepIn (leftIn (now (table .entry)) n) k t from (now (a .entry)) (now (b .entry)) ⌝ }
 {
     let mut v = from;
     while 0 < v {
@@ -112,7 +115,8 @@ fn steps(a: &mut [u16], b: &mut [u16], table: &[u16], n: u16, k: u16, t: u16, fr
 // The whole sweep: from the start through the steps at s - 1, ..., 1.
 pub(crate) fn sweep(a: &mut [u16], b: &mut [u16], table: &[u16], n: u16, k: u16, s: u16, t: u16)
     requires { ⌜ 0 < s ⌝ }
-    ensures { λ _. ⌜ sides (now (a .exit)) (now (b .exit)) ≡ sweptIn (leftIn (now (table .entry)) n) k s t (now (a .entry)) (now (b .entry)) ⌝ }
+    ensures { λ _. ⌜ sides (now (a .exit)) (now (b .exit))
+        ≡ sweptIn (leftIn (now (table .entry)) n) k s t (now (a .entry)) (now (b .entry)) ⌝ }
 {
     start_a(a, table, n, k, s);
     start_b(b, k, t);

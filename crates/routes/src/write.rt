@@ -43,7 +43,8 @@ fn count(side: &[u16], i: u16) -> usize
 // The `count` relays of path i before its end, written downwards to `from`.
 fn write_down(relays: &mut [u16], side: &[u16], order: &[u16], i: u16, count: usize, from: usize)
     requires { ⌜ (count ≤ 1000) × (from ≤ 70000) ⌝ }
-    ensures { λ _. ⌜ now (relays .exit) ≡ writeDown (now (side .entry)) (now (order .entry)) from count (secondIn (now (side .entry)) i) (now (relays .entry)) ⌝ }
+    ensures { λ _. ⌜ now (relays .exit) ≡ writeDown (now (side .entry)) (now (order .entry)) from count
+        (secondIn (now (side .entry)) i) (now (relays .entry)) ⌝ }
 {
     let mut x = second_of(side, i);
     let mut c = count;
@@ -57,7 +58,8 @@ fn write_down(relays: &mut [u16], side: &[u16], order: &[u16], i: u16, count: us
 // The `count` relays of path i before its end, written upwards from `at`.
 fn write_up(relays: &mut [u16], side: &[u16], order: &[u16], i: u16, count: usize, at: usize)
     requires { ⌜ (count ≤ 1000) × (at ≤ 80000) ⌝ }
-    ensures { λ _. ⌜ now (relays .exit) ≡ writeUp (now (side .entry)) (now (order .entry)) at count (secondIn (now (side .entry)) i) (now (relays .entry)) ⌝ }
+    ensures { λ _. ⌜ now (relays .exit) ≡ writeUp (now (side .entry)) (now (order .entry)) at count (secondIn (now (side .entry)) i)
+        (now (relays .entry)) ⌝ }
 {
     let mut x = second_of(side, i);
     let mut c = count;
@@ -82,7 +84,8 @@ fn write_route(
 ) -> usize
     requires { ⌜ from ≤ 70000 ⌝ }
     ensures { λ r. ⌜ r ≡ routeLength (now (first .entry)) (now (second .entry)) i ⌝ }
-    ensures { λ _. ⌜ now (relays .exit) ≡ writeRoute (now (first .entry)) (now (second .entry)) (now (order .entry)) i from (now (relays .entry)) ⌝ }
+    ensures { λ _. ⌜ now (relays .exit) ≡ writeRoute (now (first .entry)) (now (second .entry)) (now (order .entry)) i from
+        (now (relays .entry)) ⌝ }
 {
     let low = count(first, i);
     let high = count(second, i);
@@ -103,7 +106,8 @@ pub(crate) fn write_routes(
     k: u16,
 ) -> usize
     requires { ⌜ k ≤ 32 ⌝ }
-    ensures { λ r. ⌜ written (now (counts .exit)) (now (relays .exit)) r ≡ writeFrom (now (first .entry)) (now (second .entry)) (now (order .entry)) k 0 0 (now (counts .entry)) (now (relays .entry)) ⌝ }
+    ensures { λ r. ⌜ written (now (counts .exit)) (now (relays .exit)) r
+        ≡ writeFrom (now (first .entry)) (now (second .entry)) (now (order .entry)) k 0 0 (now (counts .entry)) (now (relays .entry)) ⌝ }
 {
     let mut i = 0;
     let mut from = 0;

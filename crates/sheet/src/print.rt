@@ -55,7 +55,8 @@ pub fn put_routes(output: &mut [u8], at: usize, k: usize, counts: &[u16], relays
     requires { ⌜ k ≤ length (now counts) ⌝ }
     requires { ⌜ total (take k (now counts)) ≤ length (now relays) ⌝ }
     requires { ⌜ at + length (routeLines (cutUp (take k (now counts)) (now relays))) ≤ length (now output) ⌝ }
-    ensures { λ r. ⌜ Put (now (output .entry)) at (routeLines (cutUp (take k (now (counts .entry))) (now (relays .entry)))) (now (output .exit)) r ⌝ }
+    ensures { λ r. ⌜ Put (now (output .entry)) at (routeLines (cutUp (take k (now (counts .entry))) (now (relays .entry))))
+        (now (output .exit)) r ⌝ }
 {
     let mut i: usize = 0;
     let mut first: usize = 0;
@@ -100,7 +101,8 @@ pub fn put_sheet(
     requires { ⌜ k ≤ length (now counts) ⌝ }
     requires { ⌜ total (take k (now counts)) ≤ length (now relays) ⌝ }
     requires { ⌜ length (sheetLines from to k (cutUp (take k (now counts)) (now relays)) kept) ≤ length (now output) ⌝ }
-    ensures { λ r. ⌜ Put (now (output .entry)) 0 (sheetLines from to k (cutUp (take k (now (counts .entry))) (now (relays .entry))) kept) (now (output .exit)) r ⌝ }
+    ensures { λ r. ⌜ Put (now (output .entry)) 0
+        (sheetLines from to k (cutUp (take k (now (counts .entry))) (now (relays .entry))) kept) (now (output .exit)) r ⌝ }
 {
     let p = put_wish(output, 0, from, to, k);
     let q = put_routes(output, p, k, counts, relays);

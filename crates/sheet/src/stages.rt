@@ -27,7 +27,8 @@ fn plan_routes(
     kept: u16,
 ) -> usize
     requires { ⌜ length (printed (routeStage from to k (networkOf n (now lows) (now highs)) kept)) ≤ length (now output) ⌝ }
-    ensures { λ r. ⌜ Put (now (output .entry)) 0 (printed (routeStage from to k (networkOf n (now (lows .entry)) (now (highs .entry))) kept)) (now (output .exit)) r ⌝ }
+    ensures { λ r. ⌜ Put (now (output .entry)) 0
+        (printed (routeStage from to k (networkOf n (now (lows .entry)) (now (highs .entry))) kept)) (now (output .exit)) r ⌝ }
 {
     let mut counts = rooms::counts();
     let mut relays = rooms::relays();
@@ -67,7 +68,8 @@ fn plan_cut(
     k: u16,
 ) -> usize
     requires { ⌜ length (printed (sheetFor from to k (networkOf n (now lows) (now highs)))) ≤ length (now output) ⌝ }
-    ensures { λ r. ⌜ Put (now (output .entry)) 0 (printed (sheetFor from to k (networkOf n (now (lows .entry)) (now (highs .entry))))) (now (output .exit)) r ⌝ }
+    ensures { λ r. ⌜ Put (now (output .entry)) 0 (printed (sheetFor from to k (networkOf n (now (lows .entry)) (now (highs .entry)))))
+        (now (output .exit)) r ⌝ }
 {
     let mut marks = rooms::links();
     match cut(n, lows, highs, k, &mut marks) {

@@ -98,7 +98,8 @@ fn read_lines(
     highs: &mut [u16],
 ) -> ReadAnswer
     requires { ⌜ (n ≤ 1000) × (m ≤ length (now lows)) × (m ≤ length (now highs)) ⌝ }
-    ensures { λ r. ⌜ TableRead (readLinks (now (text .entry)) n [] [] at m) (now (lows .entry)) (now (highs .entry)) (now (lows .exit)) (now (highs .exit)) r ⌝ }
+    ensures { λ r. ⌜ TableRead (readLinks (now (text .entry)) n [] [] at m) (now (lows .entry)) (now (highs .entry))
+        (now (lows .exit)) (now (highs .exit)) r ⌝ }
 {
     match rows::read_all_links(text, n, m as usize, at, lows, highs) {
         Step::Refused(refusal) => ReadAnswer::Refused(refusal),
@@ -118,7 +119,8 @@ fn read_rows(
     lows: &mut [u16],
     highs: &mut [u16],
 ) -> ReadAnswer
-    ensures { λ r. ⌜ TableRead (afterHeader (now (text .entry)) n m at (length (now (lows .entry))) (length (now (highs .entry)))) (now (lows .entry)) (now (highs .entry)) (now (lows .exit)) (now (highs .exit)) r ⌝ }
+    ensures { λ r. ⌜ TableRead (afterHeader (now (text .entry)) n m at (length (now (lows .entry))) (length (now (highs .entry))))
+        (now (lows .entry)) (now (highs .entry)) (now (lows .exit)) (now (highs .exit)) r ⌝ }
 {
     if n < 1 {
         return ReadAnswer::Refused(Refusal::RelayCount);
@@ -141,7 +143,8 @@ fn read_rows(
 
 // A text into the front of the two lists; what is behind the links read is left as it falls.
 fn read_table(text: &[u8], lows: &mut [u16], highs: &mut [u16]) -> ReadAnswer
-    ensures { λ r. ⌜ TableRead (readNetwork (now (text .entry)) (length (now (lows .entry))) (length (now (highs .entry)))) (now (lows .entry)) (now (highs .entry)) (now (lows .exit)) (now (highs .exit)) r ⌝ }
+    ensures { λ r. ⌜ TableRead (readNetwork (now (text .entry)) (length (now (lows .entry))) (length (now (highs .entry))))
+        (now (lows .entry)) (now (highs .entry)) (now (lows .exit)) (now (highs .exit)) r ⌝ }
 {
     match mark::form_at(text, 0, Due::Header) {
         PairScan::Departs(p) => ReadAnswer::Refused(Refusal::Form(p)),

@@ -65,7 +65,8 @@ pub fn put_number(buffer: &mut [u8], at: usize, x: usize) -> usize
 // A word and the number behind it.
 pub fn put_word_number(buffer: &mut [u8], at: usize, letters: &[u8], x: usize) -> usize
     requires { ⌜ at + length (writeForm (word (now letters) ∷ numeral ∷ []) (x ∷ [])) ≤ length (now buffer) ⌝ }
-    ensures { λ r. ⌜ Put (now (buffer .entry)) at (writeForm (word (now (letters .entry)) ∷ numeral ∷ []) (x ∷ [])) (now (buffer .exit)) r ⌝ }
+    ensures { λ r. ⌜ Put (now (buffer .entry)) at (writeForm (word (now (letters .entry)) ∷ numeral ∷ []) (x ∷ []))
+        (now (buffer .exit)) r ⌝ }
 {
     let p = put_word(buffer, at, letters);
     put_number(buffer, p, x)

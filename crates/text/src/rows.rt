@@ -28,7 +28,8 @@ pub fn read_link(
 ) -> Step
     requires { ⌜ (n ≤ 1000) × (i < length (now lows)) × (i < length (now highs)) ⌝ }
     requires { ⌜ Seen n (now seen) (take i (now lows)) (take i (now highs)) i ⌝ }
-    ensures { λ r. ⌜ LinkRead (now (text .entry)) n i at (now (lows .entry)) (now (highs .entry)) (now (lows .exit)) (now (highs .exit)) (now (seen .exit)) r ⌝ }
+    ensures { λ r. ⌜ LinkRead (now (text .entry)) n i at (now (lows .entry)) (now (highs .entry)) (now (lows .exit))
+        (now (highs .exit)) (now (seen .exit)) r ⌝ }
 {
     match crate::mark::form_at(text, at, Due::Link) {
         PairScan::Departs(p) => Step::Refused(Refusal::Form(p)),
@@ -57,7 +58,8 @@ pub fn read_links(
 ) -> Step
     requires { ⌜ (n ≤ 1000) × (m ≤ length (now lows)) × (m ≤ length (now highs)) ⌝ }
     requires { ⌜ Seen n (now seen) [] [] 0 ⌝ }
-    ensures { λ r. ⌜ LinksRead (now (text .entry)) n m at (now (lows .entry)) (now (highs .entry)) (now (lows .exit)) (now (highs .exit)) r ⌝ }
+    ensures { λ r. ⌜ LinksRead (now (text .entry)) n m at (now (lows .entry)) (now (highs .entry)) (now (lows .exit))
+        (now (highs .exit)) r ⌝ }
 {
     let mut p = at;
     let mut i: usize = 0;
@@ -85,7 +87,8 @@ pub fn read_all_links(
     highs: &mut [u16],
 ) -> Step
     requires { ⌜ (n ≤ 1000) × (m ≤ length (now lows)) × (m ≤ length (now highs)) ⌝ }
-    ensures { λ r. ⌜ LinksRead (now (text .entry)) n m at (now (lows .entry)) (now (highs .entry)) (now (lows .exit)) (now (highs .exit)) r ⌝ }
+    ensures { λ r. ⌜ LinksRead (now (text .entry)) n m at (now (lows .entry)) (now (highs .entry)) (now (lows .exit))
+        (now (highs .exit)) r ⌝ }
 {
     if n <= 128 {
         let mut few = network::no_pairs_of_128();

@@ -116,7 +116,8 @@ pub fn pair_line(text: &[u8], front: &[u8], middle: &[u8], back: &[u8], at: usiz
     requires { ⌜ noZero (now front) ≡ true ⌝ }
     requires { ⌜ noZero (now middle) ≡ true ⌝ }
     requires { ⌜ noZero (now back) ≡ true ⌝ }
-    ensures { λ r. ⌜ pairGives r ≡ scanForm (now (text .entry)) (pairForm (now (front .entry)) (now (middle .entry)) (now (back .entry))) at ⌝ }
+    ensures { λ r. ⌜ pairGives r ≡ scanForm (now (text .entry))
+        (pairForm (now (front .entry)) (now (middle .entry)) (now (back .entry))) at ⌝ }
 {
     match word_number(text, front, at) {
         NumberScan::Departs(p) => PairScan::Departs(p),

@@ -36,22 +36,30 @@ pub fn all_four(
     written: &mut [u16],
     scratch: &mut [u16],
 ) -> Answers
-    ensures order { λ r. ⌜ orderOutcome (r .order) ≡ orderAnswer n (now (lows .entry)) (now (highs .entry)) (now (relays .entry)) (now (places .entry)) ⌝ }
-    ensures relays { λ _. ⌜ now (relays .exit) ≡ relaysAfter n (now (lows .entry)) (now (highs .entry)) (now (relays .entry)) (now (places .entry)) ⌝ }
-    ensures places { λ _. ⌜ now (places .exit) ≡ placesAfter n (now (lows .entry)) (now (highs .entry)) (now (relays .entry)) (now (places .entry)) ⌝ }
+    ensures order { λ r. ⌜ orderOutcome (r .order)
+        ≡ orderAnswer n (now (lows .entry)) (now (highs .entry)) (now (relays .entry)) (now (places .entry)) ⌝ }
+    ensures relays { λ _. ⌜ now (relays .exit)
+        ≡ relaysAfter n (now (lows .entry)) (now (highs .entry)) (now (relays .entry)) (now (places .entry)) ⌝ }
+    ensures places { λ _. ⌜ now (places .exit)
+        ≡ placesAfter n (now (lows .entry)) (now (highs .entry)) (now (relays .entry)) (now (places .entry)) ⌝ }
     ensures split { λ r. ⌜ splitOutcome (r .split) ≡ splitAnswer n (now (lows .entry)) (now (highs .entry)) (now (forests .entry)) ⌝ }
     ensures forests { λ _. ⌜ now (forests .exit) ≡ forestsAfter n (now (lows .entry)) (now (highs .entry)) (now (forests .entry)) ⌝ }
     ensures cut { λ r. ⌜ cutOutcome (r .cut) ≡ cutAnswer n (now (lows .entry)) (now (highs .entry)) k (now (marks .entry)) ⌝ }
     ensures marks { λ _. ⌜ now (marks .exit) ≡ marksAfter n (now (lows .entry)) (now (highs .entry)) k (now (marks .entry)) ⌝ }
     ensures route { λ r. ⌜ routeOutcome (r .route)
-        ≡ routeAnswer n (now (lows .entry)) (now (highs .entry)) k from to (now (counts .entry)) (now (written .entry)) (now (scratch .entry)) ⌝ }
+        ≡ routeAnswer n (now (lows .entry)) (now (highs .entry)) k from to (now (counts .entry)) (now (written .entry))
+        (now (scratch .entry)) ⌝ }
     ensures counts { λ _. ⌜ now (counts .exit)
-        ≡ countsAfter n (now (lows .entry)) (now (highs .entry)) k from to (now (counts .entry)) (now (written .entry)) (now (scratch .entry)) ⌝ }
+        ≡ countsAfter n (now (lows .entry)) (now (highs .entry)) k from to (now (counts .entry)) (now (written .entry))
+        (now (scratch .entry)) ⌝ }
     ensures written { λ _. ⌜ now (written .exit)
-        ≡ routeRelaysAfter n (now (lows .entry)) (now (highs .entry)) k from to (now (counts .entry)) (now (written .entry)) (now (scratch .entry)) ⌝ }
+        ≡ routeRelaysAfter n (now (lows .entry)) (now (highs .entry)) k from to (now (counts .entry)) (now (written .entry))
+        (now (scratch .entry)) ⌝ }
     ensures scratch { λ _. ⌜ now (scratch .exit)
-        ≡ scratchAfter n (now (lows .entry)) (now (highs .entry)) k from to (now (counts .entry)) (now (written .entry)) (now (scratch .entry)) ⌝ }
-    ensures demand { λ r. ⌜ Together n (now (lows .entry)) (now (highs .entry)) k from to (now (relays .entry)) (now (places .entry)) (now (forests .entry))
+        ≡ scratchAfter n (now (lows .entry)) (now (highs .entry)) k from to (now (counts .entry)) (now (written .entry))
+        (now (scratch .entry)) ⌝ }
+    ensures demand { λ r. ⌜ Together n (now (lows .entry)) (now (highs .entry)) k from to (now (relays .entry)) (now (places .entry))
+        (now (forests .entry))
         (now (marks .entry)) (now (counts .entry)) (now (written .entry)) (now (scratch .entry)) (now (relays .exit))
         (now (places .exit)) (now (forests .exit)) (now (marks .exit)) (now (counts .exit)) (now (written .exit))
         (routeOutcome (r .route)) ⌝ }

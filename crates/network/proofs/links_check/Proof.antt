@@ -98,16 +98,20 @@ loop-less c = omega arith
 
 loop-again : tie.Need-loop-again Inv-loop μ-loop
 loop-again c =
-    let a = c .before .before .before .before .before .before .before .before .before .before .before .before .before .args in
-    let now = c .before .before .before .before .before .before .before .before .before .loop in
-    let checked = c .before .before .before .before .check-link in
+    let atCheckLink = c .before .before .before .before in
+    let atLoopTest = atCheckLink .before .before .before .before in
+    let atLoop = atLoopTest .before in
+    let start = atLoop .before .before .before .before in
+    let a = start .args in
+    let now = atLoop .loop in
+    let checked = atCheckLink .check-link in
     let fine : faultOf (checked .result) ≡ 0 = ap faultOf (c .enum-told .given .1) in (
       omega arith,
       seen-next (a .n) (getD (a .lows .now) (now .i) 0) (getD (a .highs .now) (now .i) 0) (a .lows .now) (a .highs .now) (now .i)
           (now .seen) _ (checked .result) (now .inv .1) (checked .ensures) fine refl refl,
       search needs,
       turn-fine (a .n) (a .lows .now) (a .highs .now) (now .i) (now .seen) _ (checked .result)
-          (c .before .before .before .before .before .before .before .before .loop-test .taken) (now .inv .1) (checked .ensures) (now .inv .3) fine,
+          (atLoopTest .loop-test .taken) (now .inv .1) (checked .ensures) (now .inv .3) fine,
     )
 
 same-length-4 : tie.Need-same-length-4 Inv-loop μ-loop

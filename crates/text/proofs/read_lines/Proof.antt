@@ -30,7 +30,9 @@ same-length-2 : tie.Need-same-length-2
 same-length-2 c = search needs
 
 returns : tie.Need-returns
-returns c = links-refused _ _ _ _ _ _ _ _ _ (c .before .before .before .before .before .before .before .read-all-links .ensures) _ (c .before .refusal .given .1)
+returns c =
+    let atReadAllLinks = c .before .before .before .before .before .before .before in
+    links-refused _ _ _ _ _ _ _ _ _ (atReadAllLinks .read-all-links .ensures) _ (c .before .refusal .given .1)
 
 same-length-3 : tie.Need-same-length-3
 same-length-3 c = search needs
@@ -40,7 +42,10 @@ same-length-4 c = search needs
 
 returns-2 : tie.Need-returns-2
 returns-2 c =
-    end-refused _ _ _ _ _ _ _ _ _ (c .before .before .before .before .before .before .before .before .before .before .before .read-all-links .ensures) _ (c .before .before .before .before .before .p .given .1) _ (c .before .before .before .read-end .ensures)
+    let atReadEnd = c .before .before .before in
+    let atP = atReadEnd .before .before in
+    let atReadAllLinks = atP .before .before .before .before .before .before in
+    end-refused _ _ _ _ _ _ _ _ _ (atReadAllLinks .read-all-links .ensures) _ (atP .p .given .1) _ (atReadEnd .read-end .ensures)
     _ (c .before .refusal2 .given .1)
 
 same-length-5 : tie.Need-same-length-5
@@ -51,8 +56,11 @@ same-length-6 c = search needs
 
 returns-3 : tie.Need-returns-3
 returns-3 c =
-    table-whole _ _ _ _ _ _ _ _ _ (c .before .before .before .before .before .before .before .before .before .before .read-all-links .ensures) _ (c .before .before .before .before .p .given .1) _ (c .before .before .read-end .ensures)
-    _ (c .enum-told .given .1) (omega (arith, c .before .before .before .before .before .before .before .before .before .before .before .before .before .before .before .before .pre)) (omega (arith, c .before .before .before .before .before .before .before .before .before .before .before .before .before .before .before .before .pre))
+    let atP = c .before .before .before .before in
+    let atReadAllLinks = atP .before .before .before .before .before .before in
+    let start = atReadAllLinks .before .before .before .before .before .before in
+    table-whole _ _ _ _ _ _ _ _ _ (atReadAllLinks .read-all-links .ensures) _ (atP .p .given .1) _ (c .before .before .read-end .ensures)
+    _ (c .enum-told .given .1) (omega (arith, start .pre)) (omega (arith, start .pre))
 
 pub read-lines-spec : {M : Type 1} → statement M
 read-lines-spec =

@@ -54,12 +54,14 @@ same-length-2 c = search needs
 
 returns-6 : tie.Need-returns-6
 returns-6 c =
-    let a = c .before .before .before .before .before .before .before .before .before .before .before .before .before .before .before .args in
+    let atReadLines = c .before .before .before .before in
+    let start = atReadLines .before .before .before .before .before .before .before .before .before .before .before in
+    let a = start .args in
     let e = c .before .before .before .before .before .before .before in
     table-same _ _ _ _ _ _ _
     (within-limits (now (a .text)) (a .n) (a .m) (a .at) (length (now (a .lows))) (length (now (a .highs)))
     (inside 1 1000 (a .n) (omega arith) (omega arith)) (omega arith) (omega arith) (omega arith))
-    (c .before .before .before .before .read-lines .ensures)
+    (atReadLines .read-lines .ensures)
 
 pub read-rows-spec : {M : Type 1} → statement M
 read-rows-spec =

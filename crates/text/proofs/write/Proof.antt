@@ -35,17 +35,23 @@ text-length-requires c κs =
 
 returns : tie.Need-returns
 returns c =
-    let a = c .before .before .before .before .before .before .before .before .args in
+    let atTableCheck = c .before .before .before .before in
+    let start = atTableCheck .before .before .before .before in
+    let a = start .args in
     let good : Accepted (a .n) (now (a .lows)) (now (a .highs)) =
-    sym (c .before .before .before .before .table-check .ensures) ∙ ap checkOutcome (c .before .before .enum-told .given .1) in
-    let short = write-short (a .n) (now (a .lows)) (now (a .highs)) (now (a .buffer)) good (omega (arith, c .before .text-length .ensures)) in
+    sym (atTableCheck .table-check .ensures) ∙ ap checkOutcome (c .before .before .enum-told .given .1) in
+    let short = write-short (a .n) (now (a .lows)) (now (a .highs)) (now (a .buffer)) good (omega (arith, c .before .text-length .ensures))
+    in
     (sym (short .0), sym (short .1))
 
 put-text-requires : tie.Need-put-text-requires
 put-text-requires c κs =
-    let a = c .before .before .before .before .before .before .before .before .before .args in
+    let atEnumTold = c .before .before .before in
+    let atTableCheck = atEnumTold .before .before in
+    let start = atTableCheck .before .before .before .before in
+    let a = start .args in
     let good : Accepted (a .n) (now (a .lows)) (now (a .highs)) =
-    sym (c .before .before .before .before .before .table-check .ensures) ∙ ap checkOutcome (c .before .before .before .enum-told .given .1) in
+    sym (atTableCheck .table-check .ensures) ∙ ap checkOutcome (atEnumTold .enum-told .given .1) in
     record {
       even = accepted (a .n) (now (a .lows)) (now (a .highs)) good .even;
       enough = omega (arith, c .before .before .text-length .ensures);
@@ -63,14 +69,16 @@ same-length c = search needs
 
 returns-3 : tie.Need-returns-3
 returns-3 c =
+    let atTextLength = c .before .before .before .before .before in
     let m = c .before .before .before .before .before .before in
     let a = m .before .before .before .before .before .before .args in
     let good : Accepted (a .n) (now (a .lows)) (now (a .highs)) =
     sym (m .before .before .table-check .ensures) ∙ ap checkOutcome (m .enum-told .given .1) in
     let put = c .before .before .put-text .ensures in
-    let size = c .before .before .before .before .before .text-length .ensures in
+    let size = atTextLength .text-length .ensures in
     let written = write-done (a .n) (now (a .lows)) (now (a .highs)) (now (a .buffer)) good (omega (arith, size)) in (
-      ap (λ (size : ℕ). done (size ∷ [])) (put .ends ∙ zero-add (length (textOf (a .n) (now (a .lows)) (now (a .highs))))) ∙ sym (written .0),
+      ap (λ (size : ℕ). done (size ∷ [])) (put .ends ∙ zero-add (length (textOf (a .n) (now (a .lows)) (now (a .highs))))) ∙ sym
+          (written .0),
       put .bytes ∙ sym (written .1),
     )
 

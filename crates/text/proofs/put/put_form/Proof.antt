@@ -45,7 +45,9 @@ same-length : tie.Need-same-length
 same-length c = search needs
 
 returns : tie.Need-returns
-returns c = rw (c .before .before .before .before .enum-told .given .1) (record { put = c .before .before .put-header .ensures; counts = refl })
+returns c =
+    let atEnumTold = c .before .before .before .before in
+    rw (atEnumTold .enum-told .given .1) (record { put = c .before .before .put-header .ensures; counts = refl })
 
 same-length-2 : tie.Need-same-length-2
 same-length-2 c = search needs
@@ -63,7 +65,9 @@ same-length-3 : tie.Need-same-length-3
 same-length-3 c = search needs
 
 returns-3 : tie.Need-returns-3
-returns-3 c = rw (c .before .before .before .before .enum-told3 .given .1) (record { put = c .before .before .put-end .ensures; counts = refl })
+returns-3 c =
+    let atEnumTold3 = c .before .before .before .before in
+    rw (atEnumTold3 .enum-told3 .given .1) (record { put = c .before .before .put-end .ensures; counts = refl })
 
 pub put-form-spec : {M : Type 1} → statement M
 put-form-spec =

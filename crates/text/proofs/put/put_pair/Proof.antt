@@ -32,10 +32,13 @@ same-length c = search needs
 
 returns : tie.Need-returns
 returns c =
-    let a = c .before .before .before .before .before .before .before .before .before .before .before .before .before .before .before .before .args in
+    let atPutWordNumber2 = c .before .before .before .before .before .before in
+    let atPutWordNumber = atPutWordNumber2 .before .before .before .before in
+    let start = atPutWordNumber .before .before .before .before .before .before in
+    let a = start .args in
     rw (pair-written (now (a .front)) (now (a .middle)) (now (a .back)) (a .a) (a .b))
-    (put-append _ _ _ _ _ _ _ _ (c .before .before .before .before .before .before .before .before .before .before .put-word-number .ensures)
-    (put-append _ _ _ _ _ _ _ _ (c .before .before .before .before .before .before .put-word-number2 .ensures)
+    (put-append _ _ _ _ _ _ _ _ (atPutWordNumber .put-word-number .ensures)
+    (put-append _ _ _ _ _ _ _ _ (atPutWordNumber2 .put-word-number2 .ensures)
     (c .before .before .put-word .ensures)))
 
 pub put-pair-spec : {M : Type 1} → statement M

@@ -22,9 +22,11 @@ same-length c = search needs
 
 returns : tie.Need-returns
 returns c =
-    let a = c .before .before .before .before .before .before .before .before .before .before .args in
+    let atPutWord = c .before .before .before .before .before .before in
+    let start = atPutWord .before .before .before .before in
+    let a = start .args in
     rw (word-number-written (now (a .letters)) (a .x))
-    (put-append _ _ _ _ _ _ _ _ (c .before .before .before .before .before .before .put-word .ensures) (c .before .before .put-number .ensures))
+    (put-append _ _ _ _ _ _ _ _ (atPutWord .put-word .ensures) (c .before .before .put-number .ensures))
 
 pub put-word-number-spec : {M : Type 1} → statement M
 put-word-number-spec =

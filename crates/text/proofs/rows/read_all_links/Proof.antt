@@ -14,7 +14,9 @@ slice-aggregate-read-links : tie.Need-slice-aggregate-read-links
 slice-aggregate-read-links c = search needs
 
 read-links-requires : tie.Need-read-links-requires
-read-links-requires c κs = ((omega arith, omega arith, omega arith), none-of-128 _ _ [] [] (omega arith) (c .before .before .before .no-pairs-of-128 .ensures))
+read-links-requires c κs =
+    let atNoPairsOf128 = c .before .before .before in
+    ((omega arith, omega arith, omega arith), none-of-128 _ _ [] [] (omega arith) (atNoPairsOf128 .no-pairs-of-128 .ensures))
 
 same-length : tie.Need-same-length
 same-length c = search needs
@@ -32,7 +34,9 @@ slice-aggregate-read-links-2 : tie.Need-slice-aggregate-read-links-2
 slice-aggregate-read-links-2 c = search needs
 
 read-links-requires-2 : tie.Need-read-links-requires-2
-read-links-requires-2 c κs = ((omega arith, omega arith, omega arith), none-of-1000 _ _ [] [] (omega arith) (c .before .before .before .no-pairs-of-1000 .ensures))
+read-links-requires-2 c κs =
+    let atNoPairsOf1000 = c .before .before .before in
+    ((omega arith, omega arith, omega arith), none-of-1000 _ _ [] [] (omega arith) (atNoPairsOf1000 .no-pairs-of-1000 .ensures))
 
 same-length-3 : tie.Need-same-length-3
 same-length-3 c = search needs

@@ -18,26 +18,34 @@ enum-known-p-2 c = search needs
 
 returns : tie.Need-returns
 returns c =
-    let a = c .before .before .before .before .before .before .args in
+    let atFormAt = c .before .before .before .before in
+    let start = atFormAt .before .before in
+    let a = start .args in
     record {
       follows = λ n lows highs.
-          end-more (now (a .text)) n lows highs (a .at) _ (sym (c .before .before .before .before .form-at .ensures) ∙ ap bareGives (c .before .before .p2 .given .1)) (c .if1 .taken);
+          end-more (now (a .text)) n lows highs (a .at) _
+          (sym (atFormAt .form-at .ensures) ∙ ap bareGives (c .before .before .p2 .given .1)) (c .if1 .taken);
     }
 
 returns-2 : tie.Need-returns-2
 returns-2 c =
-    let a = c .before .before .before .before .before .args in
+    let atFormAt = c .before .before .before in
+    let start = atFormAt .before .before in
+    let a = start .args in
     record {
       follows = λ n lows highs.
-          end-departs (now (a .text)) n lows highs (a .at) _ (sym (c .before .before .before .form-at .ensures) ∙ ap bareGives (c .before .p .given .1));
+          end-departs (now (a .text)) n lows highs (a .at) _ (sym (atFormAt .form-at .ensures) ∙ ap bareGives (c .before .p .given .1));
     }
 
 returns-3 : tie.Need-returns-3
 returns-3 c =
-    let a = c .before .before .before .before .before .before .args in
+    let atFormAt = c .before .before .before .before in
+    let start = atFormAt .before .before in
+    let a = start .args in
     record {
       follows = λ n lows highs.
-          end-done (now (a .text)) n lows highs (a .at) _ (sym (c .before .before .before .before .form-at .ensures) ∙ ap bareGives (c .before .before .p2 .given .1)) (c .if1 .left);
+          end-done (now (a .text)) n lows highs (a .at) _
+          (sym (atFormAt .form-at .ensures) ∙ ap bareGives (c .before .before .p2 .given .1)) (c .if1 .left);
     }
 
 pub read-end-spec : {M : Type 1} → statement M

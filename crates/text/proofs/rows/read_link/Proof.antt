@@ -59,36 +59,48 @@ same-length c = search needs
 
 returns-2 : tie.Need-returns-2
 returns-2 c =
-    let a = c .before .before .before .before .before .before .before .before .before .before .before .before .before .before .args in
-    let pre = c .before .before .before .before .before .before .before .before .before .before .before .before .before .before .pre in
-    let scanned = sym (c .before .before .before .before .before .before .before .before .before .form-at .ensures) ∙ ap pairGives (c .before .before .before .before .before .before .before .a .given .1) in
+    let atCheckLink = c .before .before .before .before in
+    let atA = atCheckLink .before .before .before in
+    let atFormAt = atA .before .before in
+    let start = atFormAt .before .before .before .before .before in
+    let a = start .args in
+    let pre = start .pre in
+    let scanned = sym (atFormAt .form-at .ensures) ∙ ap pairGives (atA .a .given .1) in
     let fault = ap faultOf (c .enum-told .given .1) in
     read-faulty (now (a .text)) (a .n) (a .i) (a .at) (now (a .lows)) (now (a .highs)) (now (a .seen)) _ _ _ _ _
-    (pre .0 .1) (pre .0 .2) (pre .1) (c .before .before .before .before .check-link .ensures) scanned (RelayRange (a .i)) (omega (arith, fault)) (rw fault)
+    (pre .0 .1) (pre .0 .2) (pre .1) (atCheckLink .check-link .ensures) scanned (RelayRange (a .i)) (omega (arith, fault)) (rw fault)
 
 same-length-2 : tie.Need-same-length-2
 same-length-2 c = search needs
 
 returns-3 : tie.Need-returns-3
 returns-3 c =
-    let a = c .before .before .before .before .before .before .before .before .before .before .before .before .before .before .args in
-    let pre = c .before .before .before .before .before .before .before .before .before .before .before .before .before .before .pre in
-    let scanned = sym (c .before .before .before .before .before .before .before .before .before .form-at .ensures) ∙ ap pairGives (c .before .before .before .before .before .before .before .a .given .1) in
+    let atCheckLink = c .before .before .before .before in
+    let atA = atCheckLink .before .before .before in
+    let atFormAt = atA .before .before in
+    let start = atFormAt .before .before .before .before .before in
+    let a = start .args in
+    let pre = start .pre in
+    let scanned = sym (atFormAt .form-at .ensures) ∙ ap pairGives (atA .a .given .1) in
     let fault = ap faultOf (c .enum-told2 .given .1) in
     read-faulty (now (a .text)) (a .n) (a .i) (a .at) (now (a .lows)) (now (a .highs)) (now (a .seen)) _ _ _ _ _
-    (pre .0 .1) (pre .0 .2) (pre .1) (c .before .before .before .before .check-link .ensures) scanned (NotBelow (a .i)) (omega (arith, fault)) (rw fault)
+    (pre .0 .1) (pre .0 .2) (pre .1) (atCheckLink .check-link .ensures) scanned (NotBelow (a .i)) (omega (arith, fault)) (rw fault)
 
 same-length-3 : tie.Need-same-length-3
 same-length-3 c = search needs
 
 returns-4 : tie.Need-returns-4
 returns-4 c =
-    let a = c .before .before .before .before .before .before .before .before .before .before .before .before .before .before .args in
-    let pre = c .before .before .before .before .before .before .before .before .before .before .before .before .before .before .pre in
-    let scanned = sym (c .before .before .before .before .before .before .before .before .before .form-at .ensures) ∙ ap pairGives (c .before .before .before .before .before .before .before .a .given .1) in
+    let atCheckLink = c .before .before .before .before in
+    let atA = atCheckLink .before .before .before in
+    let atFormAt = atA .before .before in
+    let start = atFormAt .before .before .before .before .before in
+    let a = start .args in
+    let pre = start .pre in
+    let scanned = sym (atFormAt .form-at .ensures) ∙ ap pairGives (atA .a .given .1) in
     let fault = ap faultOf (c .enum-told3 .given .1) in
     read-faulty (now (a .text)) (a .n) (a .i) (a .at) (now (a .lows)) (now (a .highs)) (now (a .seen)) _ _ _ _ _
-    (pre .0 .1) (pre .0 .2) (pre .1) (c .before .before .before .before .check-link .ensures) scanned (Repeated (a .i)) (omega (arith, fault)) (rw fault)
+    (pre .0 .1) (pre .0 .2) (pre .1) (atCheckLink .check-link .ensures) scanned (Repeated (a .i)) (omega (arith, fault)) (rw fault)
 
 same-length-4 : tie.Need-same-length-4
 same-length-4 c = search needs
@@ -101,11 +113,15 @@ same-length-6 c = search needs
 
 returns-5 : tie.Need-returns-5
 returns-5 c =
-    let a = c .before .before .before .before .before .before .before .before .before .before .before .before .before .before .args in
-    let pre = c .before .before .before .before .before .before .before .before .before .before .before .before .before .before .pre in
-    let scanned = sym (c .before .before .before .before .before .before .before .before .before .form-at .ensures) ∙ ap pairGives (c .before .before .before .before .before .before .before .a .given .1) in
+    let atCheckLink = c .before .before .before .before in
+    let atA = atCheckLink .before .before .before in
+    let atFormAt = atA .before .before in
+    let start = atFormAt .before .before .before .before .before in
+    let a = start .args in
+    let pre = start .pre in
+    let scanned = sym (atFormAt .form-at .ensures) ∙ ap pairGives (atA .a .given .1) in
     read-fine (now (a .text)) (a .n) (a .i) (a .at) (now (a .lows)) (now (a .highs)) (now (a .seen)) _ _ _ _ _
-    (pre .0 .1) (pre .0 .2) (pre .1) (c .before .before .before .before .check-link .ensures) scanned (ap faultOf (c .enum-told4 .given .1))
+    (pre .0 .1) (pre .0 .2) (pre .1) (atCheckLink .check-link .ensures) scanned (ap faultOf (c .enum-told4 .given .1))
 
 pub read-link-spec : {M : Type 1} → statement M
 read-link-spec =

@@ -40,20 +40,29 @@ enum-known-refusal : tie.Need-enum-known-refusal Inv-loop μ-loop
 enum-known-refusal c = search needs
 
 same-length : tie.Need-same-length Inv-loop μ-loop
-same-length c = c .before .before .before .before .before .before .before .before .before .read-link .ensures .sameLows ∙ c .before .before .before .before .before .before .before .before .before .before .before .before .before .before .loop .inv .1
+same-length c =
+    let atReadLink = c .before .before .before .before .before .before .before .before .before in
+    let atLoop = atReadLink .before .before .before .before .before in
+    atReadLink .read-link .ensures .sameLows ∙ atLoop .loop .inv .1
 
 same-length-2 : tie.Need-same-length-2 Inv-loop μ-loop
-same-length-2 c = c .before .before .before .before .before .before .before .before .before .read-link .ensures .sameHighs ∙ c .before .before .before .before .before .before .before .before .before .before .before .before .before .before .loop .inv .2
+same-length-2 c =
+    let atReadLink = c .before .before .before .before .before .before .before .before .before in
+    let atLoop = atReadLink .before .before .before .before .before in
+    atReadLink .read-link .ensures .sameHighs ∙ atLoop .loop .inv .2
 
 same-length-3 : tie.Need-same-length-3 Inv-loop μ-loop
 same-length-3 c = search needs
 
 returns : tie.Need-returns Inv-loop μ-loop
 returns c =
-    let l = c .before .before .before .before .before .before .before .before .before .before .before .before .before .before .loop in
-    let link = c .before .before .before .before .before .before .before .before .before .read-link .ensures in
+    let atReadLink = c .before .before .before .before .before .before .before .before .before in
+    let atLoop = atReadLink .before .before .before .before .before in
+    let l = atLoop .loop in
+    let link = atReadLink .read-link .ensures in
     record {
-      follows = link-refused _ _ _ _ _ _ _ _ _ _ link (c .before .refusal .given .0 .0) _ _ (c .before .refusal .given .1) (omega arith) (l .inv .5);
+      follows = link-refused _ _ _ _ _ _ _ _ _ _ link (c .before .refusal .given .0 .0) _ _ (c .before .refusal .given .1) (omega arith)
+          (l .inv .5);
       sameLows = link .sameLows ∙ l .inv .1;
       sameHighs = link .sameHighs ∙ l .inv .2;
     }

@@ -45,13 +45,15 @@ returns c =
 returns-2 : tie.Need-returns-2
 unfolding withFront
 returns-2 c =
+    let atWordNumber2 = c .before .before .before in
     let m = c .before .before .before .before .before in
     let a = m .before .before .before .before .before .before .before .args in
     let one = m .before .before .word-number in
-    let two = c .before .before .before .word-number2 in
+    let two = atWordNumber2 .word-number2 in
     sym
     (first-reads (now (a .text)) (now (a .front)) _ (a .at) _ _ (sym (one .ensures) ∙ ap numberGives (m .a .given .1))
-    ∙ ap (withFront _) (first-departs (now (a .text)) (now (a .middle)) _ _ _ (sym (two .ensures) ∙ ap numberGives (c .before .q .given .1))))
+    ∙ ap (withFront _)
+    (first-departs (now (a .text)) (now (a .middle)) _ _ _ (sym (two .ensures) ∙ ap numberGives (c .before .q .given .1))))
 
 returns-3 : tie.Need-returns-3
 unfolding withFront

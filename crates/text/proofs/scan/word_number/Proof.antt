@@ -27,10 +27,13 @@ returns c =
 
 returns-2 : tie.Need-returns-2
 returns-2 c =
-    let a = c .before .before .before .before .before .before .before .args in
-    let w = c .before .before .before .before .word in
+    let atWord = c .before .before .before .before in
+    let start = atWord .before .before .before in
+    let a = start .args in
+    let w = atWord .word in
     c .number .ensures
-    ∙ sym (word-number-reads (now (a .text)) (now (a .letters)) (a .at) _ (sym (w .ensures) ∙ ap wordGives (c .before .before .p2 .given .1)))
+    ∙ sym
+    (word-number-reads (now (a .text)) (now (a .letters)) (a .at) _ (sym (w .ensures) ∙ ap wordGives (c .before .before .p2 .given .1)))
 
 pub word-number-spec : {M : Type 1} → statement M
 word-number-spec =
