@@ -3,6 +3,11 @@
 use crate::sweep::{Wish, sweep};
 use crate::table::{Refusal, known, plain, refuse, room};
 
+/// No pair of n relays is marked yet: a bit for each pair number.
+pub fn no_pairs(n: u16) -> Vec<u64> {
+    vec![0; usize::from(n) * usize::from(n) / 128 + 1]
+}
+
 /// The table check with a bitmap of pair numbers.
 pub fn check(n: u16, lows: &[u16], highs: &[u16]) -> Result<(), Refusal> {
     if n == 0 || n > 1000 {
@@ -11,7 +16,7 @@ pub fn check(n: u16, lows: &[u16], highs: &[u16]) -> Result<(), Refusal> {
     if lows.len() != highs.len() || lows.len() > 3000 {
         return plain(4);
     }
-    let mut seen = [0u64; 7805];
+    let mut seen = no_pairs(n);
     for (index, (&a, &b)) in lows.iter().zip(highs).enumerate() {
         link(n, &mut seen, index, a, b)?;
     }
@@ -19,7 +24,7 @@ pub fn check(n: u16, lows: &[u16], highs: &[u16]) -> Result<(), Refusal> {
 }
 
 #[inline]
-pub fn link(n: u16, seen: &mut [u64; 7805], index: usize, a: u16, b: u16) -> Result<(), Refusal> {
+pub fn link(n: u16, seen: &mut [u64], index: usize, a: u16, b: u16) -> Result<(), Refusal> {
     if a >= n || b >= n {
         return refuse(5, index);
     }

@@ -1,7 +1,7 @@
 //! Read, Write and the planner by the methods of an ordinary program that is to be fast.
 
 use crate::sweep::Wish;
-use crate::swift::{check, cut, link, routes};
+use crate::swift::{check, cut, link, no_pairs, routes};
 use crate::table::{Refusal, plain, refuse, room};
 
 #[inline]
@@ -47,7 +47,7 @@ fn read_links(text: &[u8], lows: &mut [u16], highs: &mut [u16]) -> Result<(u16, 
     if lows.len().min(highs.len()) < usize::from(m) {
         return plain(8);
     }
-    let mut seen = [0u64; 7805];
+    let mut seen = no_pairs(n);
     for index in 0..usize::from(m) {
         word(text, &mut at, b"(link ")?;
         let a = number(text, &mut at)?;
