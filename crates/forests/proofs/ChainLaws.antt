@@ -7,7 +7,7 @@ use native.Mathlib.Decide.{decLe, ℕ-discrete}
 use native.Mathlib.Omega.{arith}
 use borrow.Author.Tests.{eqb-true, eqb-false}
 use lib.Dec.{eqb}
-use lib.ListN.{length, getD, set, length-set, length-replicate, getD-replicate}
+use lib.ListN.{length, getD, set, length-set}
 use lib.Seq.{getD-set-same, getD-set-other}
 use Rattle.definitions.specs.Outcome.{pick}
 use Rattle.forests.specs.Chains.{touches, nextAt, nextFrom, Chainable, ChainedFrom}
@@ -74,10 +74,9 @@ pub chained-none : {lows highs first lownext highnext : List ℕ} → Chainable 
     → ChainedFrom lows highs (length lows) first lownext highnext
 chained-none {lows} {highs} {first} h =
     record {
-      room = ap length (h .none) ∙ length-replicate 1000 (length lows);
       lowRoom = h .lowRoom;
       highRoom = h .highRoom;
-      heads = λ r b. ap (λ l. getD l r 0) (h .none) ∙ getD-replicate 1000 r (length lows) 0 b ∙ sym (next-end lows highs r);
+      heads = λ r b. h .none r b ∙ sym (next-end lows highs r);
       low = λ j b d. absurd (omega arith);
       high = λ j b d. absurd (omega arith);
     }
@@ -106,9 +105,9 @@ head-more first a b h r next p q e = go (eqb a r) refl (eqb b r) refl
 
 -- The next link behind link h at one of its ends, and behind later links.
 ends-more : (lows highs first nexts ends : List ℕ) (i h : ℕ) → suc h ≡ i → h < length nexts
-    → ((r : ℕ) → r < 1000 → getD first r 0 ≡ nextFrom lows highs r i)
+    → ((r : ℕ) → r < length first → getD first r 0 ≡ nextFrom lows highs r i)
     → ((j : ℕ) → i ≤ j → j < length lows → getD nexts j 0 ≡ nextFrom lows highs (getD ends j 0) (suc j))
-    → getD ends h 0 < 1000
+    → getD ends h 0 < length first
     → (j : ℕ) → h ≤ j → j < length lows
     → getD (set nexts h (getD first (getD ends h 0) 0)) j 0 ≡ nextFrom lows highs (getD ends j 0) (suc j)
 ends-more lows highs first nexts ends i h e room heads later low j from to = go (ℕ-discrete h j)
@@ -119,7 +118,7 @@ ends-more lows highs first nexts ends i h e room heads later low j from to = go 
 
 -- One turn: link h comes in front of the chains of its two ends.
 pub chained-more : {lows highs first lownext highnext : List ℕ} (i h : ℕ) → ChainedFrom lows highs i first lownext highnext
-    → suc h ≡ i → i ≤ length lows → length lows ≤ 3000 → getD lows h 0 < 1000 → getD highs h 0 < 1000
+    → suc h ≡ i → i ≤ length lows → length lows ≤ 3000 → getD lows h 0 < length first → getD highs h 0 < length first
     → ChainedFrom lows highs h
     (set (set first (getD lows h 0) h) (getD highs h 0) h)
     (set lownext h (getD first (getD lows h 0) 0))
@@ -127,12 +126,11 @@ pub chained-more : {lows highs first lownext highnext : List ℕ} (i h : ℕ) �
 unfolding touches
 chained-more {lows} {highs} {first} {lownext} {highnext} i h c e within short low high =
     record {
-      room = simp length-set (c .room);
       lowRoom = simp length-set (c .lowRoom);
       highRoom = simp length-set (c .highRoom);
       heads = λ r b.
           head-more first (getD lows h 0) (getD highs h 0) h r (nextFrom lows highs r (suc h))
-          (omega (arith, c .room)) (omega (arith, c .room)) (c .heads r b ∙ ap (nextFrom lows highs r) (sym e))
+          low high (c .heads r (simp length-set at b) ∙ ap (nextFrom lows highs r) (sym e))
           ∙ sym (next-step lows highs r h (omega arith));
       low = ends-more lows highs first lownext lows i h e (omega (arith, c .lowRoom)) (c .heads) (c .low) low;
       high = ends-more lows highs first highnext highs i h e (omega (arith, c .highRoom)) (c .heads) (c .high) high;

@@ -1,12 +1,12 @@
 -- The scan from its start over each step to its end. Assumes nothing.
-use Prim.Native.Nat.{ℕ, suc, _+_, _-_, _≤_, _<_}
+use Prim.Native.Nat.{ℕ, suc, _+_, _-_, _%_, _≤_, _<_}
 use mathlib.Core.Bool.{Bool, true, false}
 use mathlib.Core.List.{List, []}
 use mathlib.Core.Path.{_≡_, refl, sym, _∙_, ap}
 use native.Mathlib.Decide.{decLt}
 use native.Mathlib.Numerals.{add-one}
 use native.Mathlib.Omega.{arith}
-use lib.ListN.{length, getD, set, replicate, length-replicate}
+use lib.ListN.{length, getD, set, replicate, length-replicate, getD-replicate}
 use Rattle.definitions.specs.Lists.{overwrite, has}
 use Rattle.definitions.specs.Network.{linked, Accepted}
 use Rattle.definitions.specs.Order.{weight, placedAfter, orderOf}
@@ -16,7 +16,8 @@ use Rattle.theory.specs.Accepted.{ProperTable, accepted}
 use Rattle.forests.specs.Chains.{Chainable}
 use Rattle.forests.specs.Tops.{Tops}
 use Rattle.forests.specs.Walk.{Walked}
-use Rattle.forests.specs.Scan.{chosen, placed, following, Placeable, PlacedOne, KeysAt, ScannedTo, Startable, Scanned}
+use Rattle.forests.specs.Scan.{chosen, placed, following, Placeable, PlacedOne, KeysAt, ScannedTo, Workspace, Startable, Scanned}
+use Rattle.forests.proofs.KeyLaws.{no-keys}
 use Rattle.forests.proofs.OrderLaws.{placed-long, placed-suc, following-new}
 use Rattle.forests.proofs.ChoiceLaws.{chosen-follows, key-waiting, key-placed}
 use Rattle.forests.proofs.StepLaws.{
@@ -37,33 +38,48 @@ pub placed-one : {n v : ℕ} {lows highs keys keys′ tops′ relays relays′ p
     → PlacedOne n v lows highs keys keys′ tops′ relays relays′ places places′ forests forests′
 placed-one x e r p w = record { relay = rw e at r; place = rw e at p; walked = rw e at (w .0); topped = w .1 }
 
--- A table of fewer relays is one of 1,000.
-wide : {n : ℕ} {lows highs : List ℕ} → ProperTable n lows highs → ProperTable 1000 lows highs
-wide t =
+-- A table of fewer relays is one of more.
+wide : {n size : ℕ} {lows highs : List ℕ} → n ≤ size → size ≤ 1000 → ProperTable n lows highs → ProperTable size lows highs
+wide h few t =
     record {
-      some = omega arith;
-      few = omega arith;
+      some = omega (arith, t .some);
+      few = few;
       even = t .even;
       short = t .short;
       ordered = t .ordered;
-      below = λ i h. omega (arith, t .below i h, t .few);
+      below = λ i p. omega (arith, t .below i p);
       once = t .once;
     }
 
+-- Arrays of enough relays and links.
+pub workspace : (size links keyCount n : ℕ) {lows first lownext highnext keys : List ℕ} → n ≤ size → size ≤ 1000 → length lows ≤ links
+    → size ≤ keyCount → keyCount ≤ 1024 → keyCount % 32 ≡ 0
+    → first ≡ replicate size (length lows) → lownext ≡ replicate links 0 → highnext ≡ replicate links 0 → keys ≡ replicate keyCount 0
+    → Workspace n lows first lownext highnext keys
+workspace size links keyCount n {lows} {first} {lownext} {highnext} {keys} heads few room keyRoom keyFew full f l h k =
+    let long : length first ≡ size = ap length f ∙ length-replicate size (length lows) in
+    record {
+      heads = omega arith;
+      few = omega arith;
+      none = λ r p. ap (λ z. getD z r 0) f ∙ getD-replicate size r (length lows) 0 (omega arith);
+      lowRoom = omega (arith, ap length l, length-replicate {A = ℕ} links 0);
+      highRoom = omega (arith, ap length h, length-replicate {A = ℕ} links 0);
+      noKeys = no-keys keyCount (length first) keys (omega arith) keyFew full k;
+    }
+
 -- Chains can be made of an accepted table.
-pub chain-ready : (n : ℕ) {lows highs first lownext highnext : List ℕ} → Accepted n lows highs
-    → first ≡ replicate 1000 (length lows) → lownext ≡ replicate 3000 0 → highnext ≡ replicate 3000 0
-    → Chainable lows highs first lownext highnext
-chain-ready n {lows} {highs} ok none low high =
+pub chain-ready : {n : ℕ} {lows highs first lownext highnext keys : List ℕ} → Accepted n lows highs
+    → Workspace n lows first lownext highnext keys → Chainable lows highs first lownext highnext
+chain-ready {n} {lows} {highs} ok w =
     let t = accepted n lows highs ok in
     record {
       short = t .short;
       same = sym (t .even);
-      low = λ i h. omega (arith, t .ordered i h, t .below i h, t .few);
-      high = λ i h. omega (arith, t .below i h, t .few);
-      none = none;
-      lowRoom = ap length low ∙ length-replicate {A = ℕ} 3000 0;
-      highRoom = ap length high ∙ length-replicate {A = ℕ} 3000 0;
+      low = λ i h. omega (arith, t .ordered i h, t .below i h, w .heads);
+      high = λ i h. omega (arith, t .below i h, w .heads);
+      none = w .none;
+      lowRoom = w .lowRoom;
+      highRoom = w .highRoom;
     }
 
 -- Keys are small.
@@ -114,16 +130,17 @@ module _ {n : ℕ} {lows highs first lownext highnext keys tops relays places fo
         below : chosen n keys′ < n
         below = omega (arith, choice, following-new n lows highs k within .0)
 
-        pub scan-places : {tops′ : List ℕ} → Tops keys′ tops′
+        pub scan-places : {tops′ : List ℕ} → Tops keys′ tops′ → length first ≤ length keys′
             → Placeable n (k + 1) lows highs first lownext highnext keys′ tops′ relays′ places′ forests′
-        scan-places topped =
+        scan-places topped room =
             record {
-              few = proper .few;
+              keyRoom = at .keysAt .room;
               walkable =
                   record {
-                    proper = wide proper;
+                    proper = wide (can .heads) (can .few) proper;
                     chained = can .chained;
-                    relay = omega (arith, below, proper .few);
+                    relay = omega (arith, below, can .heads);
+                    keyRoom = room;
                     room = omega (arith, at .forestsAt .long, can .scannable .forestRoom);
                     topped = topped;
                     bound = λ r. keys-bound k (proper .few) (omega arith) (at .keysAt) r;

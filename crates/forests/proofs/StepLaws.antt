@@ -90,10 +90,10 @@ module _ {n : ℕ} {lows highs : List ℕ} (t : ProperTable n lows highs) (k : �
       below = following-new n lows highs k within .0
 
       own : getD (set keys (following n lows highs k) 0) (following n lows highs k) 0 ≡ 0
-      own = getD-set-same keys (following n lows highs k) 0 0 (omega (arith, below, t .few, at .room))
+      own = getD-set-same keys (following n lows highs k) 0 0 (omega (arith, below, at .room))
 
-      nothing : (r : ℕ) → r < 1024 → getD (set keys (following n lows highs k) 0) r 0 ≡ 0 → getD keys′ r 0 ≡ 0
-      nothing r h e = w .key r h ∙ go (someBelow (joins lows highs (following n lows highs k) r) (length lows))
+      nothing : (r : ℕ) → getD (set keys (following n lows highs k) 0) r 0 ≡ 0 → getD keys′ r 0 ≡ 0
+      nothing r e = w .key r ∙ go (someBelow (joins lows highs (following n lows highs k) r) (length lows))
         where
           go : (b : Bool)
               → pick b (raisedKey (getD (set keys (following n lows highs k) 0) r 0)) (getD (set keys (following n lows highs k) 0) r 0) ≡ 0
@@ -104,12 +104,12 @@ module _ {n : ℕ} {lows highs : List ℕ} (t : ProperTable n lows highs) (k : �
           → getD keys′ r 0
           ≡ pick (has (placed n lows highs (suc k)) r) 0 (keyOf (weight (linked lows highs) (placed n lows highs (suc k)) r) r)
       unfolding linked
-      key r h (yes e) b p = rw (e, has-new n lows highs k) (nothing (following n lows highs k) (omega (arith, below, t .few)) own)
+      key r h (yes e) b p = rw (e, has-new n lows highs k) (nothing (following n lows highs k) own)
       key r h (no d) true p =
-          rw (has-same n lows highs k r d, p) (nothing r (omega (arith, t .few)) (other r d ∙ key-placed (t .few) at r h p))
+          rw (has-same n lows highs k r d, p) (nothing r (other r d ∙ key-placed (t .few) at r h p))
       key r h (no d) false p =
           rw (has-same n lows highs k r d, p)
-          (w .key r (omega (arith, t .few)) ∙ go (linked lows highs (following n lows highs k) r) refl)
+          (w .key r ∙ go (linked lows highs (following n lows highs k) r) refl)
         where
           before : getD (set keys (following n lows highs k) 0) r 0 ≡ keyOf (weight (linked lows highs) (placed n lows highs k) r) r
           before = other r d ∙ key-waiting (t .few) at r h p
@@ -129,14 +129,10 @@ module _ {n : ℕ} {lows highs : List ℕ} (t : ProperTable n lows highs) (k : �
       pub keys-step : KeysAt n lows highs (suc k) keys′
       keys-step =
           record {
-            room = w .keyRoom;
+            room = omega (arith, w .keyRoom, length-set keys (following n lows highs k) 0, at .room);
             key = λ r h. key r h (ℕ-discrete r (following n lows highs k)) (has (placed n lows highs k) r) refl;
-            rest = λ r h. rest r h (decLt r 1024);
+            rest = λ r h. nothing r (other r (λ e. omega (arith, below)) ∙ at .rest r h);
           }
-        where
-          rest : (r : ℕ) → n ≤ r → Dec (r < 1024) → getD keys′ r 0 ≡ 0
-          rest r h (yes p) = nothing r p (other r (λ e. omega (arith, below)) ∙ at .rest r h)
-          rest r h (no p) = List·getD-eq-default keys′ 0 (omega (arith, w .keyRoom))
 
       -- A link of the relay that is placed now gets its number, if its other end waits.
       now-given : (i y : ℕ) → i < length lows → joins lows highs (following n lows highs k) y i ≡ true

@@ -61,11 +61,11 @@ module _ (lows highs : List ℕ) (x : ℕ) where
       go false p true q e = and-true (eqb (getD lows j 0) r)
       go false p false q e = absurd (true≢false (sym e))
 
-  far-below : (j : ℕ) → ProperTable 1000 lows highs → j < length lows → farEnd lows highs x j < 1000
+  far-below : {n : ℕ} (j : ℕ) → ProperTable n lows highs → j < length lows → farEnd lows highs x j < n
   unfolding farEnd otherEnd
-  far-below j t h = go (eqb (getD lows j 0) x)
+  far-below {n} j t h = go (eqb (getD lows j 0) x)
     where
-      go : (b : Bool) → pick b (getD highs j 0) (getD lows j 0) < 1000
+      go : (b : Bool) → pick b (getD highs j 0) (getD lows j 0) < n
       go true = t .below j h
       go false = omega (arith, t .below j h, t .ordered j h)
 
@@ -85,13 +85,13 @@ module _ (lows highs : List ℕ) (x : ℕ) where
           c .high j (omega arith) k ∙ ap (λ r. nextFrom lows highs r (suc j)) (eqb-true (getD highs j 0) x q)
       go false p false q e = absurd (true≢false (sym e))
 
-  walked-none : (keys forests : List ℕ) → length keys ≡ 1024 → WalkedTo lows highs x 0 keys keys forests forests
+  walked-none : (keys forests : List ℕ) → WalkedTo lows highs x 0 keys keys forests forests
   unfolding someBelow
-  walked-none keys forests room =
+  walked-none keys forests =
       record {
-        keyRoom = room;
+        keyRoom = refl;
         long = refl;
-        key = λ r h. refl;
+        key = λ r. refl;
         forest = λ j. rw (le-ltb j 0 (omega arith));
       }
 
@@ -102,16 +102,15 @@ module _ (lows highs : List ℕ) (x : ℕ) where
       record {
         keyRoom = w .keyRoom;
         long = w .long;
-        key = λ r p.
-            rw (some-skip (joins lows highs x r) i k h (λ j a b. joins-touches r j (none j a b))) (w .key r p);
+        key = λ r. rw (some-skip (joins lows highs x r) i k h (λ j a b. joins-touches r j (none j a b))) (w .key r);
         forest = λ j. rw (and-skip (touches lows highs x) i k j h none) (w .forest j);
       }
 
   -- The far end of the next link has its key from before the walk.
-  far-key : {keys keys′ forests forests′ : List ℕ} (i : ℕ) → ProperTable 1000 lows highs → i < length lows
+  far-key : {n : ℕ} {keys keys′ forests forests′ : List ℕ} (i : ℕ) → ProperTable n lows highs → i < length lows
       → touches lows highs x i ≡ true → WalkedTo lows highs x i keys keys′ forests forests′
       → getD keys′ (farEnd lows highs x i) 0 ≡ getD keys (farEnd lows highs x i) 0
-  far-key {keys} {keys′} {forests} {forests′} i t within at w = w .key y (omega (arith, far-below i t within)) ∙ rw fresh
+  far-key {n} {keys} {keys′} {forests} {forests′} i t within at w = w .key y ∙ rw fresh
     where
       y : ℕ
       y = farEnd lows highs x i
@@ -123,30 +122,30 @@ module _ (lows highs : List ℕ) (x : ℕ) where
       fresh = none-below (joins lows highs x y) i (λ j h. go j h (joins lows highs x y j) refl)
         where
           go : (j : ℕ) → j < i → (b : Bool) → joins lows highs x y j ≡ b → b ≡ false
-          go j h true e = absurd (omega (arith, one-link 1000 lows highs t x y j i (omega arith) within e here))
+          go j h true e = absurd (omega (arith, one-link n lows highs t x y j i (omega arith) within e here))
           go j h false e = refl
 
   -- Link i is visited: its far end's key rises, and it gets its forest number.
-  walked-one : {keys keys′ forests forests′ : List ℕ} (i : ℕ) → ProperTable 1000 lows highs → i < length lows
-      → length lows ≤ length forests → touches lows highs x i ≡ true
+  walked-one : {n : ℕ} {keys keys′ forests forests′ : List ℕ} (i : ℕ) → ProperTable n lows highs → i < length lows
+      → n ≤ length keys → length lows ≤ length forests → touches lows highs x i ≡ true
       → WalkedTo lows highs x i keys keys′ forests forests′
       → WalkedTo lows highs x (suc i) keys
       (set keys′ (farEnd lows highs x i) (raisedKey (getD keys′ (farEnd lows highs x i) 0)))
       forests
       (set forests′ i (numberOf (getD keys′ (farEnd lows highs x i) 0) (getD forests′ i 0)))
   unfolding someBelow
-  walked-one {keys} {keys′} {forests} {forests′} i t within room at w =
+  walked-one {n} {keys} {keys′} {forests} {forests′} i t within keyRoom room at w =
       record {
         keyRoom = simp length-set (w .keyRoom);
         long = simp length-set (w .long);
-        key = λ r p. key r p (ℕ-discrete r y);
+        key = λ r. key r (ℕ-discrete r y);
         forest = λ j. forest j (ℕ-discrete j i);
       }
     where
       y : ℕ
       y = farEnd lows highs x i
 
-      below : y < 1000
+      below : y < n
       below = far-below i t within
 
       here : joins lows highs x y i ≡ true
@@ -155,14 +154,14 @@ module _ (lows highs : List ℕ) (x : ℕ) where
       old : getD keys′ y 0 ≡ getD keys y 0
       old = far-key i t within at w
 
-      key : (r : ℕ) → r < 1024 → Dec (r ≡ y)
+      key : (r : ℕ) → Dec (r ≡ y)
           → getD (set keys′ y (raisedKey (getD keys′ y 0))) r 0
           ≡ pick (joins lows highs x r i || someBelow (joins lows highs x r) i) (raisedKey (getD keys r 0)) (getD keys r 0)
-      key r p (yes e) =
-          rw (e, here) (getD-set-same keys′ y (raisedKey (getD keys′ y 0)) 0 (omega (arith, w .keyRoom)) ∙ ap raisedKey old)
-      key r p (no e) =
+      key r (yes e) =
+          rw (e, here) (getD-set-same keys′ y (raisedKey (getD keys′ y 0)) 0 (omega (arith, w .keyRoom, below)) ∙ ap raisedKey old)
+      key r (no e) =
           rw (joins-far r i at (t .ordered i within) ∙ ne-eqb y r (λ z. e (sym z)))
-          (getD-set-other keys′ y r (raisedKey (getD keys′ y 0)) 0 e ∙ w .key r p)
+          (getD-set-other keys′ y r (raisedKey (getD keys′ y 0)) 0 e ∙ w .key r)
 
       forest : (j : ℕ) → Dec (j ≡ i)
           → getD (set forests′ i (numberOf (getD keys′ y 0) (getD forests′ i 0))) j 0
@@ -211,13 +210,16 @@ module _ {x : ℕ} {lows highs first lownext highnext keys cleared tops tops₀ 
     pub walk-starts : (i : ℕ) → i ≡ getD first x 0 → Walking lows highs x i cleared cleared tops₀ forests forests
     walk-starts i e =
         let head : i ≡ nextFrom lows highs x 0 = e ∙ can .chained .heads x (can .relay) in
-        let start = walked-none lows highs x cleared forests (c .topped .keyRoom) in
+        let start = walked-none lows highs x cleared forests in
         rw head (
           next-within lows highs x 0 (omega arith) .1,
           next-touches lows highs x 0,
           walked-skip lows highs x 0 (nextFrom lows highs x 0) (omega arith) (next-between lows highs x 0) start,
           c .topped,
         )
+
+    room : length first ≤ length cleared
+    room = omega (arith, can .keyRoom, ap length (c .stored), length-set keys x 0)
 
     bounded : (r : ℕ) → getD cleared r 0 < 2000000
     bounded r = rw (c .stored) (go (ℕ-discrete r x))
@@ -227,14 +229,14 @@ module _ {x : ℕ} {lows highs first lownext highnext keys cleared tops tops₀ 
             omega (
               arith,
               ap (λ z. getD (set keys x 0) z 0) e,
-              getD-set-same keys x 0 0 (omega (arith, can .topped .keyRoom, can .relay)),
+              getD-set-same keys x 0 0 (omega (arith, can .keyRoom, can .relay)),
             )
         go (no e) = omega (arith, getD-set-other keys x r 0 0 e, can .bound r)
 
     module _ {keys′ tops′ forests′ : List ℕ} (i : ℕ) (within : i < length lows)
         (w : Walking lows highs x i cleared keys′ tops′ forests forests′)
       where
-        pub walk-visits : Visitable x i lows highs keys′ tops′ forests′
+        pub walk-visits : Visitable x i lows highs lownext highnext keys′ tops′ forests′
         walk-visits =
             let y = farEnd lows highs x i in
             record {
@@ -242,7 +244,9 @@ module _ {x : ℕ} {lows highs first lownext highnext keys cleared tops tops₀ 
               same = sym (can .proper .even);
               short = can .proper .short;
               room = omega (arith, can .room, w .2 .long);
-              far = far-below lows highs x i (can .proper) within;
+              lowRoom = can .chained .lowRoom;
+              highRoom = can .chained .highRoom;
+              far = omega (arith, far-below lows highs x i (can .proper) within, w .2 .keyRoom, room);
               topped = w .3;
               bound = omega (arith, far-key lows highs x i (can .proper) within (w .1 within) (w .2), bounded y);
             }
@@ -253,7 +257,7 @@ module _ {x : ℕ} {lows highs first lownext highnext keys cleared tops tops₀ 
         walk-moves {keys″} {tops″} {forests″} next v =
             let e : next ≡ nextFrom lows highs x (suc i) =
             v .onward ∙ next-behind lows highs x i (can .chained) (w .1 within) within in
-            let one = walked-one lows highs x i (can .proper) within (can .room) (w .1 within) (w .2) in
+            let one = walked-one lows highs x i (can .proper) within room (can .room) (w .1 within) (w .2) in
             let bounds = next-within lows highs x (suc i) within in
             rw (e, v .forest) (
               bounds .0,

@@ -22,8 +22,15 @@ raisedKey key = pick (eqb key 0) 0 (key + 1024)
 unfoldable pub numberOf : ℕ → ℕ → ℕ
 numberOf key old = pick (eqb key 0) old (key / 1024)
 
+-- No relay waits: keys for n relays, in blocks of 32.
+pub record NoKeys (n : ℕ) (keys : List ℕ) : Type 0 where
+  pub room : n ≤ length keys
+  pub few : length keys ≤ 1024
+  pub full : length keys % 32 ≡ 0
+  pub zero : (r : ℕ) → getD keys r 0 ≡ 0
+
 -- The keys before the first relay is placed.
 pub record StartKeys (n : ℕ) (keys : List ℕ) : Type 0 where
-  pub room : length keys ≡ 1024
+  pub room : n ≤ length keys
   pub waiting : (r : ℕ) → r < n → getD keys r 0 ≡ keyOf 0 r
   pub rest : (r : ℕ) → n ≤ r → getD keys r 0 ≡ 0

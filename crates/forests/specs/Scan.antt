@@ -10,7 +10,7 @@ use Rattle.definitions.specs.Network.{joins, linked, Accepted}
 use Rattle.definitions.specs.Order.{weight, nextRelay, placedAfter, orderOf, placesOf}
 use Rattle.definitions.specs.Forests.{forestsOf}
 use Rattle.forests.specs.Chains.{ChainedFrom}
-use Rattle.forests.specs.Keys.{keyOf, relayOf, StartKeys}
+use Rattle.forests.specs.Keys.{keyOf, relayOf, NoKeys, StartKeys}
 use Rattle.forests.specs.Tops.{Tops}
 use Rattle.forests.specs.Walk.{Walkable, Walked}
 
@@ -20,7 +20,7 @@ chosen n keys = relayOf (greatest (take n keys))
 
 -- What placing the chosen relay at v asks.
 pub record Placeable (n v : ℕ) (lows highs first lownext highnext keys tops relays places forests : List ℕ) : Type 0 where
-  pub few : n ≤ 1000
+  pub keyRoom : n ≤ length keys
   pub walkable : Walkable (chosen n keys) lows highs first lownext highnext keys tops forests
   pub rest : (r : ℕ) → n ≤ r → getD keys r 0 ≡ 0
   pub some : 0 < v
@@ -43,7 +43,7 @@ following n lows highs k = nextRelay (linked lows highs) 0 (table (λ r. r) 0 n)
 
 -- The keys when k relays are placed.
 pub record KeysAt (n : ℕ) (lows highs : List ℕ) (k : ℕ) (keys : List ℕ) : Type 0 where
-  pub room : length keys ≡ 1024
+  pub room : n ≤ length keys
   pub key : (r : ℕ) → r < n
       → getD keys r 0 ≡ pick (has (placed n lows highs k) r) 0 (keyOf (weight (linked lows highs) (placed n lows highs k) r) r)
   pub rest : (r : ℕ) → n ≤ r → getD keys r 0 ≡ 0
@@ -77,9 +77,21 @@ pub record Scannable (n : ℕ) (lows highs relays places forests : List ℕ) : T
   pub placeRoom : n ≤ length places
   pub forestRoom : length lows ≤ length forests
 
+-- Arrays with room for the scan, without chains and keys.
+pub record Workspace (n : ℕ) (lows first lownext highnext keys : List ℕ) : Type 0 where
+  pub heads : n ≤ length first
+  pub few : length first ≤ 1000
+  pub none : (r : ℕ) → r < length first → getD first r 0 ≡ length lows
+  pub lowRoom : length lows ≤ length lownext
+  pub highRoom : length lows ≤ length highnext
+  pub noKeys : NoKeys (length first) keys
+
 -- The same, with chains and keys made.
 pub record Startable (n : ℕ) (lows highs first lownext highnext keys tops relays places forests : List ℕ) : Type 0 where
   pub scannable : Scannable n lows highs relays places forests
+  pub heads : n ≤ length first
+  pub few : length first ≤ 1000
+  pub keyRoom : length first ≤ length keys
   pub chained : ChainedFrom lows highs 0 first lownext highnext
   pub startKeys : StartKeys n keys
   pub topped : Tops keys tops

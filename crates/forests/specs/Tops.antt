@@ -1,5 +1,5 @@
--- Keys over two levels: beside 1,024 keys stands the greatest of each block of 32. Assumes nothing.
-use Prim.Native.Nat.{ℕ, _*_, _<_}
+-- Keys over two levels: beside at most 1,024 keys stands the greatest of each block of 32. Assumes nothing.
+use Prim.Native.Nat.{ℕ, _*_, _%_, _≤_, _<_}
 use mathlib.Core.List.{List}
 use mathlib.Core.Path.{_≡_}
 use lib.ListN.{length, getD, set, take, drop}
@@ -9,9 +9,10 @@ use Rattle.definitions.specs.Lists.{greatest}
 unfoldable pub block : List ℕ → ℕ → List ℕ
 block keys b = take 32 (drop (b * 32) keys)
 
--- Each of the tops is the greatest key of its block.
+-- Each of the 32 tops is the greatest key of its block.
 pub record Tops (keys tops : List ℕ) : Type 0 where
-  pub keyRoom : length keys ≡ 1024
+  pub few : length keys ≤ 1024
+  pub full : length keys % 32 ≡ 0
   pub room : length tops ≡ 32
   pub top : (b : ℕ) → b < 32 → getD tops b 0 ≡ greatest (block keys b)
 

@@ -27,12 +27,14 @@ unfoldable pub nextOf : ℕ → ℕ → ℕ → ℕ → ℕ
 nextOf x low lownext highnext = pick (eqb low x) lownext highnext
 
 -- What a visit of link i at x asks.
-pub record Visitable (x i : ℕ) (lows highs keys tops forests : List ℕ) : Type 0 where
+pub record Visitable (x i : ℕ) (lows highs lownext highnext keys tops forests : List ℕ) : Type 0 where
   pub within : i < length lows
   pub same : length highs ≡ length lows
   pub short : length lows ≤ 3000
   pub room : length lows ≤ length forests
-  pub far : farEnd lows highs x i < 1000
+  pub lowRoom : length lows ≤ length lownext
+  pub highRoom : length lows ≤ length highnext
+  pub far : farEnd lows highs x i < length keys
   pub topped : Tops keys tops
   pub bound : getD keys (farEnd lows highs x i) 0 < 2000000
 
@@ -45,9 +47,9 @@ pub record Visited (x i : ℕ) (lows highs lownext highnext keys keys′ tops′
 
 -- The keys and the forest numbers when all links of x below i were visited; `keys` and `forests` are those before.
 pub record WalkedTo (lows highs : List ℕ) (x i : ℕ) (keys keys′ forests forests′ : List ℕ) : Type 0 where
-  pub keyRoom : length keys′ ≡ 1024
+  pub keyRoom : length keys′ ≡ length keys
   pub long : length forests′ ≡ length forests
-  pub key : (r : ℕ) → r < 1024
+  pub key : (r : ℕ)
       → getD keys′ r 0 ≡ pick (someBelow (joins lows highs x r) i) (raisedKey (getD keys r 0)) (getD keys r 0)
   pub forest : (j : ℕ)
       → getD forests′ j 0
@@ -55,9 +57,10 @@ pub record WalkedTo (lows highs : List ℕ) (x i : ℕ) (keys keys′ forests fo
 
 -- What the walk over all links of x asks.
 pub record Walkable (x : ℕ) (lows highs first lownext highnext keys tops forests : List ℕ) : Type 0 where
-  pub proper : ProperTable 1000 lows highs
+  pub proper : ProperTable (length first) lows highs
   pub chained : ChainedFrom lows highs 0 first lownext highnext
-  pub relay : x < 1000
+  pub relay : x < length first
+  pub keyRoom : length first ≤ length keys
   pub room : length lows ≤ length forests
   pub topped : Tops keys tops
   pub bound : (r : ℕ) → getD keys r 0 < 2000000

@@ -17,13 +17,26 @@ pub fn no_nexts() -> [u16; 3000]
     [0; 3000]
 }
 
+// The same for a small network.
+pub fn few_heads(m: u16) -> [u16; 128]
+    ensures { λ r. ⌜ r ≡ replicate 128 m ⌝ }
+{
+    [m; 128]
+}
+
+pub fn few_nexts() -> [u16; 384]
+    ensures { λ r. ⌜ r ≡ replicate 384 0 ⌝ }
+{
+    [0; 384]
+}
+
 // From the last link down, so that what stands in `first` is the next link.
 pub fn link_up(
     lows: &[u16],
     highs: &[u16],
-    first: &mut [u16; 1000],
-    lownext: &mut [u16; 3000],
-    highnext: &mut [u16; 3000],
+    first: &mut [u16],
+    lownext: &mut [u16],
+    highnext: &mut [u16],
 )
     requires { ⌜ Chainable (now lows) (now highs) (now first) (now lownext) (now highnext) ⌝ }
     ensures { λ _. ⌜ ChainedFrom (now (lows .entry)) (now (highs .entry)) 0 (now (first .exit)) (now (lownext .exit)) (now (highnext .exit)) ⌝ }

@@ -5,13 +5,20 @@ use network::Relay;
 ghost use Prim.Native.Nat.{_<_, _≤_};
 ghost use mathlib.Core.Path.{_≡_};
 ghost use lib.ListN.{replicate};
-ghost use Rattle.forests.specs.Keys.{keyOf, relayOf, raisedKey, numberOf, StartKeys};
+ghost use Rattle.forests.specs.Keys.{keyOf, relayOf, raisedKey, numberOf, NoKeys, StartKeys};
 ghost use Rattle.forests.specs.Tops.{Tops};
 
 pub fn no_keys() -> [u32; 1024]
     ensures { λ r. ⌜ r ≡ replicate 1024 0 ⌝ }
 {
     [0; 1024]
+}
+
+// The same for a small network.
+pub fn few_keys() -> [u32; 128]
+    ensures { λ r. ⌜ r ≡ replicate 128 0 ⌝ }
+{
+    [0; 128]
 }
 
 // The key of a relay that has no link to a placed one yet.
@@ -23,8 +30,8 @@ fn start_key(r: Relay) -> u32
 }
 
 // Relays 0 to n − 1 wait for their places.
-pub fn start_keys(n: u16, keys: &mut [u32; 1024], tops: &mut [u32; 32])
-    requires { ⌜ (n ≤ 1000) × (now keys ≡ replicate 1024 0) × (now tops ≡ replicate 32 0) ⌝ }
+pub fn start_keys(n: u16, keys: &mut [u32], tops: &mut [u32; 32])
+    requires { ⌜ (n ≤ 1000) × NoKeys n (now keys) × (now tops ≡ replicate 32 0) ⌝ }
     ensures { λ _. ⌜ StartKeys n (now (keys .exit)) × Tops (now (keys .exit)) (now (tops .exit)) ⌝ }
 {
     let mut r = 0;

@@ -1,7 +1,10 @@
 // The scan: relays are placed one after another, and each link gets its forest number in the same pass.
+use crate::chains::few_heads;
+use crate::chains::few_nexts;
 use crate::chains::link_up;
 use crate::chains::no_heads;
 use crate::chains::no_nexts;
+use crate::keys::few_keys;
 use crate::keys::no_keys;
 use crate::keys::relay_of;
 use crate::keys::start_keys;
@@ -11,13 +14,14 @@ use crate::walk::walk;
 use network::Place;
 use network::Relay;
 ghost use Prim.Native.Nat.{_-_, _<_, _≤_};
+ghost use mathlib.Core.Bool.{true};
 ghost use mathlib.Core.Path.{_≡_};
 ghost use lib.ListN.{length, getD, set};
 ghost use Rattle.definitions.specs.Lists.{overwrite};
 ghost use Rattle.definitions.specs.Network.{Accepted};
 ghost use Rattle.definitions.specs.Order.{relayAt, orderOf, placesOf};
 ghost use Rattle.definitions.specs.Forests.{forestsOf};
-ghost use Rattle.forests.specs.Scan.{Placeable, PlacedOne, Startable, Scannable, Scanned};
+ghost use Rattle.forests.specs.Scan.{Placeable, PlacedOne, Startable, Scannable, Workspace, Scanned};
 
 // The order's two lists turn a place into a relay and a relay into a place.
 pub fn relay_at(relays: &[u16], v: Place) -> Relay
@@ -54,10 +58,10 @@ fn place_next(
     v: Place,
     lows: &[u16],
     highs: &[u16],
-    first: &[u16; 1000],
-    lownext: &[u16; 3000],
-    highnext: &[u16; 3000],
-    keys: &mut [u32; 1024],
+    first: &[u16],
+    lownext: &[u16],
+    highnext: &[u16],
+    keys: &mut [u32],
     tops: &mut [u32; 32],
     relays: &mut [u16],
     places: &mut [u16],
@@ -89,10 +93,10 @@ fn place_all(
     n: u16,
     lows: &[u16],
     highs: &[u16],
-    first: &[u16; 1000],
-    lownext: &[u16; 3000],
-    highnext: &[u16; 3000],
-    keys: &mut [u32; 1024],
+    first: &[u16],
+    lownext: &[u16],
+    highnext: &[u16],
+    keys: &mut [u32],
     tops: &mut [u32; 32],
     relays: &mut [u16],
     places: &mut [u16],
@@ -123,8 +127,80 @@ fn place_all(
     }
 }
 
-// The order, the places and the forest numbers of an accepted table.
-pub fn scan(
+// The scan in arrays that are lent to it.
+fn scan_in(
+    n: u16,
+    lows: &[u16],
+    highs: &[u16],
+    first: &mut [u16],
+    lownext: &mut [u16],
+    highnext: &mut [u16],
+    keys: &mut [u32],
+    relays: &mut [u16],
+    places: &mut [u16],
+    forests: &mut [u16],
+)
+    requires { ⌜ Scannable n (now lows) (now highs) (now relays) (now places) (now forests)
+        × Workspace n (now lows) (now first) (now lownext) (now highnext) (now keys) ⌝ }
+    ensures { λ _. ⌜ Scanned n (now (lows .entry)) (now (highs .entry)) (now (relays .entry)) (now (relays .exit))
+        (now (places .entry)) (now (places .exit)) (now (forests .entry)) (now (forests .exit)) ⌝ }
+{
+    link_up(lows, highs, first, lownext, highnext);
+    let mut tops = no_tops();
+    start_keys(n, keys, &mut tops);
+    place_all(
+        n,
+        lows,
+        highs,
+        first,
+        lownext,
+        highnext,
+        keys,
+        &mut tops,
+        relays,
+        places,
+        forests,
+    );
+}
+
+// A small network has small arrays, so that little is cleared.
+fn is_small(n: u16, m: usize) -> bool
+    ensures { λ r. ⌜ (r ≡ true → (n ≤ 128) × (m ≤ 384)) ⌝ }
+{
+    if n <= 128 { m <= 384 } else { false }
+}
+
+fn scan_small(
+    n: u16,
+    lows: &[u16],
+    highs: &[u16],
+    relays: &mut [u16],
+    places: &mut [u16],
+    forests: &mut [u16],
+)
+    requires { ⌜ Scannable n (now lows) (now highs) (now relays) (now places) (now forests) × (n ≤ 128) × (length (now lows) ≤ 384) ⌝ }
+    ensures { λ _. ⌜ Scanned n (now (lows .entry)) (now (highs .entry)) (now (relays .entry)) (now (relays .exit))
+        (now (places .entry)) (now (places .exit)) (now (forests .entry)) (now (forests .exit)) ⌝ }
+{
+    let mut first = few_heads(lows.len() as u16);
+    let mut lownext = few_nexts();
+    let mut highnext = few_nexts();
+    let mut keys = few_keys();
+    scan_in(
+        n,
+        lows,
+        highs,
+        &mut first,
+        &mut lownext,
+        &mut highnext,
+        &mut keys,
+        relays,
+        places,
+        forests,
+    );
+}
+
+fn scan_large(
     n: u16,
     lows: &[u16],
     highs: &[u16],
@@ -139,23 +215,39 @@ pub fn scan(
     let mut first = no_heads(lows.len() as u16);
     let mut lownext = no_nexts();
     let mut highnext = no_nexts();
-    link_up(lows, highs, &mut first, &mut lownext, &mut highnext);
     let mut keys = no_keys();
-    let mut tops = no_tops();
-    start_keys(n, &mut keys, &mut tops);
-    place_all(
+    scan_in(
         n,
         lows,
         highs,
-        &first,
-        &lownext,
-        &highnext,
+        &mut first,
+        &mut lownext,
+        &mut highnext,
         &mut keys,
-        &mut tops,
         relays,
         places,
         forests,
     );
+}
+
+// The order, the places and the forest numbers of an accepted table.
+pub fn scan(
+    n: u16,
+    lows: &[u16],
+    highs: &[u16],
+    relays: &mut [u16],
+    places: &mut [u16],
+    forests: &mut [u16],
+)
+    requires { ⌜ Scannable n (now lows) (now highs) (now relays) (now places) (now forests) ⌝ }
+    ensures { λ _. ⌜ Scanned n (now (lows .entry)) (now (highs .entry)) (now (relays .entry)) (now (relays .exit))
+        (now (places .entry)) (now (places .exit)) (now (forests .entry)) (now (forests .exit)) ⌝ }
+{
+    if is_small(n, lows.len()) {
+        scan_small(n, lows, highs, relays, places, forests);
+    } else {
+        scan_large(n, lows, highs, relays, places, forests);
+    }
 }
 
 // The order and the places alone.
@@ -165,8 +257,13 @@ pub fn place_relays(n: u16, lows: &[u16], highs: &[u16], relays: &mut [u16], pla
     ensures { λ _. ⌜ now (places .exit)
         ≡ overwrite (placesOf n (orderOf n (now (lows .entry)) (now (highs .entry)))) (now (places .entry)) ⌝ }
 {
-    let mut forests = no_nexts();
-    scan(n, lows, highs, relays, places, &mut forests);
+    if lows.len() <= 384 {
+        let mut forests = few_nexts();
+        scan(n, lows, highs, relays, places, &mut forests);
+    } else {
+        let mut forests = no_nexts();
+        scan(n, lows, highs, relays, places, &mut forests);
+    }
 }
 
 // The forest numbers alone.
@@ -174,7 +271,13 @@ pub fn number_links(n: u16, lows: &[u16], highs: &[u16], forests: &mut [u16])
     requires { ⌜ Accepted n (now lows) (now highs) × (length (now lows) ≤ length (now forests)) ⌝ }
     ensures { λ _. ⌜ now (forests .exit) ≡ overwrite (forestsOf n (now (lows .entry)) (now (highs .entry))) (now (forests .entry)) ⌝ }
 {
-    let mut relays = no_heads(0);
-    let mut places = no_heads(0);
-    scan(n, lows, highs, &mut relays, &mut places, forests);
+    if n <= 128 {
+        let mut relays = few_heads(0);
+        let mut places = few_heads(0);
+        scan(n, lows, highs, &mut relays, &mut places, forests);
+    } else {
+        let mut relays = no_heads(0);
+        let mut places = no_heads(0);
+        scan(n, lows, highs, &mut relays, &mut places, forests);
+    }
 }

@@ -1,5 +1,5 @@
 // Keys over two levels: of each block of 32 keys the greatest is kept, so that the greatest of all is found by 32 looks.
-ghost use Prim.Native.Nat.{max, _<_, _≤_};
+ghost use Prim.Native.Nat.{max, _+_, _*_, _<_, _≤_};
 ghost use mathlib.Core.Path.{_≡_};
 ghost use lib.ListN.{length, getD, replicate};
 ghost use Rattle.definitions.specs.Lists.{greatest};
@@ -32,8 +32,8 @@ pub fn greatest_key(keys: &[u32]) -> u32
 }
 
 // The key at `at` becomes `key`, which is no smaller.
-pub fn put_key(at: usize, key: u32, keys: &mut [u32; 1024], tops: &mut [u32; 32])
-    requires { ⌜ (at < 1024) × (getD (now keys) at 0 ≤ key) × Tops (now keys) (now tops) ⌝ }
+pub fn put_key(at: usize, key: u32, keys: &mut [u32], tops: &mut [u32; 32])
+    requires { ⌜ (at < length (now keys)) × (getD (now keys) at 0 ≤ key) × Tops (now keys) (now tops) ⌝ }
     ensures { λ _. ⌜ Stored at key (now (keys .entry)) (now (keys .exit)) (now (tops .exit)) ⌝ }
 {
     let b = at / 32;
@@ -43,7 +43,7 @@ pub fn put_key(at: usize, key: u32, keys: &mut [u32; 1024], tops: &mut [u32; 32]
 
 // The greatest key of block b.
 fn top_of(b: usize, keys: &[u32]) -> u32
-    requires { ⌜ (b < 32) × (length (now keys) ≡ 1024) ⌝ }
+    requires { ⌜ (b < 32) × (b * 32 + 32 ≤ length (now keys)) ⌝ }
     ensures { λ r. ⌜ r ≡ greatest (block (now (keys .entry)) b) ⌝ }
 {
     let start = b * 32;
@@ -52,8 +52,8 @@ fn top_of(b: usize, keys: &[u32]) -> u32
 }
 
 // The key at `at` becomes 0; the greatest of its block is found anew.
-pub fn clear_key(at: usize, keys: &mut [u32; 1024], tops: &mut [u32; 32])
-    requires { ⌜ (at < 1024) × Tops (now keys) (now tops) ⌝ }
+pub fn clear_key(at: usize, keys: &mut [u32], tops: &mut [u32; 32])
+    requires { ⌜ (at < length (now keys)) × Tops (now keys) (now tops) ⌝ }
     ensures { λ _. ⌜ Stored at 0 (now (keys .entry)) (now (keys .exit)) (now (tops .exit)) ⌝ }
 {
     let b = at / 32;

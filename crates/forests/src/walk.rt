@@ -39,13 +39,13 @@ fn visit(
     i: usize,
     lows: &[u16],
     highs: &[u16],
-    lownext: &[u16; 3000],
-    highnext: &[u16; 3000],
-    keys: &mut [u32; 1024],
+    lownext: &[u16],
+    highnext: &[u16],
+    keys: &mut [u32],
     tops: &mut [u32; 32],
     forests: &mut [u16],
 ) -> usize
-    requires { ⌜ Visitable (x .0) i (now lows) (now highs) (now keys) (now tops) (now forests) ⌝ }
+    requires { ⌜ Visitable (x .0) i (now lows) (now highs) (now lownext) (now highnext) (now keys) (now tops) (now forests) ⌝ }
     ensures { λ r. ⌜ Visited (x .0) i (now (lows .entry)) (now (highs .entry)) (now (lownext .entry)) (now (highnext .entry))
         (now (keys .entry)) (now (keys .exit)) (now (tops .exit)) (now (forests .entry)) (now (forests .exit)) r ⌝ }
 {
@@ -64,10 +64,10 @@ pub fn walk(
     x: Relay,
     lows: &[u16],
     highs: &[u16],
-    first: &[u16; 1000],
-    lownext: &[u16; 3000],
-    highnext: &[u16; 3000],
-    keys: &mut [u32; 1024],
+    first: &[u16],
+    lownext: &[u16],
+    highnext: &[u16],
+    keys: &mut [u32],
     tops: &mut [u32; 32],
     forests: &mut [u16],
 )

@@ -1,8 +1,8 @@
 -- The chains of links meet their contract: after each turn they are those of all links from i on. Assumes nothing.
 use Prim.Native.Nat.{_≤_, _<_, _-_}
-use mathlib.Core.Path.{_≡_}
+use mathlib.Core.Path.{_≡_, refl}
 use native.Mathlib.Omega.{arith}
-use lib.ListN.{length, getD}
+use lib.ListN.{length, getD, length-set}
 use Rattle.forests.specs.Chains.{ChainedFrom}
 use Rattle.forests.proofs.ChainLaws.{chained-none, chained-more}
 use Rattle.forests.proofs.chains.link_up.Statement.{statement}
@@ -10,21 +10,26 @@ use Rattle.forests.proofs.chains.link_up.Tie as tie
 
 abbrev Inv-loop : tie.InvT-loop
 Inv-loop lows highs first₀ lownext₀ highnext₀ i₀ first lownext highnext i =
-    (i ≤ length lows) × ChainedFrom lows highs i first lownext highnext
+    (i ≤ length lows)
+    × ChainedFrom lows highs i first lownext highnext
+    × (length first ≡ length first₀)
+    × (length lownext ≡ length lownext₀)
+    × (length highnext ≡ length highnext₀)
 
 abbrev μ-loop : tie.MeasureT-loop
 μ-loop lows highs first₀ lownext₀ highnext₀ i₀ first lownext highnext i = i
 
 ends : (c : tie.In-loop Inv-loop μ-loop)
-    → (getD (c .before .before .args .lows .now) (c .before .loop .i - 1) 0 < 1000)
-    × (getD (c .before .before .args .highs .now) (c .before .loop .i - 1) 0 < 1000)
+    → (getD (c .before .before .args .lows .now) (c .before .loop .i - 1) 0 < length (c .before .loop .first))
+    × (getD (c .before .before .args .highs .now) (c .before .loop .i - 1) 0 < length (c .before .loop .first))
 ends c =
     let i = c .before .loop .i in
     let h : i - 1 < length (c .before .before .args .lows .now) = omega arith in
-    (c .before .before .pre .low (i - 1) h, c .before .before .pre .high (i - 1) h)
+    let p = c .before .before .pre in
+    (omega (arith, p .low (i - 1) h), omega (arith, p .high (i - 1) h))
 
 loop-holds : tie.Need-loop-holds Inv-loop μ-loop
-loop-holds c = (omega arith, chained-none (c .pre))
+loop-holds c = (omega arith, chained-none (c .pre), refl, refl, refl)
 
 sub-i : tie.Need-sub-i Inv-loop μ-loop
 sub-i c = omega arith
@@ -53,38 +58,38 @@ cast-here c = omega arith
 mul-lownext : tie.Need-mul-lownext Inv-loop μ-loop
 mul-lownext c = omega (arith, ends (c .before .before))
 
-element-copy-out-lownext : tie.Need-element-copy-out-lownext Inv-loop μ-loop
-element-copy-out-lownext c = omega (arith, ends (c .before .before))
+slice-read-lownext : tie.Need-slice-read-lownext Inv-loop μ-loop
+slice-read-lownext c = ends (c .before .before .before) .0
 
 mul-lownext-2 : tie.Need-mul-lownext-2 Inv-loop μ-loop
 mul-lownext-2 c = omega arith
 
-element-write-lownext : tie.Need-element-write-lownext Inv-loop μ-loop
-element-write-lownext c = omega arith
+slice-write-lownext : tie.Need-slice-write-lownext Inv-loop μ-loop
+slice-write-lownext c = omega arith
 
 mul-highnext : tie.Need-mul-highnext Inv-loop μ-loop
 mul-highnext c = omega (arith, ends (c .before .before .before))
 
-element-copy-out-highnext : tie.Need-element-copy-out-highnext Inv-loop μ-loop
-element-copy-out-highnext c = omega (arith, ends (c .before .before .before))
+slice-read-highnext : tie.Need-slice-read-highnext Inv-loop μ-loop
+slice-read-highnext c = ends (c .before .before .before .before) .1
 
 mul-highnext-2 : tie.Need-mul-highnext-2 Inv-loop μ-loop
 mul-highnext-2 c = omega arith
 
-element-write-highnext : tie.Need-element-write-highnext Inv-loop μ-loop
-element-write-highnext c = omega arith
+slice-write-highnext : tie.Need-slice-write-highnext Inv-loop μ-loop
+slice-write-highnext c = omega arith
 
 mul-first : tie.Need-mul-first Inv-loop μ-loop
 mul-first c = omega (arith, ends (c .before .before .before .before))
 
-element-write-first : tie.Need-element-write-first Inv-loop μ-loop
-element-write-first c = omega (arith, ends (c .before .before .before .before))
+slice-write-first : tie.Need-slice-write-first Inv-loop μ-loop
+slice-write-first c = omega (arith, ends (c .before .before .before .before))
 
 mul-first-2 : tie.Need-mul-first-2 Inv-loop μ-loop
 mul-first-2 c = omega (arith, ends (c .before .before .before .before))
 
-element-write-first-2 : tie.Need-element-write-first-2 Inv-loop μ-loop
-element-write-first-2 c = omega (arith, ends (c .before .before .before .before))
+slice-write-first-2 : tie.Need-slice-write-first-2 Inv-loop μ-loop
+slice-write-first-2 c = simp length-set (ends (c .before .before .before .before) .1)
 
 loop-less : tie.Need-loop-less Inv-loop μ-loop
 loop-less c = omega arith
@@ -92,8 +97,22 @@ loop-less c = omega arith
 loop-again : tie.Need-loop-again Inv-loop μ-loop
 loop-again c =
     let at = c .before .before .before .before .before in
-    let e = ends (c .before .before .before .before) in
-    (omega arith, chained-more (at .loop .i) (at .loop .i - 1) (at .loop .inv .1) (omega arith) (omega arith) (at .before .pre .short) (e .0) (e .1))
+    let e = ends (c .before .before .before .before) in (
+      omega arith,
+      chained-more (at .loop .i) (at .loop .i - 1) (at .loop .inv .1) (omega arith) (omega arith) (at .before .pre .short) (e .0) (e .1),
+      simp length-set (at .loop .inv .2),
+      simp length-set (at .loop .inv .3),
+      simp length-set (at .loop .inv .4),
+    )
+
+same-length : tie.Need-same-length Inv-loop μ-loop
+same-length c = c .before .loop .inv .2
+
+same-length-2 : tie.Need-same-length-2 Inv-loop μ-loop
+same-length-2 c = c .before .loop .inv .3
+
+same-length-3 : tie.Need-same-length-3 Inv-loop μ-loop
+same-length-3 c = c .before .loop .inv .4
 
 returns : tie.Need-returns Inv-loop μ-loop
 returns c = let p : c .before .loop .i ≡ 0 = omega arith in rw p at (c .before .loop .inv .1)
@@ -114,17 +133,20 @@ link-up-spec =
     cast-b
     cast-here
     mul-lownext
-    element-copy-out-lownext
+    slice-read-lownext
     mul-lownext-2
-    element-write-lownext
+    slice-write-lownext
     mul-highnext
-    element-copy-out-highnext
+    slice-read-highnext
     mul-highnext-2
-    element-write-highnext
+    slice-write-highnext
     mul-first
-    element-write-first
+    slice-write-first
     mul-first-2
-    element-write-first-2
+    slice-write-first-2
     loop-less
     loop-again
+    same-length
+    same-length-2
+    same-length-3
     returns)

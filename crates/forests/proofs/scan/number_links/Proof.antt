@@ -4,11 +4,11 @@ use borrow.Author.Needs.{needs}
 use Rattle.forests.proofs.scan.number_links.Statement.{statement}
 use Rattle.forests.proofs.scan.number_links.Tie as tie
 
-no-heads-requires : tie.Need-no-heads-requires
-no-heads-requires c κs = search needs
+few-heads-requires : tie.Need-few-heads-requires
+few-heads-requires c κs = search needs
 
-no-heads-requires-2 : tie.Need-no-heads-requires-2
-no-heads-requires-2 c κs = search needs
+few-heads-requires-2 : tie.Need-few-heads-requires-2
+few-heads-requires-2 c κs = search needs
 
 slice-aggregate-scan : tie.Need-slice-aggregate-scan
 slice-aggregate-scan c = search needs
@@ -17,14 +17,30 @@ slice-aggregate-scan-2 : tie.Need-slice-aggregate-scan-2
 slice-aggregate-scan-2 c = search needs
 
 scan-requires : tie.Need-scan-requires
-scan-requires c κs =
-    let a = c .before .before .before .before .before .before .before .before .args in
-    let p = c .before .before .before .before .before .before .before .before .pre in
+scan-requires c κs = search needs
+
+no-heads-requires : tie.Need-no-heads-requires
+no-heads-requires c κs = search needs
+
+no-heads-requires-2 : tie.Need-no-heads-requires-2
+no-heads-requires-2 c κs = search needs
+
+slice-aggregate-scan-3 : tie.Need-slice-aggregate-scan-3
+slice-aggregate-scan-3 c = search needs
+
+slice-aggregate-scan-4 : tie.Need-slice-aggregate-scan-4
+slice-aggregate-scan-4 c = search needs
+
+scan-requires-2 : tie.Need-scan-requires-2
+scan-requires-2 c κs =
+    let s = c .before .before .before .before .before .before .before .before .before in
+    let relays = c .before .before .before .before .no-heads in
+    let places = c .before .before .before .no-heads2 in
     record {
-      accepted = p .0;
-      relayRoom = relay-room (a .n) (a .lows .now) (a .highs .now) (c .before .before .before .before .no-heads .result) (p .0) (c .before .before .before .before .no-heads .ensures);
-      placeRoom = relay-room (a .n) (a .lows .now) (a .highs .now) (c .before .before .before .no-heads2 .result) (p .0) (c .before .before .before .no-heads2 .ensures);
-      forestRoom = p .1;
+      accepted = s .pre .0;
+      relayRoom = relay-room (s .args .n) (s .args .lows .now) (s .args .highs .now) (relays .result) (s .pre .0) (relays .ensures);
+      placeRoom = relay-room (s .args .n) (s .args .lows .now) (s .args .highs .now) (places .result) (s .pre .0) (places .ensures);
+      forestRoom = s .pre .1;
     }
 
 same-length : tie.Need-same-length
@@ -33,14 +49,27 @@ same-length c = search needs
 returns : tie.Need-returns
 returns c = search needs
 
+same-length-2 : tie.Need-same-length-2
+same-length-2 c = search needs
+
+returns-2 : tie.Need-returns-2
+returns-2 c = search needs
+
 pub number-links-spec : {M : Type 1} → statement M
 number-links-spec =
     tie.close
     (tie.spec
-    no-heads-requires
-    no-heads-requires-2
+    few-heads-requires
+    few-heads-requires-2
     slice-aggregate-scan
     slice-aggregate-scan-2
     scan-requires
+    no-heads-requires
+    no-heads-requires-2
+    slice-aggregate-scan-3
+    slice-aggregate-scan-4
+    scan-requires-2
     same-length
-    returns)
+    returns
+    same-length-2
+    returns-2)

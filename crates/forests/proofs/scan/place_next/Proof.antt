@@ -9,12 +9,12 @@ use Rattle.forests.proofs.scan.place_next.Statement.{statement}
 use Rattle.forests.proofs.scan.place_next.Tie as tie
 
 which : (c : tie.After-relay-of)
-    → let a = c .before .before .before .before .before .before .before .before .before .args in
+    → let a = c .before .before .before .before .before .before .before .before .before .before .before .before .before .args in
     c .relay-of .result .0 ≡ chosen (a .n) (a .keys .now)
 unfolding chosen
 which c =
-    let s = c .before .before .before .before .before .before .before .before .before in
-    let most = tops-greatest (s .args .n) (s .pre .few) (s .pre .rest) (s .pre .walkable .topped) in
+    let s = c .before .before .before .before .before .before .before .before .before .before .before .before .before in
+    let most = tops-greatest (s .args .n) (s .pre .keyRoom) (s .pre .rest) (s .pre .walkable .topped) in
     c .relay-of .ensures ∙ ap relayOf (c .before .greatest-key .ensures ∙ most)
 
 greatest-key-requires : tie.Need-greatest-key-requires
@@ -25,11 +25,13 @@ relay-of-requires c κs = search needs
 
 put-requires : tie.Need-put-requires
 put-requires c κs =
-    let p = c .before .before .before .before .before .before .before .before .before .before .before .pre in
+    let p = c .before .before .before .before .before .before .before .before .before .before .before .before .before .before .before .pre in
     (p .some, p .within, rw (which (c .before .before)) (p .room))
 
 walk-requires : tie.Need-walk-requires
-walk-requires c κs = rw (which (c .before .before .before .before .before .before .before .before .before .before)) (c .before .before .before .before .before .before .before .before .before .before .before .before .before .before .before .before .before .before .before .pre .walkable)
+walk-requires c κs =
+    let choice = c .before .before .before .before .before .before .before .before .before .before in
+    rw (which choice) (choice .before .before .before .before .before .before .before .before .before .before .before .before .before .pre .walkable)
 
 same-length : tie.Need-same-length
 same-length c = search needs
@@ -40,11 +42,14 @@ same-length-2 c = search needs
 same-length-3 : tie.Need-same-length-3
 same-length-3 c = search needs
 
+same-length-4 : tie.Need-same-length-4
+same-length-4 c = search needs
+
 returns : tie.Need-returns
 returns c =
-    let stored = c .before .before .before .before .before .before .before .before .before .before in
+    let stored = c .before .before .before .before .before .before .before .before .before .before .before .before in
     let choice = stored .before .before .before in
-    placed-one (choice .relay-of .result .0) (which choice) (stored .put .ensures .0) (stored .put .ensures .1) (c .before .before .walk .ensures)
+    placed-one (choice .relay-of .result .0) (which choice) (stored .put .ensures .0) (stored .put .ensures .1) (c .before .before .before .before .walk .ensures)
 
 pub place-next-spec : {M : Type 1} → statement M
 place-next-spec =
@@ -57,4 +62,5 @@ place-next-spec =
     same-length
     same-length-2
     same-length-3
+    same-length-4
     returns)

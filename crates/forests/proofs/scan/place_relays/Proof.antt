@@ -4,21 +4,30 @@ use borrow.Author.Needs.{needs}
 use Rattle.forests.proofs.scan.place_relays.Statement.{statement}
 use Rattle.forests.proofs.scan.place_relays.Tie as tie
 
-no-nexts-requires : tie.Need-no-nexts-requires
-no-nexts-requires c κs = search needs
+few-nexts-requires : tie.Need-few-nexts-requires
+few-nexts-requires c κs = search needs
 
 slice-aggregate-scan : tie.Need-slice-aggregate-scan
 slice-aggregate-scan c = search needs
 
 scan-requires : tie.Need-scan-requires
-scan-requires c κs =
-    let a = c .before .before .before .before .before .before .before .before .args in
-    let p = c .before .before .before .before .before .before .before .before .pre in
+scan-requires c κs = search needs
+
+no-nexts-requires : tie.Need-no-nexts-requires
+no-nexts-requires c κs = search needs
+
+slice-aggregate-scan-2 : tie.Need-slice-aggregate-scan-2
+slice-aggregate-scan-2 c = search needs
+
+scan-requires-2 : tie.Need-scan-requires-2
+scan-requires-2 c κs =
+    let s = c .before .before .before .before .before .before .before .before .before in
+    let own = c .before .before .before .no-nexts in
     record {
-      accepted = p .0;
-      relayRoom = p .1;
-      placeRoom = p .2;
-      forestRoom = link-room (a .n) (a .lows .now) (a .highs .now) (c .before .before .before .no-nexts .result) (p .0) (c .before .before .before .no-nexts .ensures);
+      accepted = s .pre .0;
+      relayRoom = s .pre .1;
+      placeRoom = s .pre .2;
+      forestRoom = link-room (s .args .n) (s .args .lows .now) (s .args .highs .now) (own .result) (s .pre .0) (own .ensures);
     }
 
 same-length : tie.Need-same-length
@@ -30,13 +39,28 @@ same-length-2 c = search needs
 returns : tie.Need-returns
 returns c = search needs
 
+same-length-3 : tie.Need-same-length-3
+same-length-3 c = search needs
+
+same-length-4 : tie.Need-same-length-4
+same-length-4 c = search needs
+
+returns-2 : tie.Need-returns-2
+returns-2 c = search needs
+
 pub place-relays-spec : {M : Type 1} → statement M
 place-relays-spec =
     tie.close
     (tie.spec
-    no-nexts-requires
+    few-nexts-requires
     slice-aggregate-scan
     scan-requires
+    no-nexts-requires
+    slice-aggregate-scan-2
+    scan-requires-2
     same-length
     same-length-2
-    returns)
+    returns
+    same-length-3
+    same-length-4
+    returns-2)

@@ -1,4 +1,6 @@
 -- The key is 0, and the greatest of its block is found anew. Assumes nothing.
+use native.Mathlib.Omega.{arith}
+use lib.ListN.{length-set}
 use borrow.Author.Needs.{needs}
 use Rattle.forests.proofs.TopLaws.{tops-anew}
 use Rattle.forests.proofs.tops.clear_key.Statement.{statement}
@@ -7,17 +9,23 @@ use Rattle.forests.proofs.tops.clear_key.Tie as tie
 mul-keys : tie.Need-mul-keys
 mul-keys c = search needs
 
-element-write-keys : tie.Need-element-write-keys
-element-write-keys c = search needs
+slice-write-keys : tie.Need-slice-write-keys
+slice-write-keys c = search needs
 
 top-of-requires : tie.Need-top-of-requires
-top-of-requires c κs = search needs
+top-of-requires c κs =
+    let s = c .before .before in
+    let long = length-set (s .args .keys .now) (s .args .at) 0 in
+    (omega (arith, s .pre .1 .few), omega (arith, s .pre .1 .full))
 
 mul-tops : tie.Need-mul-tops
 mul-tops c = search needs
 
 element-write-tops : tie.Need-element-write-tops
 element-write-tops c = search needs
+
+same-length : tie.Need-same-length
+same-length c = search needs
 
 returns : tie.Need-returns
 returns c =
@@ -27,4 +35,4 @@ returns c =
 pub clear-key-spec : {M : Type 1} → statement M
 clear-key-spec =
     tie.close
-    (tie.spec mul-keys element-write-keys top-of-requires mul-tops element-write-tops returns)
+    (tie.spec mul-keys slice-write-keys top-of-requires mul-tops element-write-tops same-length returns)

@@ -7,8 +7,8 @@ use Rattle.forests.proofs.tops.put_key.Tie as tie
 mul-keys : tie.Need-mul-keys
 mul-keys c = search needs
 
-element-write-keys : tie.Need-element-write-keys
-element-write-keys c = search needs
+slice-write-keys : tie.Need-slice-write-keys
+slice-write-keys c = search needs
 
 mul-larger : tie.Need-mul-larger
 mul-larger c = search needs
@@ -25,9 +25,12 @@ mul-tops c = search needs
 element-write-tops : tie.Need-element-write-tops
 element-write-tops c = search needs
 
+same-length : tie.Need-same-length
+same-length c = search needs
+
 returns : tie.Need-returns
 returns c =
-    let s = c .before .before in
+    let s = c .before .before .before in
     tops-raised (s .args .at) (s .args .key) (s .pre .0) (s .pre .2) (c .larger .result) (s .pre .1) (c .larger .ensures)
 
 pub put-key-spec : {M : Type 1} → statement M
@@ -35,10 +38,11 @@ put-key-spec =
     tie.close
     (tie.spec
     mul-keys
-    element-write-keys
+    slice-write-keys
     mul-larger
     element-copy-out-larger
     larger-requires
     mul-tops
     element-write-tops
+    same-length
     returns)

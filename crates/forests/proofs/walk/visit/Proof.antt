@@ -29,20 +29,23 @@ cast-at c = search needs
 mul-key : tie.Need-mul-key
 mul-key c = search needs
 
-element-copy-out-key : tie.Need-element-copy-out-key
+slice-read-key : tie.Need-slice-read-key
 unfolding farEnd
-element-copy-out-key c = omega arith
+slice-read-key c = omega arith
 
 raised-requires : tie.Need-raised-requires
 unfolding farEnd
-raised-requires c κs = rw (c .before .before .other-end .ensures) (c .before .before .before .before .before .before .before .before .pre .bound)
+raised-requires c κs = rw (c .before .before .other-end .ensures) (c .before .before .before .before .before .before .before .before .before .before .before .pre .bound)
 
 put-key-requires : tie.Need-put-key-requires
 unfolding farEnd
 put-key-requires c κs =
-    let s = c .before .before .before .before .before .before .before .before .before .before .before in
-    let other = c .before .before .before .before .before .other-end in
-    (omega arith, omega (arith, c .before .before .raised .ensures, raised-up (getD (s .args .keys .now) (other .result .0) 0)), s .pre .topped)
+    let s = c .before .before .before .before .before .before .before .before .before .before .before .before .before .before in
+    let other = c .before .before .before .before .before .other-end in (
+      omega (arith, s .pre .far),
+      omega (arith, c .before .before .raised .ensures, raised-up (getD (s .args .keys .now) (other .result .0) 0)),
+      s .pre .topped,
+    )
 
 mul-number : tie.Need-mul-number
 mul-number c = search needs
@@ -52,7 +55,7 @@ slice-read-number c = search needs
 
 number-requires : tie.Need-number-requires
 unfolding farEnd
-number-requires c κs = rw (c .before .before .before .before .before .before .before .other-end .ensures) (c .before .before .before .before .before .before .before .before .before .before .before .before .before .pre .bound)
+number-requires c κs = rw (c .before .before .before .before .before .before .before .before .before .other-end .ensures) (c .before .before .before .before .before .before .before .before .before .before .before .before .before .before .before .before .before .before .pre .bound)
 
 mul-forests-3 : tie.Need-mul-forests-3
 mul-forests-3 c = search needs
@@ -63,14 +66,14 @@ slice-write-forests c = search needs
 mul-next-of : tie.Need-mul-next-of
 mul-next-of c = search needs
 
-element-copy-out-next-of : tie.Need-element-copy-out-next-of
-element-copy-out-next-of c = search needs
+shared-slice-read-next-of : tie.Need-shared-slice-read-next-of
+shared-slice-read-next-of c = search needs
 
 mul-next-of-2 : tie.Need-mul-next-of-2
 mul-next-of-2 c = search needs
 
-element-copy-out-next-of-2 : tie.Need-element-copy-out-next-of-2
-element-copy-out-next-of-2 c = search needs
+shared-slice-read-next-of-2 : tie.Need-shared-slice-read-next-of-2
+shared-slice-read-next-of-2 c = search needs
 
 next-of-requires : tie.Need-next-of-requires
 next-of-requires c κs = search needs
@@ -78,11 +81,14 @@ next-of-requires c κs = search needs
 same-length : tie.Need-same-length
 same-length c = search needs
 
+same-length-2 : tie.Need-same-length-2
+same-length-2 c = search needs
+
 returns : tie.Need-returns
 unfolding farEnd
 returns c =
-    let other = c .before .before .before .before .before .before .before .before .before .before .before .other-end in
-    let stored = c .before .before .before .before .before in
+    let stored = c .before .before .before .before .before .before .before in
+    let other = stored .before .before .before .before .before .before .other-end in
     visit-done (other .result .0) (other .ensures) (stored .before .before .before .raised .ensures) (stored .put-key .ensures)
     (c .before .before .before .number .ensures) (c .next-of .ensures)
 
@@ -97,7 +103,7 @@ visit-spec =
     other-end-requires
     cast-at
     mul-key
-    element-copy-out-key
+    slice-read-key
     raised-requires
     put-key-requires
     mul-number
@@ -106,9 +112,10 @@ visit-spec =
     mul-forests-3
     slice-write-forests
     mul-next-of
-    element-copy-out-next-of
+    shared-slice-read-next-of
     mul-next-of-2
-    element-copy-out-next-of-2
+    shared-slice-read-next-of-2
     next-of-requires
     same-length
+    same-length-2
     returns)

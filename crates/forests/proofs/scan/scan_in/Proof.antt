@@ -1,0 +1,79 @@
+-- Chains and keys are made in the arrays, and all relays are placed. Assumes nothing.
+use native.Mathlib.Omega.{arith}
+use Rattle.theory.specs.Accepted.{accepted}
+use Rattle.forests.proofs.ScanLaws.{chain-ready}
+use borrow.Author.Needs.{needs}
+use Rattle.forests.proofs.scan.scan_in.Statement.{statement}
+use Rattle.forests.proofs.scan.scan_in.Tie as tie
+
+link-up-requires : tie.Need-link-up-requires
+link-up-requires c κs = let p = c .before .before .before .before .before .before .before .before .before .before .before .before .pre in chain-ready (p .0 .accepted) (p .1)
+
+no-tops-requires : tie.Need-no-tops-requires
+no-tops-requires c κs = search needs
+
+start-keys-requires : tie.Need-start-keys-requires
+start-keys-requires c κs =
+    let s = c .before .before .before .before .before .before .before .before .before .before .before .before .before .before .before .before .before .before .before .before .before .before in
+    let few = accepted (s .args .n) (s .args .lows .now) (s .args .highs .now) (s .pre .0 .accepted) .few in
+    let none = s .pre .1 .noKeys in (
+      few,
+      record { room = omega (arith, none .room, s .pre .1 .heads); few = none .few; full = none .full; zero = none .zero },
+      c .before .before .no-tops .ensures,
+    )
+
+place-all-requires : tie.Need-place-all-requires
+place-all-requires c κs =
+    let s = c .before .before .before .before .before .before .before .before .before .before .before .before .before .before .before .before .before .before .before .before .before .before .before .before .before .before .before .before .before .before .before .before .before in
+    let w = s .pre .1 in
+    let started = c .before .before .before .before .before .before .before .before .before .before .start-keys .ensures in
+    record {
+      scannable = s .pre .0;
+      heads = omega (arith, w .heads);
+      few = omega (arith, w .few);
+      keyRoom = omega (arith, w .noKeys .room);
+      chained = c .before .before .before .before .before .before .before .before .before .before .before .before .before .before .before .before .before .before .before .before .link-up .ensures;
+      startKeys = started .0;
+      topped = started .1;
+    }
+
+same-length : tie.Need-same-length
+same-length c = search needs
+
+same-length-2 : tie.Need-same-length-2
+same-length-2 c = search needs
+
+same-length-3 : tie.Need-same-length-3
+same-length-3 c = search needs
+
+same-length-4 : tie.Need-same-length-4
+same-length-4 c = search needs
+
+same-length-5 : tie.Need-same-length-5
+same-length-5 c = search needs
+
+same-length-6 : tie.Need-same-length-6
+same-length-6 c = search needs
+
+same-length-7 : tie.Need-same-length-7
+same-length-7 c = search needs
+
+returns : tie.Need-returns
+returns c = search needs
+
+pub scan-in-spec : {M : Type 1} → statement M
+scan-in-spec =
+    tie.close
+    (tie.spec
+    link-up-requires
+    no-tops-requires
+    start-keys-requires
+    place-all-requires
+    same-length
+    same-length-2
+    same-length-3
+    same-length-4
+    same-length-5
+    same-length-6
+    same-length-7
+    returns)
