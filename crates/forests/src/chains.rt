@@ -39,7 +39,8 @@ pub fn link_up(
     highnext: &mut [u16],
 )
     requires { ⌜ Chainable (now lows) (now highs) (now first) (now lownext) (now highnext) ⌝ }
-    ensures { λ _. ⌜ ChainedFrom (now (lows .entry)) (now (highs .entry)) 0 (now (first .exit)) (now (lownext .exit)) (now (highnext .exit)) ⌝ }
+    ensures { λ _. ⌜ ChainedFrom (now (lows .entry)) (now (highs .entry)) 0 (now (first .exit)) (now (lownext .exit))
+        (now (highnext .exit)) ⌝ }
 {
     let mut i = lows.len();
     while i > 0 {

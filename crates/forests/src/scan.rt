@@ -19,19 +19,11 @@ ghost use mathlib.Core.Path.{_≡_};
 ghost use lib.ListN.{length, getD, set};
 ghost use Rattle.definitions.specs.Lists.{overwrite};
 ghost use Rattle.definitions.specs.Network.{Accepted};
-ghost use Rattle.definitions.specs.Order.{relayAt, orderOf, placesOf};
+ghost use Rattle.definitions.specs.Order.{orderOf, placesOf};
 ghost use Rattle.definitions.specs.Forests.{forestsOf};
 ghost use Rattle.forests.specs.Scan.{Placeable, PlacedOne, Startable, Scannable, Workspace, Scanned};
 
-// The order's two lists turn a place into a relay and a relay into a place.
-pub fn relay_at(relays: &[u16], v: Place) -> Relay
-    requires { ⌜ (0 < v .0) × (v .0 ≤ length (now relays)) ⌝ }
-    ensures { λ r. ⌜ r .0 ≡ relayAt (now (relays .entry)) (v .0) ⌝ }
-{
-    let at = (v.0 - 1) as usize;
-    Relay(relays[at])
-}
-
+// The place of a relay, from the list of places.
 pub fn place_of(places: &[u16], r: Relay) -> Place
     requires { ⌜ r .0 < length (now places) ⌝ }
     ensures { λ v. ⌜ v .0 ≡ getD (now (places .entry)) (r .0) 0 ⌝ }

@@ -31,13 +31,17 @@ returns c =
 
 returns-2 : tie.Need-returns-2
 returns-2 c =
-    let a = c .before .before .before .before .before .before .before .before .args in
-    cut-count (a .n) (now (a .lows)) (now (a .highs)) (a .k) (now (a .marks)) (good (c .before .before)) (outside-high (a .k) (c .if2 .taken))
+    let start = c .before .before .before .before .before .before .before .before in
+    let a = start .args in
+    cut-count (a .n) (now (a .lows)) (now (a .highs)) (a .k) (now (a .marks)) (good (c .before .before))
+    (outside-high (a .k) (c .if2 .taken))
 
 returns-3 : tie.Need-returns-3
 returns-3 c =
-    let a = c .before .before .before .before .before .before .before .before .before .args in
-    cut-short (a .n) (now (a .lows)) (now (a .highs)) (a .k) (now (a .marks)) (good (c .before .before .before)) (inside (a .k) (c .before .before .if1 .left) (c .before .if2 .left)) (c .if3 .taken)
+    let start = c .before .before .before .before .before .before .before .before .before in
+    let a = start .args in
+    cut-short (a .n) (now (a .lows)) (now (a .highs)) (a .k) (now (a .marks)) (good (c .before .before .before))
+    (inside (a .k) (c .before .before .if1 .left) (c .before .if2 .left)) (c .if3 .taken)
 
 number-links-requires : tie.Need-number-links-requires
 number-links-requires c κs = (good (c .before .before .before .before), c .before .if3 .left)
@@ -51,21 +55,31 @@ mark-links-requires c κs =
 
 returns-4 : tie.Need-returns-4
 returns-4 c =
-    let a = c .before .before .before .before .before .before .before .args in
+    let atTableCheck = c .before .before .before in
+    let start = atTableCheck .before .before .before .before in
+    let a = start .args in
     let refusal = c .before .refusal .given in
-    cut-refused (a .n) (now (a .lows)) (now (a .highs)) (a .k) (now (a .marks)) (refusal .0 .0) (sym (ap checkOutcome (refusal .1)) ∙ c .before .before .before .table-check .ensures)
+    cut-refused (a .n) (now (a .lows)) (now (a .highs)) (a .k) (now (a .marks)) (refusal .0 .0)
+    (sym (ap checkOutcome (refusal .1)) ∙ atTableCheck .table-check .ensures)
 
 same-length : tie.Need-same-length
 same-length c = search needs
 
 returns-5 : tie.Need-returns-5
 returns-5 c =
-    let a = c .before .before .before .before .before .before .before .before .before .before .before .before .before .before .before .before .before .args in
-    let inRange = inside (a .k) (c .before .before .before .before .before .before .before .before .before .before .if1 .left) (c .before .before .before .before .before .before .before .before .before .if2 .left) in
-    let enough = c .before .before .before .before .before .before .before .before .if3 .left in
-    let stored = c .before .before .before .before .before .before .number-links .ensures in
+    let atNumberLinks = c .before .before .before .before .before .before in
+    let atIf3 = atNumberLinks .before .before in
+    let atIf2 = atIf3 .before in
+    let atIf1 = atIf2 .before in
+    let start = atIf1 .before .before .before .before .before .before .before in
+    let a = start .args in
+    let inRange = inside (a .k) (atIf1 .if1 .left) (atIf2 .if2 .left) in
+    let enough = atIf3 .if3 .left in
+    let stored = atNumberLinks .number-links .ensures in
     let marked = c .before .before .mark-links in
-    cut-done (a .n) (now (a .lows)) (now (a .highs)) (a .k) (now (a .marks)) (marked .result) (good (c .before .before .before .before .before .before .before .before .before .before .before)) inRange enough stored (marked .ensures .0) (marked .ensures .1)
+    cut-done (a .n) (now (a .lows)) (now (a .highs)) (a .k) (now (a .marks)) (marked .result)
+    (good (c .before .before .before .before .before .before .before .before .before .before .before)) inRange enough stored
+    (marked .ensures .0) (marked .ensures .1)
 
 pub cut-spec : {M : Type 1} → statement M
 cut-spec =

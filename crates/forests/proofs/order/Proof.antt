@@ -28,13 +28,15 @@ enum-told c = search needs
 
 returns : tie.Need-returns
 returns c =
-    let a = c .before .before .before .before .before .before .before .before .args in
+    let start = c .before .before .before .before .before .before .before .before in
+    let a = start .args in
     order-short (a .n) (now (a .lows)) (now (a .highs)) (now (a .relays)) (now (a .places)) (good (c .before))
     (or-left (ltb (length (now (a .relays))) (a .n)) (ltb (length (now (a .places))) (a .n)) (lt-ltb (length (now (a .relays))) (a .n) (c .if1 .taken)))
 
 returns-2 : tie.Need-returns-2
 returns-2 c =
-    let a = c .before .before .before .before .before .before .before .before .before .args in
+    let start = c .before .before .before .before .before .before .before .before .before in
+    let a = start .args in
     order-short (a .n) (now (a .lows)) (now (a .highs)) (now (a .relays)) (now (a .places)) (good (c .before .before))
     (or-right (ltb (length (now (a .relays))) (a .n)) (ltb (length (now (a .places))) (a .n)) (lt-ltb (length (now (a .places))) (a .n) (c .if2 .taken)))
 
@@ -43,9 +45,12 @@ place-relays-requires c κs = (good (c .before .before .before .before), c .befo
 
 returns-3 : tie.Need-returns-3
 returns-3 c =
-    let a = c .before .before .before .before .before .before .before .before .args in
+    let atTableCheck = c .before .before .before in
+    let start = atTableCheck .before .before .before .before .before in
+    let a = start .args in
     let refusal = c .before .refusal .given in
-    order-refused (a .n) (now (a .lows)) (now (a .highs)) (now (a .relays)) (now (a .places)) (refusal .0 .0) (sym (ap checkOutcome (refusal .1)) ∙ c .before .before .before .table-check .ensures)
+    order-refused (a .n) (now (a .lows)) (now (a .highs)) (now (a .relays)) (now (a .places)) (refusal .0 .0)
+    (sym (ap checkOutcome (refusal .1)) ∙ atTableCheck .table-check .ensures)
 
 same-length : tie.Need-same-length
 same-length c = search needs
@@ -55,11 +60,16 @@ same-length-2 c = search needs
 
 returns-4 : tie.Need-returns-4
 returns-4 c =
-    let a = c .before .before .before .before .before .before .before .before .before .before .before .before .before .before .before .before .args in
-    let one = c .before .before .before .before .before .before .before .before .if1 .left in
-    let other = c .before .before .before .before .before .before .before .if2 .left in
-    let stored = c .before .before .before .before .place-relays .ensures in
-    order-done (a .n) (now (a .lows)) (now (a .highs)) (now (a .relays)) (now (a .places)) (good (c .before .before .before .before .before .before .before .before .before)) one other (stored .0) (stored .1)
+    let atPlaceRelays = c .before .before .before .before in
+    let atIf2 = atPlaceRelays .before .before .before in
+    let atIf1 = atIf2 .before in
+    let start = atIf1 .before .before .before .before .before .before .before .before in
+    let a = start .args in
+    let one = atIf1 .if1 .left in
+    let other = atIf2 .if2 .left in
+    let stored = atPlaceRelays .place-relays .ensures in
+    order-done (a .n) (now (a .lows)) (now (a .highs)) (now (a .relays)) (now (a .places))
+    (good (c .before .before .before .before .before .before .before .before .before)) one other (stored .0) (stored .1)
 
 pub order-spec : {M : Type 1} → statement M
 order-spec =

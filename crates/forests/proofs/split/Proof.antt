@@ -35,19 +35,26 @@ highest-requires c κs = search needs
 
 returns-2 : tie.Need-returns-2
 returns-2 c =
-    let a = c .before .before .before .before .before .before .before .args in
+    let atTableCheck = c .before .before .before in
+    let start = atTableCheck .before .before .before .before in
+    let a = start .args in
     let refusal = c .before .refusal .given in
-    split-refused (a .n) (now (a .lows)) (now (a .highs)) (now (a .forests)) (refusal .0 .0) (sym (ap checkOutcome (refusal .1)) ∙ c .before .before .before .table-check .ensures)
+    split-refused (a .n) (now (a .lows)) (now (a .highs)) (now (a .forests)) (refusal .0 .0)
+    (sym (ap checkOutcome (refusal .1)) ∙ atTableCheck .table-check .ensures)
 
 same-length : tie.Need-same-length
 same-length c = search needs
 
 returns-3 : tie.Need-returns-3
 returns-3 c =
-    let a = c .before .before .before .before .before .before .before .before .before .before .before .before .before .args in
-    let enough = c .before .before .before .before .before .before .if1 .left in
-    let stored = c .before .before .before .before .number-links .ensures in
-    split-done (a .n) (now (a .lows)) (now (a .highs)) (now (a .forests)) (c .highest .result) (good (c .before .before .before .before .before .before .before)) enough stored (c .highest .ensures)
+    let atNumberLinks = c .before .before .before .before in
+    let atIf1 = atNumberLinks .before .before in
+    let start = atIf1 .before .before .before .before .before .before .before in
+    let a = start .args in
+    let enough = atIf1 .if1 .left in
+    let stored = atNumberLinks .number-links .ensures in
+    split-done (a .n) (now (a .lows)) (now (a .highs)) (now (a .forests)) (c .highest .result)
+    (good (c .before .before .before .before .before .before .before)) enough stored (c .highest .ensures)
 
 pub split-spec : {M : Type 1} → statement M
 split-spec =

@@ -56,7 +56,9 @@ same-length : tie.Need-same-length Inv-loop μ-loop
 same-length c = c .before .loop .inv .3
 
 returns : tie.Need-returns Inv-loop μ-loop
-returns c = let p : c .before .loop .r ≡ c .before .before .before .args .n = omega arith in (rw p at (c .before .loop .inv .1), c .before .loop .inv .2)
+returns c =
+    let start = c .before .before .before in
+    let p : c .before .loop .r ≡ start .args .n = omega arith in (rw p at (c .before .loop .inv .1), c .before .loop .inv .2)
 
 pub start-keys-spec : {M : Type 1} → statement M
 start-keys-spec =

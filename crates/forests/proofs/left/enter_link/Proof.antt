@@ -40,12 +40,18 @@ earlier-requires c κs = search needs
 late : (c : tie.After-earlier)
     → let a = c .before .before .before .before .before .before .before .before .before .before .before .before .before .before .args in
     c .before .later .result .0 ≡ laterAt (a .lows .now) (a .highs .now) (a .places .now) (a .i)
-late c = c .before .later .ensures ∙ ap₂ max (c .before .before .before .before .before .before .before .place-of .ensures) (c .before .before .before .before .before .place-of2 .ensures)
+late c =
+    let atPlaceOf2 = c .before .before .before .before .before in
+    let atPlaceOf = atPlaceOf2 .before .before in
+    c .before .later .ensures ∙ ap₂ max (atPlaceOf .place-of .ensures) (atPlaceOf2 .place-of2 .ensures)
 
 early : (c : tie.After-earlier)
     → let a = c .before .before .before .before .before .before .before .before .before .before .before .before .before .before .args in
     c .earlier .result .0 ≡ earlierAt (a .lows .now) (a .highs .now) (a .places .now) (a .i)
-early c = c .earlier .ensures ∙ ap₂ min (c .before .before .before .before .before .before .before .place-of .ensures) (c .before .before .before .before .before .place-of2 .ensures)
+early c =
+    let atPlaceOf2 = c .before .before .before .before .before in
+    let atPlaceOf = atPlaceOf2 .before .before in
+    c .earlier .ensures ∙ ap₂ min (atPlaceOf .place-of .ensures) (atPlaceOf2 .place-of2 .ensures)
 
 put-left-requires : tie.Need-put-left-requires
 put-left-requires c κs =
@@ -58,10 +64,12 @@ same-length c = search needs
 
 returns : tie.Need-returns
 returns c =
-    let a = c .before .before .before .before .before .before .before .before .before .before .before .before .before .before .before .before .before .args in
+    let atIf1 = c .before .before .before .before .before .before in
+    let start = atIf1 .before .before .before .before .before .before .before .before .before .before .before in
+    let a = start .args in
     let both = c .before .before .before in
     entered-some (a .n) (a .k) (a .i) (a .lows .now) (a .highs .now) (a .places .now) (a .forests .now) (a .table .now) _
-    (both .before .later .result .0) (both .earlier .result .0) (c .before .before .before .before .before .before .if1 .taken) (late both) (early both)
+    (both .before .later .result .0) (both .earlier .result .0) (atIf1 .if1 .taken) (late both) (early both)
     (c .before .before .put-left .ensures)
 
 returns-2 : tie.Need-returns-2

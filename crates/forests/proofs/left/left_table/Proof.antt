@@ -29,8 +29,10 @@ loop-less c = omega arith
 
 loop-again : tie.Need-loop-again Inv-loop μ-loop
 loop-again c =
-    let at = c .before .before .before .before .before .loop in
-    (omega arith, left-moves (c .before .before .before .before .before .before .before .before .before .before .before .pre) (at .i) (omega arith) (at .inv .1) (c .before .before .enter-link .ensures))
+    let atLoop = c .before .before .before .before .before in
+    let start = atLoop .before .before .before .before .before .before in
+    let at = atLoop .loop in
+    (omega arith, left-moves (start .pre) (at .i) (omega arith) (at .inv .1) (c .before .before .enter-link .ensures))
 
 same-length : tie.Need-same-length Inv-loop μ-loop
 same-length c = c .before .loop .inv .1 .long

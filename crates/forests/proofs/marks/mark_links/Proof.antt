@@ -43,7 +43,10 @@ slice-write-marks : tie.Need-slice-write-marks Inv-loop μ-loop
 slice-write-marks c = omega (arith, long (c .before .before .before))
 
 add-kept : tie.Need-add-kept Inv-loop μ-loop
-add-kept c = omega (arith, mark-small (c .before .before .before .before .before .args .k) (getD (c .before .before .before .loop .marks) (c .before .before .before .loop .i) 0), c .mark .ensures)
+add-kept c =
+    let atLoop = c .before .before .before in
+    let start = atLoop .before .before in
+    omega (arith, mark-small (start .args .k) (getD (atLoop .loop .marks) (atLoop .loop .i) 0), c .mark .ensures)
 
 add-i : tie.Need-add-i Inv-loop μ-loop
 add-i c = omega arith
@@ -62,7 +65,8 @@ loop-again c =
     c .mark .ensures ∙ ap (λ x. markOf k (getD x i 0)) (at .loop .inv .1) ∙ ap (markOf k) (mapped-next (markOf k) l i inside) in
     let sum = total-more (markOf k) l i inside in (
       omega arith,
-      ap₂ (λ x v. set x i v) (at .loop .inv .1) this ∙ mapped-more (markOf k) l i inside ∙ ap (λ j. mapped (markOf k) j l) (sym (add-one i)),
+      ap₂ (λ x v. set x i v) (at .loop .inv .1) this ∙ mapped-more (markOf k) l i inside ∙ ap (λ j. mapped (markOf k) j l)
+          (sym (add-one i)),
       rw (add-one i) (omega arith),
       omega (arith, mark-small k (getD l i 0)),
     )

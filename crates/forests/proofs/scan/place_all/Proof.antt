@@ -16,7 +16,9 @@ abbrev μ-loop : tie.MeasureT-loop
 μ-loop n lows highs first lownext highnext keys₀ tops₀ relays₀ places₀ forests₀ v₀ keys tops relays places forests v = n - v
 
 loop-holds : tie.Need-loop-holds Inv-loop μ-loop
-loop-holds c = let p = c .before .before .before .before .before .before .before .before .before .pre in (omega arith, scan-starts p, p .topped, refl)
+loop-holds c =
+    let start = c .before .before .before .before .before .before .before .before .before in
+    let p = start .pre in (omega arith, scan-starts p, p .topped, refl)
 
 add-v : tie.Need-add-v Inv-loop μ-loop
 add-v c = omega arith
@@ -33,11 +35,13 @@ loop-less c = omega arith
 
 loop-again : tie.Need-loop-again Inv-loop μ-loop
 loop-again c =
+    let atPlaceNext = c .before .before .before .before .before .before .before .before in
     let at = c .before .before .before .before .before .before .before .before .before .before .before .before .before .before .before in
     let inv = at .loop .inv in
-    let one = c .before .before .before .before .before .before .before .before .place-next .ensures in (
+    let one = atPlaceNext .place-next .ensures in (
       omega arith,
-      scan-moves (at .before .before .before .before .before .before .before .before .before .before .pre) (at .loop .v) (omega arith) (inv .1) one,
+      scan-moves (at .before .before .before .before .before .before .before .before .before .before .pre) (at .loop .v) (omega arith)
+          (inv .1) one,
       one .topped,
       one .walked .keyRoom ∙ simp length-set (inv .3),
     )
@@ -47,8 +51,9 @@ same-length c = c .before .loop .inv .3
 
 same-length-2 : tie.Need-same-length-2 Inv-loop μ-loop
 same-length-2 c =
+    let start = c .before .before .before .before .before .before .before .before .before .before .before in
     let at = c .before .loop in
-    relays-long (c .before .before .before .before .before .before .before .before .before .before .before .pre) (at .v) (omega arith) (at .inv .1)
+    relays-long (start .pre) (at .v) (omega arith) (at .inv .1)
 
 same-length-3 : tie.Need-same-length-3 Inv-loop μ-loop
 same-length-3 c = c .before .loop .inv .1 .placesAt .long

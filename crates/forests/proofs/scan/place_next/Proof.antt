@@ -25,13 +25,15 @@ relay-of-requires c κs = search needs
 
 put-requires : tie.Need-put-requires
 put-requires c κs =
-    let p = c .before .before .before .before .before .before .before .before .before .before .before .before .before .before .before .pre in
+    let start = c .before .before .before .before .before .before .before .before .before .before .before .before .before .before .before in
+    let p = start .pre in
     (p .some, p .within, rw (which (c .before .before)) (p .room))
 
 walk-requires : tie.Need-walk-requires
 walk-requires c κs =
     let choice = c .before .before .before .before .before .before .before .before .before .before in
-    rw (which choice) (choice .before .before .before .before .before .before .before .before .before .before .before .before .before .pre .walkable)
+    rw (which choice)
+    (choice .before .before .before .before .before .before .before .before .before .before .before .before .before .pre .walkable)
 
 same-length : tie.Need-same-length
 same-length c = search needs
@@ -47,9 +49,10 @@ same-length-4 c = search needs
 
 returns : tie.Need-returns
 returns c =
+    let atWalk = c .before .before .before .before in
     let stored = c .before .before .before .before .before .before .before .before .before .before .before .before in
     let choice = stored .before .before .before in
-    placed-one (choice .relay-of .result .0) (which choice) (stored .put .ensures .0) (stored .put .ensures .1) (c .before .before .before .before .walk .ensures)
+    placed-one (choice .relay-of .result .0) (which choice) (stored .put .ensures .0) (stored .put .ensures .1) (atWalk .walk .ensures)
 
 pub place-next-spec : {M : Type 1} → statement M
 place-next-spec =

@@ -7,14 +7,18 @@ use Rattle.forests.proofs.scan.scan_in.Statement.{statement}
 use Rattle.forests.proofs.scan.scan_in.Tie as tie
 
 link-up-requires : tie.Need-link-up-requires
-link-up-requires c κs = let p = c .before .before .before .before .before .before .before .before .before .before .before .before .pre in chain-ready (p .0 .accepted) (p .1)
+link-up-requires c κs =
+    let start = c .before .before .before .before .before .before .before .before .before .before .before .before in
+    let p = start .pre in chain-ready (p .0 .accepted) (p .1)
 
 no-tops-requires : tie.Need-no-tops-requires
 no-tops-requires c κs = search needs
 
 start-keys-requires : tie.Need-start-keys-requires
 start-keys-requires c κs =
-    let s = c .before .before .before .before .before .before .before .before .before .before .before .before .before .before .before .before .before .before .before .before .before .before in
+    let s =
+    c .before .before .before .before .before .before .before .before .before .before .before .before .before .before .before .before .before .before .before .before .before .before
+    in
     let few = accepted (s .args .n) (s .args .lows .now) (s .args .highs .now) (s .pre .0 .accepted) .few in
     let none = s .pre .1 .noKeys in (
       few,
@@ -24,15 +28,19 @@ start-keys-requires c κs =
 
 place-all-requires : tie.Need-place-all-requires
 place-all-requires c κs =
-    let s = c .before .before .before .before .before .before .before .before .before .before .before .before .before .before .before .before .before .before .before .before .before .before .before .before .before .before .before .before .before .before .before .before .before in
+    let atStartKeys = c .before .before .before .before .before .before .before .before .before .before in
+    let atLinkUp = atStartKeys .before .before .before .before .before .before .before .before .before .before in
+    let s =
+    c .before .before .before .before .before .before .before .before .before .before .before .before .before .before .before .before .before .before .before .before .before .before .before .before .before .before .before .before .before .before .before .before .before
+    in
     let w = s .pre .1 in
-    let started = c .before .before .before .before .before .before .before .before .before .before .start-keys .ensures in
+    let started = atStartKeys .start-keys .ensures in
     record {
       scannable = s .pre .0;
       heads = omega (arith, w .heads);
       few = omega (arith, w .few);
       keyRoom = omega (arith, w .noKeys .room);
-      chained = c .before .before .before .before .before .before .before .before .before .before .before .before .before .before .before .before .before .before .before .before .link-up .ensures;
+      chained = atLinkUp .link-up .ensures;
       startKeys = started .0;
       topped = started .1;
     }

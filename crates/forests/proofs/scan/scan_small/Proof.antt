@@ -35,10 +35,16 @@ slice-aggregate-scan-in-4 c = search needs
 
 scan-in-requires : tie.Need-scan-in-requires
 scan-in-requires c κs =
-    let s = c .before .before .before .before .before .before .before .before .before .before .before .before .before .before .before .before in (
+    let atFewKeys = c .before .before .before .before .before .before .before in
+    let atFewNexts2 = atFewKeys .before in
+    let atFewNexts = atFewNexts2 .before in
+    let atFewHeads = atFewNexts .before in
+    let s =
+    c .before .before .before .before .before .before .before .before .before .before .before .before .before .before .before .before in (
       s .pre .0,
       workspace 128 384 128 (s .args .n) (s .pre .1) (omega arith) (s .pre .2) (omega arith) (omega arith) refl
-          (c .before .before .before .before .before .before .before .before .before .before .few-heads .ensures) (c .before .before .before .before .before .before .before .before .before .few-nexts .ensures) (c .before .before .before .before .before .before .before .before .few-nexts2 .ensures) (c .before .before .before .before .before .before .before .few-keys .ensures),
+          (atFewHeads .few-heads .ensures) (atFewNexts .few-nexts .ensures) (atFewNexts2 .few-nexts2 .ensures)
+          (atFewKeys .few-keys .ensures),
     )
 
 same-length : tie.Need-same-length

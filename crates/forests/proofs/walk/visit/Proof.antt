@@ -35,7 +35,9 @@ slice-read-key c = omega arith
 
 raised-requires : tie.Need-raised-requires
 unfolding farEnd
-raised-requires c κs = rw (c .before .before .other-end .ensures) (c .before .before .before .before .before .before .before .before .before .before .before .pre .bound)
+raised-requires c κs =
+    let start = c .before .before .before .before .before .before .before .before .before .before .before in
+    rw (c .before .before .other-end .ensures) (start .pre .bound)
 
 put-key-requires : tie.Need-put-key-requires
 unfolding farEnd
@@ -55,7 +57,10 @@ slice-read-number c = search needs
 
 number-requires : tie.Need-number-requires
 unfolding farEnd
-number-requires c κs = rw (c .before .before .before .before .before .before .before .before .before .other-end .ensures) (c .before .before .before .before .before .before .before .before .before .before .before .before .before .before .before .before .before .before .pre .bound)
+number-requires c κs =
+    let atOtherEnd = c .before .before .before .before .before .before .before .before .before in
+    let start = atOtherEnd .before .before .before .before .before .before .before .before .before in
+    rw (atOtherEnd .other-end .ensures) (start .pre .bound)
 
 mul-forests-3 : tie.Need-mul-forests-3
 mul-forests-3 c = search needs

@@ -17,7 +17,9 @@ cast-at : tie.Need-cast-at Inv-loop μ-loop
 cast-at c = omega arith
 
 clear-key-requires : tie.Need-clear-key-requires Inv-loop μ-loop
-clear-key-requires c κs = let p = c .before .before .before .before .before .before .before .before .before .before .pre in (omega (arith, p .relay, p .keyRoom), p .topped)
+clear-key-requires c κs =
+    let start = c .before .before .before .before .before .before .before .before .before .before in
+    let p = start .pre in (omega (arith, p .relay, p .keyRoom), p .topped)
 
 mul-wide : tie.Need-mul-wide Inv-loop μ-loop
 mul-wide c = omega arith
@@ -31,13 +33,15 @@ wide-requires c κs = tt
 loop-holds : tie.Need-loop-holds Inv-loop μ-loop
 loop-holds c =
     let cleared = c .before .before .before .before in
-    walk-starts (cleared .before .before .before .before .before .before .before .before .before .before .before .pre) (cleared .clear-key .ensures) (c .wide .result) (c .wide .ensures)
+    walk-starts (cleared .before .before .before .before .before .before .before .before .before .before .before .pre)
+    (cleared .clear-key .ensures) (c .wide .result) (c .wide .ensures)
 
 visit-requires : tie.Need-visit-requires Inv-loop μ-loop
 visit-requires c κs =
     let at = c .before .before .before .before in
     let cleared = at .before .before .before .before .before in
-    walk-visits (cleared .before .before .before .before .before .before .before .before .before .before .before .pre) (cleared .clear-key .ensures) (at .loop .i) (omega arith) (at .loop .inv)
+    walk-visits (cleared .before .before .before .before .before .before .before .before .before .before .before .pre)
+    (cleared .clear-key .ensures) (at .loop .i) (omega arith) (at .loop .inv)
 
 moved : (c : tie.After-slice-known5 Inv-loop μ-loop)
     → let at = c .before .before .before .before .before .before .before .before .before in
@@ -48,10 +52,12 @@ moved : (c : tie.After-slice-known5 Inv-loop μ-loop)
     × Walking (a .lows .now) (a .highs .now) (a .x .0) (visited .result) (cleared .clear-key .last .1 .0)
     (visited .last .1 .1 .1 .1 .1 .1 .0) (visited .last .1 .1 .1 .1 .1 .1 .1 .0) (a .forests .now) (visited .last .1 .1 .1 .1 .1 .1 .1 .1 .0)
 moved c =
+    let atVisit = c .before .before .before .before in
     let at = c .before .before .before .before .before .before .before .before .before in
     let cleared = at .before .before .before .before .before in
-    let visited = c .before .before .before .before .visit in
-    walk-moves (cleared .before .before .before .before .before .before .before .before .before .before .before .pre) (cleared .clear-key .ensures) (at .loop .i) (omega arith) (at .loop .inv) (visited .result) (visited .ensures)
+    let visited = atVisit .visit in
+    walk-moves (cleared .before .before .before .before .before .before .before .before .before .before .before .pre)
+    (cleared .clear-key .ensures) (at .loop .i) (omega arith) (at .loop .inv) (visited .result) (visited .ensures)
 
 loop-less : tie.Need-loop-less Inv-loop μ-loop
 loop-less c = omega (arith, moved c .0)
@@ -70,7 +76,8 @@ same-length-2 c = c .before .loop .inv .2 .long
 returns : tie.Need-returns Inv-loop μ-loop
 returns c =
     let cleared = c .before .before .before .before .before .before in
-    let p : c .before .loop .i ≡ length (cleared .before .before .before .before .before .before .before .before .before .before .before .args .lows .now) = omega arith in
+    let p : c .before .loop .i ≡ length
+    (cleared .before .before .before .before .before .before .before .before .before .before .before .args .lows .now) = omega arith in
     (rw (p, cleared .clear-key .ensures .stored) at (c .before .loop .inv .2), c .before .loop .inv .3)
 
 pub walk-spec : {M : Type 1} → statement M
