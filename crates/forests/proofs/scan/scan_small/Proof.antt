@@ -35,10 +35,14 @@ slice-aggregate-scan-in-4 c = search needs
 
 scan-in-requires : tie.Need-scan-in-requires
 scan-in-requires c κs =
-    let s = c .before .before .before .before .before .before .before .before .before .before .before .before .before .before .before .before in (
+    let keys = c .before .before .before .before .before .before .before in
+    let high = keys .before in
+    let low = high .before in
+    let first = low .before in
+    let s = first .before .before .before .before .before .before in (
       s .pre .0,
       workspace 128 384 128 (s .args .n) (s .pre .1) (omega arith) (s .pre .2) (omega arith) (omega arith) refl
-          (c .before .before .before .before .before .before .before .before .before .before .few-heads .ensures) (c .before .before .before .before .before .before .before .before .before .few-nexts .ensures) (c .before .before .before .before .before .before .before .before .few-nexts2 .ensures) (c .before .before .before .before .before .before .before .few-keys .ensures),
+          (first .few-heads .ensures) (low .few-nexts .ensures) (high .few-nexts2 .ensures) (keys .few-keys .ensures),
     )
 
 same-length : tie.Need-same-length
