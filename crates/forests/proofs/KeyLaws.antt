@@ -29,7 +29,8 @@ pub number-some : (key old : ℕ) → 0 < key → numberOf key old ≡ key / 102
 unfolding numberOf
 number-some key old h = rw (ne-eqb key 0 (λ e. omega arith))
 
-pub no-keys : (size n : ℕ) (keys : List ℕ) → n ≤ size → size ≤ 1024 → size % 32 ≡ 0 → keys ≡ replicate size 0 → NoKeys n keys
+pub no-keys : (size n : ℕ) (keys : List ℕ) → n ≤ size → size ≤ 1024 → size % 32 ≡ 0 → keys ≡ replicate size 0
+    → NoKeys n keys
 no-keys size n keys room few full e =
     let long : length keys ≡ size = ap length e ∙ length-replicate {A = ℕ} size 0 in
     record {

@@ -28,21 +28,18 @@ start-keys-requires c κs =
 
 place-all-requires : tie.Need-place-all-requires
 place-all-requires c κs =
-    let atStartKeys = c .before .before .before .before .before .before .before .before .before .before in
-    let atLinkUp = atStartKeys .before .before .before .before .before .before .before .before .before .before in
-    let s =
-    c .before .before .before .before .before .before .before .before .before .before .before .before .before .before .before .before .before .before .before .before .before .before .before .before .before .before .before .before .before .before .before .before .before
-    in
+    let started = c .before .before .before .before .before .before .before .before .before .before in
+    let chained = started .before .before .before .before .before .before .before .before .before .before in
+    let s = chained .before .before .before .before .before .before .before .before .before .before .before .before .before in
     let w = s .pre .1 in
-    let started = atStartKeys .start-keys .ensures in
     record {
       scannable = s .pre .0;
       heads = omega (arith, w .heads);
       few = omega (arith, w .few);
       keyRoom = omega (arith, w .noKeys .room);
-      chained = atLinkUp .link-up .ensures;
-      startKeys = started .0;
-      topped = started .1;
+      chained = chained .link-up .ensures;
+      startKeys = started .start-keys .ensures .0;
+      topped = started .start-keys .ensures .1;
     }
 
 same-length : tie.Need-same-length

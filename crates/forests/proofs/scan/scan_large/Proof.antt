@@ -38,16 +38,15 @@ slice-aggregate-scan-in-4 c = search needs
 
 scan-in-requires : tie.Need-scan-in-requires
 scan-in-requires c κs =
-    let atNoKeys = c .before .before .before .before .before .before .before in
-    let atNoNexts2 = atNoKeys .before in
-    let atNoNexts = atNoNexts2 .before in
-    let atNoHeads = atNoNexts .before in
-    let s =
-    c .before .before .before .before .before .before .before .before .before .before .before .before .before .before .before .before in
+    let keys = c .before .before .before .before .before .before .before in
+    let high = keys .before in
+    let low = high .before in
+    let first = low .before in
+    let s = first .before .before .before .before .before .before in
     let t = accepted (s .args .n) (s .args .lows .now) (s .args .highs .now) (s .pre .accepted) in (
       s .pre,
       workspace 1000 3000 1024 (s .args .n) (t .few) (omega arith) (t .short) (omega arith) (omega arith) refl
-          (atNoHeads .no-heads .ensures) (atNoNexts .no-nexts .ensures) (atNoNexts2 .no-nexts2 .ensures) (atNoKeys .no-keys .ensures),
+          (first .no-heads .ensures) (low .no-nexts .ensures) (high .no-nexts2 .ensures) (keys .no-keys .ensures),
     )
 
 same-length : tie.Need-same-length

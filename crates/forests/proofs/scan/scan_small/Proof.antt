@@ -35,16 +35,14 @@ slice-aggregate-scan-in-4 c = search needs
 
 scan-in-requires : tie.Need-scan-in-requires
 scan-in-requires c κs =
-    let atFewKeys = c .before .before .before .before .before .before .before in
-    let atFewNexts2 = atFewKeys .before in
-    let atFewNexts = atFewNexts2 .before in
-    let atFewHeads = atFewNexts .before in
-    let s =
-    c .before .before .before .before .before .before .before .before .before .before .before .before .before .before .before .before in (
+    let keys = c .before .before .before .before .before .before .before in
+    let high = keys .before in
+    let low = high .before in
+    let first = low .before in
+    let s = first .before .before .before .before .before .before in (
       s .pre .0,
       workspace 128 384 128 (s .args .n) (s .pre .1) (omega arith) (s .pre .2) (omega arith) (omega arith) refl
-          (atFewHeads .few-heads .ensures) (atFewNexts .few-nexts .ensures) (atFewNexts2 .few-nexts2 .ensures)
-          (atFewKeys .few-keys .ensures),
+          (first .few-heads .ensures) (low .few-nexts .ensures) (high .few-nexts2 .ensures) (keys .few-keys .ensures),
     )
 
 same-length : tie.Need-same-length
