@@ -23,7 +23,7 @@ use lib.Seq.{getD-set-same, getD-set-other, getD-take, getD-drop, ext-getD, leng
 use Rattle.definitions.specs.Lists.{greatest}
 use Rattle.lists.specs.Greatest.{greatest-above, greatest-at}
 use Rattle.forests.specs.Keys.{NoKeys}
-use Rattle.forests.specs.Tops.{block, Tops, Stored}
+use Rattle.forests.specs.Tops.{block, blocksOf, Tops, Stored}
 
 -- One block.
 module _ (keys : List ℕ) (b : ℕ) where
@@ -65,42 +65,53 @@ module _ (keys : List ℕ) (b : ℕ) where
           (b * 32 + i, omega arith, sym (block-at i h) ∙ g .2)
       go (no p) = (b * 32, omega arith, List·getD-eq-default keys 0 (omega arith) ∙ sym (block-past (omega arith)))
 
--- The greatest of the tops is the greatest key.
-pub tops-greatest : {keys tops : List ℕ} (n : ℕ) → n ≤ length keys → ((r : ℕ) → n ≤ r → getD keys r 0 ≡ 0) → Tops keys tops
-    → greatest tops ≡ greatest (take n keys)
-unfolding greatest
-tops-greatest {keys} {tops} n few rest t = omega (arith, low, high n few refl)
+-- The greatest of the tops in use is the greatest key.
+some-greatest : {keys tops : List ℕ} (n : ℕ) → 0 < n → n ≤ length keys → ((r : ℕ) → n ≤ r → getD keys r 0 ≡ 0) → Tops keys tops
+    → greatest (take (blocksOf n) tops) ≡ greatest (take n keys)
+some-greatest {keys} {tops} n some few rest t = omega (arith, low, high)
   where
-    low : greatest tops ≤ greatest (take n keys)
+    used : List ℕ
+    used = take (blocksOf n) tops
+
+    size : length used ≡ blocksOf n
+    size = length-take-le (blocksOf n) tops (omega (arith, t .room, t .few))
+
+    low : greatest used ≤ greatest (take n keys)
     low =
-        let g = greatest-at tops (omega (arith, t .room)) in
+        let g = greatest-at used (omega (arith, size)) in
         let b = g .0 in
-        let h : b < 32 = omega (arith, g .1, t .room) in
+        let h : b < blocksOf n = omega (arith, g .1, size) in
         let k = top-at keys b in
-        go (k .0) (decLt (k .0) n) (k .2 ∙ sym (t .top b h) ∙ g .2)
+        go (k .0) (decLt (k .0) n)
+        (k .2 ∙ sym (t .top b (omega (arith, t .room, t .few))) ∙ sym (getD-take (blocksOf n) tops b 0 h) ∙ g .2)
       where
-        go : (r : ℕ) → Dec (r < n) → getD keys r 0 ≡ greatest tops → greatest tops ≤ greatest (take n keys)
+        go : (r : ℕ) → Dec (r < n) → getD keys r 0 ≡ greatest used → greatest used ≤ greatest (take n keys)
         go r (yes p) e =
             omega (arith, greatest-above (take n keys) r (omega (arith, length-take-le n keys few)), getD-take n keys r 0 p)
         go r (no p) e = omega (arith, rest r (omega arith))
 
-    high : (k : ℕ) → k ≤ length keys → k ≡ n → greatest (take k keys) ≤ greatest tops
-    high zero p e = omega arith
-    high (suc k) p e =
-        let long = length-take-le (suc k) keys p in
-        let g = greatest-at (take (suc k) keys) (omega arith) in
+    high : greatest (take n keys) ≤ greatest used
+    high =
+        let g = greatest-at (take n keys) (omega (arith, length-take-le n keys few)) in
         let r = g .0 in
-        let h : r < suc k = omega (arith, g .1) in
+        let h : r < n = omega (arith, g .1, length-take-le n keys few) in
         let b = r / 32 in
-        let w : b < 32 = omega (arith, t .few) in
+        let w : b < blocksOf n = omega arith in
         omega (
           arith,
           g .2,
-          getD-take (suc k) keys r 0 h,
+          getD-take n keys r 0 h,
           top-above keys b r refl,
-          t .top b w,
-          greatest-above tops b (omega (arith, t .room)),
+          t .top b (omega (arith, t .few)),
+          getD-take (blocksOf n) tops b 0 w,
+          greatest-above used b (omega (arith, size)),
         )
+
+pub tops-greatest : {keys tops : List ℕ} (n : ℕ) → n ≤ length keys → ((r : ℕ) → n ≤ r → getD keys r 0 ≡ 0) → Tops keys tops
+    → greatest (take (blocksOf n) tops) ≡ greatest (take n keys)
+unfolding greatest
+tops-greatest zero few rest t = refl
+tops-greatest (suc n) few rest t = some-greatest (suc n) (omega arith) few rest t
 
 -- No relay waits yet.
 pub tops-none : {n : ℕ} {keys : List ℕ} (tops : List ℕ) → NoKeys n keys → tops ≡ replicate 32 0 → Tops keys tops

@@ -8,7 +8,7 @@ use crate::keys::few_keys;
 use crate::keys::no_keys;
 use crate::keys::relay_of;
 use crate::keys::start_keys;
-use crate::tops::greatest_key;
+use crate::tops::greatest_of;
 use crate::tops::no_tops;
 use crate::walk::walk;
 use network::Place;
@@ -65,7 +65,7 @@ fn place_next(
         (now (relays .entry)) (now (relays .exit)) (now (places .entry)) (now (places .exit))
         (now (forests .entry)) (now (forests .exit)) ⌝ }
 {
-    let x = relay_of(greatest_key(tops));
+    let x = relay_of(greatest_of(n, tops));
     put(x, v, relays, places);
     walk(
         x,

@@ -1,9 +1,9 @@
-// Keys over two levels: of each block of 32 keys the greatest is kept, so that the greatest of all is found by 32 looks.
+// Keys over two levels: of each block of 32 keys the greatest is kept, so that the greatest of all is found by a look at each block.
 ghost use Prim.Native.Nat.{max, _+_, _*_, _<_, _≤_};
 ghost use mathlib.Core.Path.{_≡_};
-ghost use lib.ListN.{length, getD, replicate};
+ghost use lib.ListN.{length, getD, replicate, take};
 ghost use Rattle.definitions.specs.Lists.{greatest};
-ghost use Rattle.forests.specs.Tops.{block, Tops, Stored};
+ghost use Rattle.forests.specs.Tops.{block, blocksOf, Tops, Stored};
 
 pub fn no_tops() -> [u32; 32]
     ensures { λ r. ⌜ r ≡ replicate 32 0 ⌝ }
@@ -17,18 +17,26 @@ fn larger(a: u32, b: u32) -> u32
     if a < b { b } else { a }
 }
 
-// The greatest of 32 keys.
-pub fn greatest_key(keys: &[u32]) -> u32
-    requires { ⌜ length (now keys) ≡ 32 ⌝ }
+// The greatest of some keys, 0 of none.
+fn greatest_key(keys: &[u32]) -> u32
     ensures { λ r. ⌜ r ≡ greatest (now (keys .entry)) ⌝ }
 {
     let mut best = 0;
     let mut i = 0;
-    while i < 32 {
+    while i < keys.len() {
         best = larger(best, keys[i]);
         i += 1;
     }
     best
+}
+
+// The greatest key of n relays, by their blocks.
+pub fn greatest_of(n: u16, tops: &[u32]) -> u32
+    requires { ⌜ (n ≤ 1024) × (length (now tops) ≡ 32) ⌝ }
+    ensures { λ r. ⌜ r ≡ greatest (take (blocksOf n) (now (tops .entry))) ⌝ }
+{
+    let blocks = (n as usize + 31) / 32;
+    greatest_key(&tops[..blocks])
 }
 
 // The key at `at` becomes `key`, which is no smaller.

@@ -1,5 +1,6 @@
 -- The relay with the greatest key gets its place, and its links are walked. Assumes nothing.
 use mathlib.Core.Path.{_≡_, _∙_, ap}
+use native.Mathlib.Omega.{arith}
 use Rattle.forests.specs.Keys.{relayOf}
 use Rattle.forests.specs.Scan.{chosen}
 use Rattle.forests.proofs.TopLaws.{tops-greatest}
@@ -15,10 +16,13 @@ unfolding chosen
 which c =
     let s = c .before .before .before .before .before .before .before .before .before .before .before .before .before in
     let most = tops-greatest (s .args .n) (s .pre .keyRoom) (s .pre .rest) (s .pre .walkable .topped) in
-    c .relay-of .ensures ∙ ap relayOf (c .before .greatest-key .ensures ∙ most)
+    c .relay-of .ensures ∙ ap relayOf (c .before .greatest-of .ensures ∙ most)
 
-greatest-key-requires : tie.Need-greatest-key-requires
-greatest-key-requires c κs = search needs
+greatest-of-requires : tie.Need-greatest-of-requires
+greatest-of-requires c κs =
+    let start = c .before .before .before .before .before .before .before .before .before .before .before in
+    let tops = start .pre .walkable .topped in
+    (omega (arith, start .pre .keyRoom, tops .few), tops .room)
 
 relay-of-requires : tie.Need-relay-of-requires
 relay-of-requires c κs = search needs
@@ -58,7 +62,7 @@ pub place-next-spec : {M : Type 1} → statement M
 place-next-spec =
     tie.close
     (tie.spec
-    greatest-key-requires
+    greatest-of-requires
     relay-of-requires
     put-requires
     walk-requires

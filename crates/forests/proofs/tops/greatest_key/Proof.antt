@@ -3,7 +3,7 @@ use Prim.Native.Nat.{max, _≤_, _-_}
 use mathlib.Core.Path.{_≡_, refl, sym, _∙_, ap}
 use native.Mathlib.Numerals.{add-one}
 use native.Mathlib.Omega.{arith}
-use lib.ListN.{take, getD}
+use lib.ListN.{length, take, getD}
 use lib.Seq.{take-all}
 use Rattle.definitions.specs.Lists.{greatest}
 use Rattle.lists.specs.Greatest.{greatest-next}
@@ -11,10 +11,10 @@ use Rattle.forests.proofs.tops.greatest_key.Statement.{statement}
 use Rattle.forests.proofs.tops.greatest_key.Tie as tie
 
 abbrev Inv-loop : tie.InvT-loop
-Inv-loop keys best₀ i₀ best i = (i ≤ 32) × (best ≡ greatest (take i keys))
+Inv-loop keys best₀ i₀ best i = (i ≤ length keys) × (best ≡ greatest (take i keys))
 
 abbrev μ-loop : tie.MeasureT-loop
-μ-loop keys best₀ i₀ best i = 32 - i
+μ-loop keys best₀ i₀ best i = length keys - i
 
 loop-holds : tie.Need-loop-holds Inv-loop μ-loop
 unfolding greatest
