@@ -4,6 +4,7 @@ use mathlib.Core.List.{List}
 use mathlib.Core.Path.{_≡_, refl, sym, _∙_, ap}
 use native.Mathlib.Decide.{ℕ-discrete, decLt}
 use native.Mathlib.Omega.{arith}
+use borrow.Author.Tests.{lt-ltb, le-ltb}
 use lib.ListN.{
   length,
   getD,
@@ -65,53 +66,71 @@ module _ (keys : List ℕ) (b : ℕ) where
           (b * 32 + i, omega arith, sym (block-at i h) ∙ g .2)
       go (no p) = (b * 32, omega arith, List·getD-eq-default keys 0 (omega arith) ∙ sym (block-past (omega arith)))
 
--- The greatest of the tops in use is the greatest key.
-some-greatest : {keys tops : List ℕ} (n : ℕ) → 0 < n → n ≤ length keys → ((r : ℕ) → n ≤ r → getD keys r 0 ≡ 0) → Tops keys tops
-    → greatest (take (blocksOf n) tops) ≡ greatest (take n keys)
-some-greatest {keys} {tops} n some few rest t = omega (arith, low, high)
+-- The blocks that are looked at for n relays.
+pub blocks-many : (n : ℕ) → 128 < n → blocksOf n ≡ 32
+unfolding blocksOf
+blocks-many n h = rw (lt-ltb 128 n h)
+
+pub blocks-few : (n : ℕ) → n ≤ 128 → blocksOf n ≡ 4
+unfolding blocksOf
+blocks-few n h = rw (le-ltb 128 n h)
+
+blocks-cover : (n : ℕ) → n ≤ 1024 → (n ≤ blocksOf n * 32) × (blocksOf n ≤ 32) × (0 < blocksOf n)
+blocks-cover n most = go (decLt 128 n)
+  where
+    go : Dec (128 < n) → (n ≤ blocksOf n * 32) × (blocksOf n ≤ 32) × (0 < blocksOf n)
+    go (yes p) = omega (arith, blocks-many n p)
+    go (no p) = omega (arith, blocks-few n (omega arith))
+
+-- The greatest of the first tops is the greatest key of the relays in their blocks.
+first-greatest : {keys tops : List ℕ} (n blocks : ℕ) → 0 < blocks → blocks ≤ 32 → n ≤ blocks * 32 → n ≤ length keys
+    → ((r : ℕ) → n ≤ r → getD keys r 0 ≡ 0) → Tops keys tops → greatest (take blocks tops) ≡ greatest (take n keys)
+unfolding greatest
+first-greatest {keys} {tops} n blocks some most cover few rest t = omega (arith, low, high n few refl)
   where
     used : List ℕ
-    used = take (blocksOf n) tops
+    used = take blocks tops
 
-    size : length used ≡ blocksOf n
-    size = length-take-le (blocksOf n) tops (omega (arith, t .room, t .few))
+    size : length used ≡ blocks
+    size = length-take-le blocks tops (omega (arith, t .room))
 
     low : greatest used ≤ greatest (take n keys)
     low =
         let g = greatest-at used (omega (arith, size)) in
         let b = g .0 in
-        let h : b < blocksOf n = omega (arith, g .1, size) in
+        let h : b < blocks = omega (arith, g .1, size) in
         let k = top-at keys b in
-        go (k .0) (decLt (k .0) n)
-        (k .2 ∙ sym (t .top b (omega (arith, t .room, t .few))) ∙ sym (getD-take (blocksOf n) tops b 0 h) ∙ g .2)
+        go (k .0) (decLt (k .0) n) (k .2 ∙ sym (t .top b (omega arith)) ∙ sym (getD-take blocks tops b 0 h) ∙ g .2)
       where
         go : (r : ℕ) → Dec (r < n) → getD keys r 0 ≡ greatest used → greatest used ≤ greatest (take n keys)
         go r (yes p) e =
             omega (arith, greatest-above (take n keys) r (omega (arith, length-take-le n keys few)), getD-take n keys r 0 p)
         go r (no p) e = omega (arith, rest r (omega arith))
 
-    high : greatest (take n keys) ≤ greatest used
-    high =
-        let g = greatest-at (take n keys) (omega (arith, length-take-le n keys few)) in
+    high : (k : ℕ) → k ≤ length keys → k ≡ n → greatest (take k keys) ≤ greatest used
+    high zero p e = omega arith
+    high (suc k) p e =
+        let long = length-take-le (suc k) keys p in
+        let g = greatest-at (take (suc k) keys) (omega arith) in
         let r = g .0 in
-        let h : r < n = omega (arith, g .1, length-take-le n keys few) in
+        let h : r < suc k = omega (arith, g .1) in
         let b = r / 32 in
-        let w : b < blocksOf n = omega arith in
+        let w : b < blocks = omega arith in
         omega (
           arith,
           g .2,
-          getD-take n keys r 0 h,
+          getD-take (suc k) keys r 0 h,
           top-above keys b r refl,
-          t .top b (omega (arith, t .few)),
-          getD-take (blocksOf n) tops b 0 w,
+          t .top b (omega arith),
+          getD-take blocks tops b 0 w,
           greatest-above used b (omega (arith, size)),
         )
 
 pub tops-greatest : {keys tops : List ℕ} (n : ℕ) → n ≤ length keys → ((r : ℕ) → n ≤ r → getD keys r 0 ≡ 0) → Tops keys tops
     → greatest (take (blocksOf n) tops) ≡ greatest (take n keys)
-unfolding greatest
-tops-greatest zero few rest t = refl
-tops-greatest (suc n) few rest t = some-greatest (suc n) (omega arith) few rest t
+tops-greatest n few rest t =
+    let cover = blocks-cover n (omega (arith, t .few)) in
+    first-greatest n (blocksOf n) (cover .2) (cover .1) (cover .0) few rest t
 
 -- No relay waits yet.
 pub tops-none : {n : ℕ} {keys : List ℕ} (tops : List ℕ) → NoKeys n keys → tops ≡ replicate 32 0 → Tops keys tops

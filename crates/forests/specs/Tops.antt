@@ -1,17 +1,19 @@
 -- Keys over two levels: beside at most 1,024 keys stands the greatest of each block of 32. Assumes nothing.
-use Prim.Native.Nat.{ℕ, _+_, _*_, _/_, _%_, _≤_, _<_}
+use Prim.Native.Nat.{ℕ, _*_, _%_, _≤_, _<_}
 use mathlib.Core.List.{List}
 use mathlib.Core.Path.{_≡_}
+use lib.Dec.{ltb}
 use lib.ListN.{length, getD, set, take, drop}
+use Rattle.definitions.specs.Outcome.{pick}
 use Rattle.definitions.specs.Lists.{greatest}
 
 -- The keys of block b.
 unfoldable pub block : List ℕ → ℕ → List ℕ
 block keys b = take 32 (drop (b * 32) keys)
 
--- How many blocks the first n keys lie in.
-abbrev pub blocksOf : ℕ → ℕ
-blocksOf n = (n + 31) / 32
+-- How many blocks are looked at for n relays.
+unfoldable pub blocksOf : ℕ → ℕ
+blocksOf n = pick (ltb 128 n) 32 4
 
 -- Each of the 32 tops is the greatest key of its block.
 pub record Tops (keys tops : List ℕ) : Type 0 where

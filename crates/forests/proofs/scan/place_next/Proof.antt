@@ -1,6 +1,5 @@
 -- The relay with the greatest key gets its place, and its links are walked. Assumes nothing.
 use mathlib.Core.Path.{_≡_, _∙_, ap}
-use native.Mathlib.Omega.{arith}
 use Rattle.forests.specs.Keys.{relayOf}
 use Rattle.forests.specs.Scan.{chosen}
 use Rattle.forests.proofs.TopLaws.{tops-greatest}
@@ -19,10 +18,7 @@ which c =
     c .relay-of .ensures ∙ ap relayOf (c .before .greatest-of .ensures ∙ most)
 
 greatest-of-requires : tie.Need-greatest-of-requires
-greatest-of-requires c κs =
-    let start = c .before .before .before .before .before .before .before .before .before .before .before in
-    let tops = start .pre .walkable .topped in
-    (omega (arith, start .pre .keyRoom, tops .few), tops .room)
+greatest-of-requires c κs = c .before .before .before .before .before .before .before .before .before .before .before .pre .walkable .topped .room
 
 relay-of-requires : tie.Need-relay-of-requires
 relay-of-requires c κs = search needs
