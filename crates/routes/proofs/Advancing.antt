@@ -1,5 +1,5 @@
 -- Path j of one side goes on from v to its left entry, if it ends at v and the other side's path j does not: what the side
--- holds then. All relays of the side's paths but their ends are above v. Over sides of 1,067 entries.
+-- holds then. All relays of the side's paths but their ends are above v. Over sides with room for v.
 use Prim.Native.Nat.{ℕ, _+_, _≤_, _<_}
 use mathlib.Core.Bool.{Bool, true, false}
 use mathlib.Core.List.{List, _∷_, tail}
@@ -17,14 +17,14 @@ use Rattle.routes.specs.Side.{endIn, secondIn, priorIn, extendPath, adva
 use Rattle.routes.proofs.Held.{Chain, HeldPath, SideHeld, held-end, held-chain, chain-same, held-same, length-setPath, prior-setPath, held-setPath-other, held-setPath, end-setPrior, second-setPrior, prior-setPrior, prior-setPrior-other}
 use Rattle.routes.proofs.Trades.{held-whole}
 
-module _ (look : ℕ → ℕ → ℕ) (k c v j : ℕ) (side : List ℕ) (paths : ℕ → List ℕ) (small : k ≤ 32) (some : 0 < v) (high : v ≤ 1000)
-    (off : v ≢ c) (one : 1 ≤ j) (bound : j ≤ k) (held : SideHeld k c side paths)
+module _ (look : ℕ → ℕ → ℕ) (reach k c v j : ℕ) (side : List ℕ) (paths : ℕ → List ℕ) (small : k ≤ 32) (some : 0 < v) (high : v ≤ reach)
+    (off : v ≢ c) (one : 1 ≤ j) (bound : j ≤ k) (held : SideHeld reach k c side paths)
     (tails : (i : ℕ) → 1 ≤ i → i ≤ k → (w : ℕ) → has (tail (paths i)) w ≡ true → v < w) where
   abbrev stored : List ℕ
   stored = set side (66 + v) (secondIn side j)
 
-  stored-long : length stored ≡ 1067
-  stored-long = length-set side (66 + v) (secondIn side j) ∙ held .long
+  stored-long : 66 + reach < length stored
+  stored-long = omega (arith, length-set side (66 + v) (secondIn side j), held .long)
 
   -- A store at v changes no path that has v as its end at most.
   stored-held : (i : ℕ) → 1 ≤ i → i ≤ k → HeldPath stored i (paths i)
@@ -42,7 +42,7 @@ module _ (look : ℕ → ℕ → ℕ) (k c v j : ℕ) (side : List ℕ) (paths :
   extend-chain = (
     refl,
     some,
-    subst (λ (x : ℕ). Chain stored x (tail (paths j))) (sym (prior-setPrior side v (secondIn side j) (held .long) high))
+    subst (λ (x : ℕ). Chain stored x (tail (paths j))) (sym (prior-setPrior side v (secondIn side j) (omega (arith, held .long))))
         (chain-same side stored (secondIn side j) (tail (paths j))
         (λ y into. prior-setPrior-other side v (secondIn side j) y (λ e. omega (arith, tails j one bound y into)))
         (held-chain side j (paths j) (held .held j one bound))),
@@ -54,11 +54,11 @@ module _ (look : ℕ → ℕ → ℕ) (k c v j : ℕ) (side : List ℕ) (paths :
       subst (λ (p : List ℕ). HeldPath (extendPath look v j side) j (look j v ∷ p))
       (ap (λ (x : ℕ). x ∷ tail (paths j)) (sym at ∙ sym (held-end side j (paths j) (held .held j one bound)))
       ∙ held-whole side j (paths j) (held .held j one bound))
-      (held-setPath stored j (look j v) v stored-long (omega arith) (v ∷ tail (paths j)) extend-chain)
+      (held-setPath stored j (look j v) v (omega (arith, stored-long)) (omega arith) (v ∷ tail (paths j)) extend-chain)
 
-  extend-long : length (extendPath look v j side) ≡ 1067
+  extend-long : 66 + reach < length (extendPath look v j side)
   unfolding extendPath
-  extend-long = length-setPath stored j (look j v) v ∙ stored-long
+  extend-long = omega (arith, length-setPath stored j (look j v) v, stored-long)
 
   extend-base : priorIn (extendPath look v j side) c ≡ 0
   unfolding extendPath
@@ -70,7 +70,7 @@ module _ (look : ℕ → ℕ → ℕ) (k c v j : ℕ) (side : List ℕ) (paths :
       (goes : endOf (paths j) ≡ v → other ≢ v → new j ≡ look j v ∷ paths j)
       (meets : endOf (paths j) ≡ v → other ≡ v → new j ≡ paths j)
       (waits : endOf (paths j) ≢ v → new j ≡ paths j) where
-    keeps : new j ≡ paths j → SideHeld k c side new
+    keeps : new j ≡ paths j → SideHeld reach k c side new
     keeps same =
         record {
           long = held .long;
@@ -81,7 +81,7 @@ module _ (look : ℕ → ℕ → ℕ) (k c v j : ℕ) (side : List ℕ) (paths :
               (held .held i positive within);
         }
 
-    longer : endOf (paths j) ≡ v → other ≢ v → SideHeld k c (extendPath look v j side) new
+    longer : endOf (paths j) ≡ v → other ≢ v → SideHeld reach k c (extendPath look v j side) new
     longer at apart =
         record {
           long = extend-long;
@@ -94,7 +94,7 @@ module _ (look : ℕ → ℕ → ℕ) (k c v j : ℕ) (side : List ℕ) (paths :
               (λ e. subst (λ (p : List ℕ). HeldPath (extendPath look v j side) i p) (sym (rest i e)) (extend-other i positive within e));
         }
 
-    pub advance-held : SideHeld k c (advance look v j other side) new
+    pub advance-held : SideHeld reach k c (advance look v j other side) new
     unfolding advance
     advance-held = go (eqb (endIn side j) v) (eqb other v) refl refl
       where
@@ -102,7 +102,7 @@ module _ (look : ℕ → ℕ → ℕ) (k c v j : ℕ) (side : List ℕ) (paths :
         end = held-end side j (paths j) (held .held j one bound)
 
         go : (a b : Bool) → eqb (endIn side j) v ≡ a → eqb other v ≡ b
-            → SideHeld k c (pick a (pick b side (extendPath look v j side)) side) new
+            → SideHeld reach k c (pick a (pick b side (extendPath look v j side)) side) new
         go true true ea eb = keeps (meets (sym end ∙ eqb-true (endIn side j) v ea) (eqb-true other v eb))
         go true false ea eb = longer (sym end ∙ eqb-true (endIn side j) v ea) (eqb-false other v eb)
         go false true ea eb = keeps (waits (λ e. eqb-false (endIn side j) v ea (end ∙ e)))

@@ -8,7 +8,7 @@ use mathlib.Core.Path.{_≡_, refl, sym, _∙_, ap, fun-ext}
 use native.Mathlib.Decide.{decLt}
 use native.Mathlib.Omega.{arith}
 use borrow.Author.Tests.{lt-ltb, le-ltb}
-use lib.ListN.{length, getD, drop, replicate, length-append, length-map}
+use lib.ListN.{length, getD, drop, length-append, length-map}
 use lib.Seq.{sets, getD-drop}
 use Rattle.definitions.specs.Lists.{overwrite, joinAll}
 use Rattle.definitions.specs.Order.{orderOf, placeOf, relayAt}
@@ -22,11 +22,10 @@ use Rattle.theory.specs.RelayTrees.{places-differ}
 use Rattle.theory.specs.PlaceRoutes.{RoutesWithin}
 use Rattle.theory.specs.SweepRoutes.{routes-between}
 use Rattle.forests.specs.Left.{LeftTable}
-use Rattle.routes.specs.Side.{leftIn}
+use Rattle.routes.specs.Side.{leftIn, NoPaths}
 use Rattle.routes.specs.Writing.{Written, written}
-use Rattle.routes.specs.Between.{joinedIn, sidesIn, fallIn, riseIn, betweenIn}
+use Rattle.routes.specs.Between.{joinedIn, fallIn, riseIn, betweenIn}
 use Rattle.routes.proofs.Stores.{sets-overwrite}
-use Rattle.routes.proofs.Swept.{zeros-entry}
 use Rattle.routes.proofs.Routed.{routed-down, routed-up}
 use Rattle.routes.proofs.OneTree.{table-left, joined-tree, joined-falls, joined-rises}
 
@@ -36,12 +35,11 @@ front-entry [] rest i none = none i
 front-entry (x ∷ new) rest zero none = refl
 front-entry (x ∷ new) rest (suc i) none = front-entry new rest i none
 
-pub front-relays : (order : List ℕ) (size : ℕ) → relayAt (overwrite order (replicate size 0)) ≡ relayAt order
+pub front-relays : (order list : List ℕ) → ((i : ℕ) → getD list i 0 ≡ 0) → relayAt (overwrite order list) ≡ relayAt order
 unfolding relayAt overwrite
-front-relays order size =
+front-relays order list none =
     fun-ext λ v.
-    front-entry order (drop (length order) (replicate size 0)) (pred v)
-    (λ j. getD-drop (length order) (replicate size 0) j 0 ∙ zeros-entry size (length order + j))
+    front-entry order (drop (length order) list) (pred v) (λ j. getD-drop (length order) list j 0 ∙ none (length order + j))
 
 -- Routes as relay numbers are as long as routes as places.
 lengths-same : (f : ℕ → ℕ) (routes : List (List ℕ)) → map length (map (map f) routes) ≡ map length routes
@@ -81,7 +79,7 @@ module _ (n : ℕ) (lows highs : List ℕ) (k from to : ℕ) (ok : Accepted n lo
       (relay-placed n lows highs from source .0) (relay-placed n lows highs to goal .0) apart
 
   module _ (joins : joinedIn look k p q ≡ true) (order counts relays : List ℕ)
-      (same : relayAt order ≡ relayAt (orderOf n lows highs))
+      (same : relayAt order ≡ relayAt (orderOf n lows highs)) (a b : List ℕ) (noA : NoPaths n a) (noB : NoPaths n b)
       (roomC : k ≤ length counts) (roomR : n - 2 + 2 * k ≤ length relays) where
     abbrev routes : List (List ℕ)
     routes = routesBetween left k p q
@@ -110,18 +108,18 @@ module _ (n : ℕ) (lows highs : List ℕ) (k from to : ℕ) (ok : Accepted n lo
     placesWritten =
         written (sets counts 0 (map length routes)) (sets relays 0 (joinAll (map (map (relayAt order)) routes))) (length (joinAll routes))
 
-    swept : betweenIn look k p q order counts relays ≡ placesWritten
-    unfolding betweenIn fallIn riseIn sidesIn
+    swept : betweenIn a b look k p q order counts relays ≡ placesWritten
+    unfolding betweenIn fallIn riseIn
     swept =
         by-cases (decLt q p)
         (λ less.
         rw (lt-ltb q p less)
-        (routed-down left look (left-laws n lows highs) k p q less (falls less) (relay-placed n lows highs to goal .0) small
-        (omega (arith, relay-placed n lows highs from source .1, accepted n lows highs ok .few)) agree order counts relays))
+        (routed-down left look (left-laws n lows highs) k p q less (falls less) (relay-placed n lows highs to goal .0) small agree
+        n (accepted n lows highs ok .few) (relay-placed n lows highs from source .1) a b noA noB order counts relays))
         (λ more.
         rw (le-ltb q p (omega arith))
-        (routed-up left look (left-laws n lows highs) k q p (omega (arith, apart)) (rises (omega (arith, apart))) (relay-placed n lows highs from source .0) small
-        (omega (arith, relay-placed n lows highs to goal .1, accepted n lows highs ok .few)) agree order counts relays))
+        (routed-up left look (left-laws n lows highs) k q p (omega (arith, apart)) (rises (omega (arith, apart))) (relay-placed n lows highs from source .0) small agree
+        n (accepted n lows highs ok .few) (relay-placed n lows highs to goal .1) a b noA noB order counts relays))
 
     longest : length (joinAll named) ≤ length relays
     longest =
@@ -133,7 +131,7 @@ module _ (n : ℕ) (lows highs : List ℕ) (k from to : ℕ) (ok : Accepted n lo
           relay-placed n lows highs to goal .1,
         )
 
-    pub routes-written : betweenIn look k p q order counts relays
+    pub routes-written : betweenIn a b look k p q order counts relays
         ≡ written (overwrite (map length (routesOf n lows highs k from to)) counts)
         (overwrite (joinAll (routesOf n lows highs k from to)) relays)
         (length (joinAll (routesOf n lows highs k from to)))

@@ -1,5 +1,5 @@
 -- What Route's inner functions ask of each other and answer, in the code's terms.
-use Prim.Native.Nat.{ℕ, _*_, _≤_, _<_}
+use Prim.Native.Nat.{ℕ, _+_, _*_, _≤_, _<_}
 use mathlib.Core.Bool.{Bool, true, false}
 use mathlib.Core.List.{List, [], _∷_, _++_, map, append-nil}
 use mathlib.Core.Path.{_≡_, refl, _∙_, ap}
@@ -15,27 +15,34 @@ use Rattle.definitions.specs.Forests.{forestsOf, forestOf}
 use Rattle.definitions.specs.Route.{routesOf, endsInOneTree}
 use Rattle.lists.specs.Tables.{length-table, getD-table}
 use Rattle.lists.specs.Overwritten.{getD-overwrite}
-use Rattle.theory.specs.Accepted.{accepted}
 use Rattle.theory.specs.Places.{relay-placed}
 use Rattle.forests.specs.Scan.{Scannable, Scanned}
 use Rattle.forests.specs.Left.{LeftInput}
 use Rattle.routes.specs.Side.{leftIn}
 use Rattle.routes.specs.Writing.{Written, written}
 use Rattle.routes.specs.Between.{joinedIn, betweenIn}
-use Rattle.routes.specs.Answers.{Answered, answered, answerIn, treeAnswer, Routable, Prepared}
+use Rattle.routes.specs.Answers.{Answered, answered, answerIn, treeAnswer, Routable, Workspace, Prepared}
 use Rattle.routes.proofs.Swept.{zeros-entry}
 use Rattle.routes.proofs.Answered.{front-relays, tree-tested, routes-written}
 
-pub scan-asks : (n : ℕ) (lows highs order places numbers : List ℕ) → Accepted n lows highs → length order ≡ 1000 → length places ≡ 1000
-    → numbers ≡ replicate 3000 0 → Scannable n lows highs order places numbers
-scan-asks n lows highs order places numbers ok orderLong placesLong e =
-    let proper = accepted n lows highs ok in
-    let long : length numbers ≡ 3000 = ap length e ∙ length-replicate {A = ℕ} 3000 0 in
+-- Lists of zeros, in one of the two sizes.
+zeros-at : (size : ℕ) (list : List ℕ) → list ≡ replicate size 0 → (i : ℕ) → getD list i 0 ≡ 0
+zeros-at size list e i = ap (λ (l : List ℕ). getD l i 0) e ∙ zeros-entry size i
+
+zeros-long : (size : ℕ) (list : List ℕ) → list ≡ replicate size 0 → length list ≡ size
+zeros-long size list e = ap length e ∙ length-replicate {A = ℕ} size 0
+
+pub workspace : (size links wide n : ℕ) {lows order places numbers a b : List ℕ} → n ≤ size → length lows ≤ links → 66 + n < wide
+    → order ≡ replicate size 0 → places ≡ replicate size 0 → numbers ≡ replicate links 0 → a ≡ replicate wide 0 → b ≡ replicate wide 0
+    → Workspace n lows order places numbers a b
+workspace size links wide n {lows} {order} {places} {numbers} {a} {b} few short broad eo ep en ea eb =
     record {
-      accepted = ok;
-      relayRoom = omega (arith, proper .few);
-      placeRoom = omega (arith, proper .few);
-      forestRoom = omega (arith, proper .short);
+      relayRoom = omega (arith, zeros-long size order eo);
+      placeRoom = omega (arith, zeros-long size places ep);
+      linkRoom = omega (arith, zeros-long links numbers en);
+      noOrder = zeros-at size order eo;
+      noA = record { room = omega (arith, zeros-long wide a ea); none = zeros-at wide a ea };
+      noB = record { room = omega (arith, zeros-long wide b eb); none = zeros-at wide b eb };
     }
 
 -- The places' list gives the place of each relay.
@@ -49,16 +56,15 @@ place-entry n lows highs places places′ e r less =
 
 pub table-asks : (n k : ℕ) (lows highs order order′ places places′ numbers numbers′ table : List ℕ) → Accepted n lows highs
     → Scanned n lows highs order order′ places places′ numbers numbers′
-    → length places′ ≡ 1000 → length numbers′ ≡ 3000 → k * n ≤ length table → ((j : ℕ) → j < k * n → getD table j 0 ≡ 0)
+    → n ≤ length places′ → length lows ≤ length numbers′ → k * n ≤ length table → ((j : ℕ) → j < k * n → getD table j 0 ≡ 0)
     → LeftInput n k lows highs places′ numbers′ table
 unfolding forestsOf
-table-asks n k lows highs order order′ places places′ numbers numbers′ table ok scanned placesLong numbersLong room zeros =
-    let proper = accepted n lows highs ok in
+table-asks n k lows highs order order′ places places′ numbers numbers′ table ok scanned placeRoom linkRoom room zeros =
     let forest = forestOf (linked lows highs) (orderOf n lows highs) lows highs in
     record {
       accepted = ok;
-      placeRoom = omega (arith, proper .few);
-      forestRoom = omega (arith, proper .short);
+      placeRoom = placeRoom;
+      forestRoom = linkRoom;
       tableRoom = room;
       place = place-entry n lows highs places places′ (scanned .thePlaces);
       forest = λ i less.
@@ -68,25 +74,24 @@ table-asks n k lows highs order order′ places places′ numbers numbers′ tab
       zeros = zeros;
     }
 
-module _ (left : ℕ → ℕ → ℕ) (k p q : ℕ) (order counts relays : List ℕ) (test : Bool) (e : test ≡ joinedIn left k p q) where
-  pub answer-some : (counts′ relays′ : List ℕ) (upto : ℕ) → test ≡ true → written counts′ relays′ upto ≡ betweenIn left k p q order counts relays
-      → answered counts′ relays′ (done (upto ∷ [])) ≡ answerIn left k p q order counts relays
+module _ (a b : List ℕ) (left : ℕ → ℕ → ℕ) (k p q : ℕ) (order counts relays : List ℕ) (test : Bool) (e : test ≡ joinedIn left k p q) where
+  pub answer-some : (counts′ relays′ : List ℕ) (upto : ℕ) → test ≡ true → written counts′ relays′ upto ≡ betweenIn a b left k p q order counts relays
+      → answered counts′ relays′ (done (upto ∷ [])) ≡ answerIn a b left k p q order counts relays
   unfolding answerIn
   answer-some counts′ relays′ upto passes wrote =
       rw (← e, passes) (ap (λ (w : Written). answered (w .countList) (w .relayList) (done (w .upto ∷ []))) wrote)
 
-  pub answer-none : test ≡ false → answered counts relays (refused 13 0) ≡ answerIn left k p q order counts relays
+  pub answer-none : test ≡ false → answered counts relays (refused 13 0) ≡ answerIn a b left k p q order counts relays
   unfolding answerIn
   answer-none fails = rw (← e, fails)
 
 -- The answer over the left table is that of the definition.
 module _ (n : ℕ) (lows highs : List ℕ) (k from to : ℕ) (counts relays scratch : List ℕ) (asked : Routable n lows highs k from to counts relays scratch)
     (order order′ places places′ table table′ : List ℕ) (made : Prepared n k lows highs order order′ places places′ table table′)
-    (none : order ≡ replicate 1000 0) where
+    (numbers a b : List ℕ) (lent : Workspace n lows order places numbers a b) where
   relays-same : relayAt order′ ≡ relayAt (orderOf n lows highs)
   relays-same =
-      ap relayAt (made .theOrder) ∙ ap (λ (l : List ℕ). relayAt (overwrite (orderOf n lows highs) l)) none
-      ∙ front-relays (orderOf n lows highs) 1000
+      ap relayAt (made .theOrder) ∙ front-relays (orderOf n lows highs) order (lent .noOrder)
 
   abbrev P : ℕ
   P = placeOf (orderOf n lows highs) from
@@ -98,9 +103,9 @@ module _ (n : ℕ) (lows highs : List ℕ) (k from to : ℕ) (counts relays scra
   routes = routesOf n lows highs k from to
 
   abbrev all : Written
-  all = betweenIn (leftIn table′ n) k P Q order′ counts relays
+  all = betweenIn a b (leftIn table′ n) k P Q order′ counts relays
 
-  over-places : answerIn (leftIn table′ n) k P Q order′ counts relays ≡ treeAnswer n lows highs k from to counts relays
+  over-places : answerIn a b (leftIn table′ n) k P Q order′ counts relays ≡ treeAnswer n lows highs k from to counts relays
   unfolding answerIn treeAnswer
   over-places = go (joinedIn (leftIn table′ n) k P Q) refl
     where
@@ -118,16 +123,16 @@ module _ (n : ℕ) (lows highs : List ℕ) (k from to : ℕ) (counts relays scra
           rw (← tree, e)
           (ap (λ (w : Written). answered (w .countList) (w .relayList) (done (w .upto ∷ [])))
           (routes-written n lows highs k from to (asked .accepted) (asked .one) (asked .few) (asked .source) (asked .goal) (asked .differ)
-          table table′ (made .theTable) e order′ counts relays relays-same (asked .countRoom) (asked .relayRoom)))
+          table table′ (made .theTable) e order′ counts relays relays-same a b (lent .noA) (lent .noB) (asked .countRoom) (asked .relayRoom)))
       go false e = rw (← tree, e)
 
   pub answers-tree : (p q : ℕ) (result : Answered) → p ≡ getD places′ from 0 → q ≡ getD places′ to 0
-      → result ≡ answerIn (leftIn table′ n) k p q order′ counts relays → result ≡ treeAnswer n lows highs k from to counts relays
+      → result ≡ answerIn a b (leftIn table′ n) k p q order′ counts relays → result ≡ treeAnswer n lows highs k from to counts relays
   answers-tree p q result ep eq e =
       let atP : p ≡ P = ep ∙ place-entry n lows highs places places′ (made .thePlaces) from (asked .source) in
       let atQ : q ≡ Q = eq ∙ place-entry n lows highs places places′ (made .thePlaces) to (asked .goal) in
-      e ∙ ap (λ (x : ℕ). answerIn (leftIn table′ n) k x q order′ counts relays) atP
-      ∙ ap (λ (x : ℕ). answerIn (leftIn table′ n) k P x order′ counts relays) atQ ∙ over-places
+      e ∙ ap (λ (x : ℕ). answerIn a b (leftIn table′ n) k x q order′ counts relays) atP
+      ∙ ap (λ (x : ℕ). answerIn a b (leftIn table′ n) k P x order′ counts relays) atQ ∙ over-places
 
   -- The two places are places.
   pub places-some : (p q : ℕ) → p ≡ getD places′ from 0 → q ≡ getD places′ to 0 → (0 < p) × (0 < q) × (k ≤ 32)
@@ -150,21 +155,11 @@ clear-front count old new clear j less =
     ∙ zeros-entry count j
 
 -- What preparing asks, after the front of scratch is cleared.
-pub prepare-asks : (n : ℕ) (lows highs : List ℕ) (k from to : ℕ) (counts relays scratch scratch′ order places : List ℕ)
-    → Routable n lows highs k from to counts relays scratch → order ≡ replicate 1000 0 → places ≡ replicate 1000 0
+pub prepare-asks : (n : ℕ) (lows highs : List ℕ) (k from to : ℕ) (counts relays scratch scratch′ order places numbers a b : List ℕ)
+    → Routable n lows highs k from to counts relays scratch → Workspace n lows order places numbers a b
     → scratch′ ≡ replicate (k * n) 0 ++ drop (k * n) scratch → length scratch′ ≡ length scratch
-    → Accepted n lows highs × (((length order ≡ 1000) × (length places ≡ 1000))
-    × ((k * n ≤ length scratch′) × ((j : ℕ) → j < k * n → getD scratch′ j 0 ≡ 0)))
-prepare-asks n lows highs k from to counts relays scratch scratch′ order places asked eo ep clear long = (
-  asked .accepted,
-  (
-    (ap length eo ∙ length-replicate {A = ℕ} 1000 0, ap length ep ∙ length-replicate {A = ℕ} 1000 0),
-    (omega (arith, asked .scratchRoom), clear-front (k * n) scratch scratch′ clear),
-  ),
+    → Scannable n lows highs order places numbers × ((k * n ≤ length scratch′) × ((j : ℕ) → j < k * n → getD scratch′ j 0 ≡ 0))
+prepare-asks n lows highs k from to counts relays scratch scratch′ order places numbers a b asked lent clear long = (
+  record { accepted = asked .accepted; relayRoom = lent .relayRoom; placeRoom = lent .placeRoom; forestRoom = lent .linkRoom },
+  (omega (arith, asked .scratchRoom), clear-front (k * n) scratch scratch′ clear),
 )
-
--- A relay number stands within the places' list.
-pub place-asks : (n : ℕ) (lows highs places places′ : List ℕ) (r : ℕ) → Accepted n lows highs → places ≡ replicate 1000 0
-    → length places′ ≡ length places → r < n → r < length places′
-place-asks n lows highs places places′ r ok e long less =
-    omega (arith, accepted n lows highs ok .few, long, ap length e ∙ length-replicate {A = ℕ} 1000 0)

@@ -3,13 +3,12 @@
 use Prim.Native.Nat.{ℕ, suc, _+_, _-_, _≤_, _<_}
 use mathlib.Core.Bool.{true, false}
 use mathlib.Core.List.{List}
-use mathlib.Core.Path.{_≡_, sym, _∙_, ap, ap₂}
+use mathlib.Core.Path.{_≡_, sym, _∙_, ap}
 use native.Mathlib.Omega.{arith}
 use borrow.Author.Tests.{eq-eqb, ne-eqb}
-use lib.ListN.{replicate}
 use Rattle.routes.specs.Sides.{Sides, sides, sweptIn}
 use Rattle.routes.specs.Writing.{written, writeFrom}
-use Rattle.routes.specs.Between.{aliveIn, sidesIn, fallIn, riseIn}
+use Rattle.routes.specs.Between.{aliveIn, fallIn, riseIn}
 
 alive-at : (left : ℕ → ℕ → ℕ) (k t v gap : ℕ) → t + suc gap ≡ v → (left k v ≡ 0 → ⊥) → aliveIn left k t (suc gap) ≡ aliveIn left k t gap
 unfolding aliveIn
@@ -35,17 +34,13 @@ unfolding aliveIn
 alive-end left k t v le = let none : v - t ≡ 0 = omega arith in rw none
 
 module _ (left : ℕ → ℕ → ℕ) (k s t : ℕ) (order counts relays counts′ relays′ none none′ a b : List ℕ) (upto : ℕ)
-    (e : none ≡ replicate 1067 0) (e′ : none′ ≡ replicate 1067 0) (swept : sides a b ≡ sweptIn left k s t none none′) where
-  both : sides a b ≡ sidesIn left k s t
-  unfolding sidesIn
-  both = swept ∙ ap₂ (sweptIn left k s t) e e′
-
+    (swept : sides a b ≡ sweptIn left k s t none none′) where
   pub fell : written counts′ relays′ upto ≡ writeFrom a b order k 0 0 counts relays
-      → written counts′ relays′ upto ≡ fallIn left k s t order counts relays
+      → written counts′ relays′ upto ≡ fallIn none none′ left k s t order counts relays
   unfolding fallIn
-  fell wrote = wrote ∙ ap (λ (x : Sides). writeFrom (x .sideA) (x .sideB) order k 0 0 counts relays) both
+  fell wrote = wrote ∙ ap (λ (x : Sides). writeFrom (x .sideA) (x .sideB) order k 0 0 counts relays) swept
 
   pub rose : written counts′ relays′ upto ≡ writeFrom b a order k 0 0 counts relays
-      → written counts′ relays′ upto ≡ riseIn left k s t order counts relays
+      → written counts′ relays′ upto ≡ riseIn none none′ left k s t order counts relays
   unfolding riseIn
-  rose wrote = wrote ∙ ap (λ (x : Sides). writeFrom (x .sideB) (x .sideA) order k 0 0 counts relays) both
+  rose wrote = wrote ∙ ap (λ (x : Sides). writeFrom (x .sideB) (x .sideA) order k 0 0 counts relays) swept

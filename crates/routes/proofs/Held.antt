@@ -1,6 +1,6 @@
 -- A path of the sweep in the list of its side: its end and last but one at its index, and from there each relay's predecessor
 -- up to the start, which has none. What the two stores into a side, a path's end and last but one and a relay's predecessor,
--- leave as it was. Over sides of 1,067 entries, indices up to 32 and places up to 1,000.
+-- leave as it was. Over sides of at least 66 entries and indices up to 32.
 use Prim.Native.Nat.{ℕ, _+_, _≤_, _<_}
 use mathlib.Core.Bool.{true}
 use mathlib.Core.List.{List, [], _∷_, tail}
@@ -24,9 +24,10 @@ abbrev pub HeldPath : List ℕ → ℕ → List ℕ → Type 0
 HeldPath side i [] = ⊥
 HeldPath side i (x ∷ rest) = (endIn side i ≡ x) × Chain side (secondIn side i) rest
 
--- The side has these paths at the indices 1 to k, and its start c is the first relay of its path.
-pub record SideHeld (k c : ℕ) (side : List ℕ) (paths : ℕ → List ℕ) : Type 0 where
-  pub long : length side ≡ 1067
+-- The side has room for the places up to `reach` and these paths at the indices 1 to k, and its start c is the first relay of
+-- its path.
+pub record SideHeld (reach k c : ℕ) (side : List ℕ) (paths : ℕ → List ℕ) : Type 0 where
+  pub long : 66 + reach < length side
   pub base : priorIn side c ≡ 0
   pub held : (i : ℕ) → 1 ≤ i → i ≤ k → HeldPath side i (paths i)
 
@@ -74,12 +75,12 @@ module _ (side : List ℕ) (i end second : ℕ) where
       getD-set-other (set side i end) (33 + i) (66 + x) second 0 (λ e. omega arith)
       ∙ getD-set-other side i (66 + x) end 0 (λ e. omega arith)
 
-  pub end-setPath : length side ≡ 1067 → i ≤ 32 → endIn (setPath side i end second) i ≡ end
+  pub end-setPath : 66 ≤ length side → i ≤ 32 → endIn (setPath side i end second) i ≡ end
   unfolding setPath endIn
   end-setPath long small =
       getD-set-other (set side i end) (33 + i) i second 0 (λ e. omega arith) ∙ getD-set-same side i end 0 (omega arith)
 
-  pub second-setPath : length side ≡ 1067 → i ≤ 32 → secondIn (setPath side i end second) i ≡ second
+  pub second-setPath : 66 ≤ length side → i ≤ 32 → secondIn (setPath side i end second) i ≡ second
   unfolding setPath secondIn
   second-setPath long small = getD-set-same (set side i end) (33 + i) second 0 (omega (arith, length-set side i end))
 
@@ -101,7 +102,7 @@ module _ (side : List ℕ) (i end second : ℕ) where
         held-same side (setPath side i end second) h path end-setPath-other second-setPath-other (λ y _. prior-setPath small y)
 
   -- The path that was set.
-  pub held-setPath : length side ≡ 1067 → i ≤ 32 → (rest : List ℕ) → Chain side second rest
+  pub held-setPath : 66 ≤ length side → i ≤ 32 → (rest : List ℕ) → Chain side second rest
       → HeldPath (setPath side i end second) i (end ∷ rest)
   held-setPath long small rest chain =
       let new : List ℕ = setPath side i end second in (
@@ -120,9 +121,9 @@ module _ (side : List ℕ) (v second : ℕ) where
   unfolding secondIn
   second-setPrior i small = getD-set-other side (66 + v) (33 + i) second 0 (λ e. omega arith)
 
-  pub prior-setPrior : length side ≡ 1067 → v ≤ 1000 → priorIn (set side (66 + v) second) v ≡ second
+  pub prior-setPrior : 66 + v < length side → priorIn (set side (66 + v) second) v ≡ second
   unfolding priorIn
-  prior-setPrior long high = getD-set-same side (66 + v) second 0 (omega arith)
+  prior-setPrior long = getD-set-same side (66 + v) second 0 long
 
   pub prior-setPrior-other : (x : ℕ) → x ≢ v → priorIn (set side (66 + v) second) x ≡ priorIn side x
   unfolding priorIn

@@ -1,6 +1,6 @@
--- The loops over all indices: the start of both sides, and at t the B-paths that go on. Over sides of 1,067 entries, k up
--- to 32, and a `look` that agrees with `left` on the indices 1 to k.
-use Prim.Native.Nat.{ℕ, zero, suc, _≤_, _<_}
+-- The loops over all indices: the start of both sides, and at t the B-paths that go on. Over k up to 32 and
+-- a `look` that agrees with `left` on the indices 1 to k.
+use Prim.Native.Nat.{ℕ, zero, suc, _+_, _≤_, _<_}
 use mathlib.Core.Bool.{Bool, true, false}
 use mathlib.Core.List.{List, [], _∷_}
 use mathlib.Core.Logic.{_≢_, by-cases}
@@ -17,15 +17,15 @@ use Rattle.routes.specs.Sides.{startA, startB, leaveAt, leaveFrom}
 use Rattle.routes.proofs.Held.{Chain, HeldPath, SideHeld, held-setPath, held-setPath-other, length-setPath, prior-setPath}
 
 -- The indices i, …, 1 are left to do: they have their old paths, if they had any, and the others have their new ones.
-record Filling (k c : ℕ) (any : Bool) (old new : ℕ → List ℕ) (i : ℕ) (side : List ℕ) : Type 0 where
-  long : length side ≡ 1067
+record Filling (reach k c : ℕ) (any : Bool) (old new : ℕ → List ℕ) (i : ℕ) (side : List ℕ) : Type 0 where
+  long : 66 + reach < length side
   base : priorIn side c ≡ 0
   lower : any ≡ true → (h : ℕ) → 1 ≤ h → h ≤ i → HeldPath side h (old h)
   higher : (h : ℕ) → i < h → h ≤ k → HeldPath side h (new h)
 
-module _ (k c : ℕ) (small : k ≤ 32) (any : Bool) (old new : ℕ → List ℕ) where
+module _ (reach k c : ℕ) (small : k ≤ 32) (any : Bool) (old new : ℕ → List ℕ) where
   -- An index that keeps its path.
-  fill-keep : (i : ℕ) → suc i ≤ k → (side : List ℕ) → any ≡ true → new (suc i) ≡ old (suc i) → Filling k c any old new (suc i) side → Filling k c any old new i side
+  fill-keep : (i : ℕ) → suc i ≤ k → (side : List ℕ) → any ≡ true → new (suc i) ≡ old (suc i) → Filling reach k c any old new (suc i) side → Filling reach k c any old new i side
   fill-keep i within side some same now =
       record {
         long = now .long;
@@ -41,10 +41,10 @@ module _ (k c : ℕ) (small : k ≤ 32) (any : Bool) (old new : ℕ → List ℕ
 
   -- An index that is set to end x, with `rest` before it.
   fill-set : (i x second : ℕ) (rest : List ℕ) → suc i ≤ k → (side : List ℕ) → new (suc i) ≡ x ∷ rest → Chain side second rest
-      → Filling k c any old new (suc i) side → Filling k c any old new i (setPath side (suc i) x second)
+      → Filling reach k c any old new (suc i) side → Filling reach k c any old new i (setPath side (suc i) x second)
   fill-set i x second rest within side same chain now =
       record {
-        long = length-setPath side (suc i) x second ∙ now .long;
+        long = omega (arith, length-setPath side (suc i) x second, now .long);
         base = prior-setPath side (suc i) x second (omega arith) c ∙ now .base;
         lower = λ had h positive le.
             held-setPath-other side (suc i) x second h (λ e. omega arith) (omega arith) (omega arith) (old h) (now .lower had h positive (omega arith));
@@ -53,32 +53,32 @@ module _ (k c : ℕ) (small : k ≤ 32) (any : Bool) (old new : ℕ → List ℕ
             (λ at.
             subst (λ (y : ℕ). HeldPath (setPath side (suc i) x second) y (new y)) (sym at)
             (subst (λ (p : List ℕ). HeldPath (setPath side (suc i) x second) (suc i) p) (sym same)
-            (held-setPath side (suc i) x second (now .long) (omega arith) rest chain)))
+            (held-setPath side (suc i) x second (omega (arith, now .long)) (omega arith) rest chain)))
             (λ off.
             held-setPath-other side (suc i) x second h off (omega arith) (omega arith) (new h) (now .higher h (omega arith) upto));
       }
 
-  fill-done : (side : List ℕ) → Filling k c any old new 0 side → SideHeld k c side new
+  fill-done : (side : List ℕ) → Filling reach k c any old new 0 side → SideHeld reach k c side new
   fill-done side now = record { long = now .long; base = now .base; held = λ i positive within. now .higher i positive within }
 
 -- Path i of side A starts as s, left(i, s).
-module _ (left look : ℕ → ℕ → ℕ) (k : ℕ) (small : k ≤ 32) (agree : (i x : ℕ) → 1 ≤ i → i ≤ k → look i x ≡ left i x) where
+module _ (left look : ℕ → ℕ → ℕ) (reach k : ℕ) (small : k ≤ 32) (agree : (i x : ℕ) → 1 ≤ i → i ≤ k → look i x ≡ left i x) where
   module _ (s : ℕ) (some : 0 < s) where
     abbrev startPathA : ℕ → List ℕ
     startPathA i = left i s ∷ s ∷ []
 
-    startA-fills : (i : ℕ) → i ≤ k → (a : List ℕ) → Filling k s false startPathA startPathA i a
-        → Filling k s false startPathA startPathA 0 (startA look s i a)
+    startA-fills : (i : ℕ) → i ≤ k → (a : List ℕ) → Filling reach k s false startPathA startPathA i a
+        → Filling reach k s false startPathA startPathA 0 (startA look s i a)
     unfolding startA
     startA-fills zero le a now = now
     startA-fills (suc i) le a now =
         startA-fills i (omega arith) (setPath a (suc i) (look (suc i) s) s)
-        (fill-set k s small false startPathA startPathA i (look (suc i) s) s (s ∷ []) le a
+        (fill-set reach k s small false startPathA startPathA i (look (suc i) s) s (s ∷ []) le a
         (ap (λ (x : ℕ). x ∷ s ∷ []) (sym (agree (suc i) s (omega arith) le))) (refl, some, now .base) now)
 
-    pub startA-held : (a : List ℕ) → length a ≡ 1067 → priorIn a s ≡ 0 → SideHeld k s (startA look s k a) startPathA
+    pub startA-held : (a : List ℕ) → 66 + reach < length a → priorIn a s ≡ 0 → SideHeld reach k s (startA look s k a) startPathA
     startA-held a long base =
-        fill-done k s small false startPathA startPathA (startA look s k a)
+        fill-done reach k s small false startPathA startPathA (startA look s k a)
         (startA-fills k (omega arith) a
         (record { long = long; base = base; lower = λ had. absurd (clash had refl); higher = λ h above upto. absurd (omega arith) }))
 
@@ -87,16 +87,16 @@ module _ (left look : ℕ → ℕ → ℕ) (k : ℕ) (small : k ≤ 32) (agree :
     abbrev startPathB : ℕ → List ℕ
     startPathB i = t ∷ []
 
-    startB-fills : (i : ℕ) → i ≤ k → (b : List ℕ) → Filling k t false startPathB startPathB i b
-        → Filling k t false startPathB startPathB 0 (startB t i b)
+    startB-fills : (i : ℕ) → i ≤ k → (b : List ℕ) → Filling reach k t false startPathB startPathB i b
+        → Filling reach k t false startPathB startPathB 0 (startB t i b)
     unfolding startB
     startB-fills zero le b now = now
     startB-fills (suc i) le b now =
-        startB-fills i (omega arith) (setPath b (suc i) t 0) (fill-set k t small false startPathB startPathB i t 0 [] le b refl refl now)
+        startB-fills i (omega arith) (setPath b (suc i) t 0) (fill-set reach k t small false startPathB startPathB i t 0 [] le b refl refl now)
 
-    pub startB-held : (b : List ℕ) → length b ≡ 1067 → priorIn b t ≡ 0 → SideHeld k t (startB t k b) startPathB
+    pub startB-held : (b : List ℕ) → 66 + reach < length b → priorIn b t ≡ 0 → SideHeld reach k t (startB t k b) startPathB
     startB-held b long base =
-        fill-done k t small false startPathB startPathB (startB t k b)
+        fill-done reach k t small false startPathB startPathB (startB t k b)
         (startB-fills k (omega arith) b
         (record { long = long; base = base; lower = λ had. absurd (clash had refl); higher = λ h above upto. absurd (omega arith) }))
 
@@ -104,28 +104,28 @@ module _ (left look : ℕ → ℕ → ℕ) (k : ℕ) (small : k ≤ 32) (agree :
     module _ (some : 0 < t) (a : List ℕ) (new : ℕ → List ℕ)
         (meets : (i : ℕ) → 1 ≤ i → i ≤ k → endIn a i ≡ t → new i ≡ t ∷ [])
         (goes : (i : ℕ) → 1 ≤ i → i ≤ k → endIn a i ≢ t → new i ≡ left i t ∷ t ∷ []) where
-      leave-turn : (i : ℕ) → suc i ≤ k → (b : List ℕ) → Filling k t true startPathB new (suc i) b
-          → Filling k t true startPathB new i (leaveAt look t a (suc i) b)
+      leave-turn : (i : ℕ) → suc i ≤ k → (b : List ℕ) → Filling reach k t true startPathB new (suc i) b
+          → Filling reach k t true startPathB new i (leaveAt look t a (suc i) b)
       unfolding leaveAt
       leave-turn i le b now = go (eqb (endIn a (suc i)) t) refl
         where
           go : (c : Bool) → eqb (endIn a (suc i)) t ≡ c
-              → Filling k t true startPathB new i (pick c b (setPath b (suc i) (look (suc i) t) t))
-          go true e = fill-keep k t small true startPathB new i le b refl (meets (suc i) (omega arith) le (eqb-true (endIn a (suc i)) t e)) now
+              → Filling reach k t true startPathB new i (pick c b (setPath b (suc i) (look (suc i) t) t))
+          go true e = fill-keep reach k t small true startPathB new i le b refl (meets (suc i) (omega arith) le (eqb-true (endIn a (suc i)) t e)) now
           go false e =
-              fill-set k t small true startPathB new i (look (suc i) t) t (t ∷ []) le b
+              fill-set reach k t small true startPathB new i (look (suc i) t) t (t ∷ []) le b
               (goes (suc i) (omega arith) le (eqb-false (endIn a (suc i)) t e) ∙ ap (λ (x : ℕ). x ∷ t ∷ []) (sym (agree (suc i) t (omega arith) le)))
               (refl, some, now .base) now
 
-      leave-fills : (i : ℕ) → i ≤ k → (b : List ℕ) → Filling k t true startPathB new i b
-          → Filling k t true startPathB new 0 (leaveFrom look t a i b)
+      leave-fills : (i : ℕ) → i ≤ k → (b : List ℕ) → Filling reach k t true startPathB new i b
+          → Filling reach k t true startPathB new 0 (leaveFrom look t a i b)
       unfolding leaveFrom
       leave-fills zero le b now = now
       leave-fills (suc i) le b now = leave-fills i (omega arith) (leaveAt look t a (suc i) b) (leave-turn i le b now)
 
-      pub leave-held : (b : List ℕ) → SideHeld k t b startPathB → SideHeld k t (leaveFrom look t a k b) new
+      pub leave-held : (b : List ℕ) → SideHeld reach k t b startPathB → SideHeld reach k t (leaveFrom look t a k b) new
       leave-held b held =
-          fill-done k t small true startPathB new (leaveFrom look t a k b)
+          fill-done reach k t small true startPathB new (leaveFrom look t a k b)
           (leave-fills k (omega arith) b
           (record {
             long = held .long;

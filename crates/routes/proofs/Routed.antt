@@ -5,7 +5,7 @@ use mathlib.Core.List.{List, [], _∷_, _++_, map, reverse, reverseAux, tail, ap
 use mathlib.Core.Path.{_≡_, refl, sym, _∙_, ap, subst}
 use native.Mathlib.Nat.{zero-add}
 use native.Mathlib.Omega.{arith}
-use lib.ListN.{length, getD, replicate, length-map}
+use lib.ListN.{length, getD, length-map}
 use lib.Seq.{sets}
 use borrow.Author.Tests.{lt-ltb, le-ltb}
 use Rattle.definitions.specs.Lists.{joinAll}
@@ -19,6 +19,7 @@ use Rattle.theory.specs.SweepPaths.{Trail, down-less}
 use Rattle.theory.specs.SweepInvariant.{ClosedSlot}
 use Rattle.theory.specs.SweepHolds.{sweep-ends}
 use Rattle.theory.specs.SweepRoutes.{sweep-length, getD-sweepRoutes, all-closed}
+use Rattle.routes.specs.Side.{NoPaths}
 use Rattle.routes.specs.Sides.{Sides, sweptIn}
 use Rattle.routes.specs.Writing.{written, writeFrom}
 use Rattle.routes.proofs.Held.{HeldPath}
@@ -39,9 +40,10 @@ trail-length left laws k c x (y ∷ rest) t =
     omega (arith, down-less left laws k x y (t .0), trail-length left laws k c y rest (t .1))
 
 module _ (left look : ℕ → ℕ → ℕ) (laws : LeftLaws left) (k s t : ℕ) (less : t < s) (alive : Alive left k t s) (positive : 1 ≤ t)
-    (small : k ≤ 32) (high : s ≤ 1000) (agree : (i x : ℕ) → 1 ≤ i → i ≤ k → look i x ≡ left i x) where
+    (small : k ≤ 32) (agree : (i x : ℕ) → 1 ≤ i → i ≤ k → look i x ≡ left i x)
+    (n : ℕ) (few : n ≤ 1000) (high : s ≤ n) (a b : List ℕ) (noA : NoPaths n a) (noB : NoPaths n b) where
   abbrev out : Sides
-  out = sweptIn look k s t (replicate 1067 0) (replicate 1067 0)
+  out = sweptIn look k s t a b
 
   module _ (h : ℕ) (within : h < k) where
     abbrev slot : Slot
@@ -55,12 +57,12 @@ module _ (left look : ℕ → ℕ → ℕ) (laws : LeftLaws left) (k s t : ℕ) 
     heldA : HeldPath (out .sideA) (suc h) (closed .meet ∷ closed .before ∷ closed .restA)
     heldA =
         subst (λ (p : List ℕ). HeldPath (out .sideA) (suc h) p) (closed .shapeA)
-        (swept-held left look laws k s t less alive positive small high agree .heldA .held (suc h) (omega arith) within)
+        (swept-held left look laws k s t less alive positive small agree n high a b noA noB .heldA .held (suc h) (omega arith) within)
 
     heldB : HeldPath (out .sideB) (suc h) (closed .meet ∷ closed .restB)
     heldB =
         subst (λ (p : List ℕ). HeldPath (out .sideB) (suc h) p) (closed .shapeB)
-        (swept-held left look laws k s t less alive positive small high agree .heldB .held (suc h) (omega arith) within)
+        (swept-held left look laws k s t less alive positive small agree n high a b noA noB .heldB .held (suc h) (omega arith) within)
 
     shape : getD (sweepRoutes left k s t) h [] ≡ reverseAux (closed .before ∷ closed .restA) (closed .meet ∷ closed .restB)
     unfolding slotRoute

@@ -1,6 +1,6 @@
 -- Going down through the indices below j, the trades of one side end with the paths of the definition's `downshift`.
--- Over sides of 1,067 entries, k up to 32, and a `look` that agrees with `left` on the indices 1 to k.
-use Prim.Native.Nat.{ℕ, zero, suc, pred, _≤_, _<_}
+-- Over k up to 32 and a `look` that agrees with `left` on the indices 1 to k.
+use Prim.Native.Nat.{ℕ, zero, suc, pred, _+_, _≤_, _<_}
 use mathlib.Core.Bool.{Bool, true, false}
 use mathlib.Core.List.{List, _∷_, tail}
 use mathlib.Core.Logic.{_≢_, by-cases}
@@ -19,8 +19,8 @@ use Rattle.routes.proofs.Shifts.{set-ends, set-at, set-high, after-stay
 
 -- The indices i, …, 1 are left to do: they have their old paths, the indices from i + 1 on have their new ones, and j has
 -- the path of the lowest index above i that takes part.
-record Shifting (left : ℕ → ℕ → ℕ) (k c j : ℕ) (ends : ℕ → Bool) (paths : ℕ → List ℕ) (i : ℕ) (side : List ℕ) : Type 0 where
-  long : length side ≡ 1067
+record Shifting (left : ℕ → ℕ → ℕ) (reach k c j : ℕ) (ends : ℕ → Bool) (paths : ℕ → List ℕ) (i : ℕ) (side : List ℕ) : Type 0 where
+  long : 66 + reach < length side
   base : priorIn side c ≡ 0
   lower : (h : ℕ) → 1 ≤ h → h ≤ i → HeldPath side h (paths h)
   higher : (h : ℕ) → i < h → h ≤ k → h ≢ j → HeldPath side h (downshift left k j ends paths h)
@@ -28,15 +28,18 @@ record Shifting (left : ℕ → ℕ → ℕ) (k c j : ℕ) (ends : ℕ → Bool)
   first : First (together ends j) (suc i) j next
   highest : HeldPath side j (paths next)
 
-module _ (left look : ℕ → ℕ → ℕ) (k c j v : ℕ) (ends : ℕ → Bool) (paths : ℕ → List ℕ) (one : 1 ≤ j) (bound : j ≤ k) (small : k ≤ 32)
+module _ (left look : ℕ → ℕ → ℕ) (reach k c j v : ℕ) (ends : ℕ → Bool) (paths : ℕ → List ℕ) (one : 1 ≤ j) (bound : j ≤ k) (small : k ≤ 32)
     (top : (h : ℕ) → 1 ≤ h → h ≤ k → ends h ≡ true → h ≤ j)
     (agree : (i x : ℕ) → 1 ≤ i → i ≤ k → look i x ≡ left i x)
     (same : (i : ℕ) → 1 ≤ i → i ≤ k → ends i ≡ eqb (endOf (paths i)) v) where
-  module _ (i : ℕ) (less : suc i < j) (side : List ℕ) (now : Shifting left k c j ends paths (suc i) side) where
+  module _ (i : ℕ) (less : suc i < j) (side : List ℕ) (now : Shifting left reach k c j ends paths (suc i) side) where
+    wide : 66 ≤ length side
+    wide = omega (arith, now .long)
+
     here : HeldPath side (suc i) (paths (suc i))
     here = now .lower (suc i) (omega arith) (omega arith)
 
-    keeps : ends (suc i) ≡ false → Shifting left k c j ends paths i side
+    keeps : ends (suc i) ≡ false → Shifting left reach k c j ends paths i side
     keeps off =
         record {
           long = now .long;
@@ -63,19 +66,19 @@ module _ (left look : ℕ → ℕ → ℕ) (k c j v : ℕ) (ends : ℕ → Bool)
           highest = now .highest;
         }
 
-    trades : ends (suc i) ≡ true → Shifting left k c j ends paths i (trade look j (suc i) side)
+    trades : ends (suc i) ≡ true → Shifting left reach k c j ends paths i (trade look j (suc i) side)
     trades at =
         record {
-          long = trade-long look j (suc i) side (now .long) (omega arith) (omega arith) apart;
-          base = trade-prior look j (suc i) side (now .long) (omega arith) (omega arith) apart c ∙ now .base;
+          long = omega (arith, trade-long look j (suc i) side wide (omega arith) (omega arith) apart, now .long);
+          base = trade-prior look j (suc i) side wide (omega arith) (omega arith) apart c ∙ now .base;
           lower = λ h positive le.
-              trade-other look j (suc i) side (now .long) (omega arith) (omega arith) apart h (omega arith) (λ e. omega arith) (λ e. omega arith)
+              trade-other look j (suc i) side wide (omega arith) (omega arith) apart h (omega arith) (λ e. omega arith) (λ e. omega arith)
               (paths h) (now .lower h positive (omega arith));
           higher = λ h above within other.
               by-cases (ℕ-discrete h (suc i))
               (λ e. subst (λ (x : ℕ). HeldPath (trade look j (suc i) side) x (downshift left k j ends paths x)) (sym e) new)
               (λ off.
-              trade-other look j (suc i) side (now .long) (omega arith) (omega arith) apart h (omega arith) off other
+              trade-other look j (suc i) side wide (omega arith) (omega arith) apart h (omega arith) off other
               (downshift left k j ends paths h) (now .higher h (omega arith) within other));
           next = suc i;
           first =
@@ -85,7 +88,7 @@ module _ (left look : ℕ → ℕ → ℕ) (k c j v : ℕ) (ends : ℕ → Bool)
                 passes = set-at left k j ends paths one bound top (suc i) at;
                 least = λ y above below. absurd (omega arith);
               };
-          highest = trade-higher look j (suc i) side (now .long) (omega arith) (omega arith) apart (paths (suc i)) here;
+          highest = trade-higher look j (suc i) side wide (omega arith) (omega arith) apart (paths (suc i)) here;
         }
       where
         apart : suc i ≢ j
@@ -96,9 +99,9 @@ module _ (left look : ℕ → ℕ → ℕ) (k c j v : ℕ) (ends : ℕ → Bool)
             subst (λ (p : List ℕ). HeldPath (trade look j (suc i) side) (suc i) p)
             (ap (λ (x : ℕ). x ∷ tail (paths (now .next))) (agree (suc i) (beforeEnd (paths (now .next))) (omega arith) (omega arith))
             ∙ sym (after-low left k j ends paths one bound top (suc i) (now .next) (omega arith) less at (now .first)))
-            (trade-lower look j (suc i) side (now .long) (omega arith) (omega arith) apart (paths (now .next)) (now .highest))
+            (trade-lower look j (suc i) side wide (omega arith) (omega arith) apart (paths (now .next)) (now .highest))
 
-    turn : Shifting left k c j ends paths i (tradeAt look v j (suc i) side)
+    turn : Shifting left reach k c j ends paths i (tradeAt look v j (suc i) side)
     unfolding tradeAt
     turn = go (ends (suc i)) refl
       where
@@ -109,16 +112,16 @@ module _ (left look : ℕ → ℕ → ℕ) (k c j v : ℕ) (ends : ℕ → Bool)
         test = ap (λ (x : ℕ). eqb x v) end ∙ sym (same (suc i) (omega arith) (omega arith))
 
         go : (b : Bool) → ends (suc i) ≡ b
-            → Shifting left k c j ends paths i (pick (eqb (endIn side (suc i)) v) (trade look j (suc i) side) side)
+            → Shifting left reach k c j ends paths i (pick (eqb (endIn side (suc i)) v) (trade look j (suc i) side) side)
         go true e = rw (test ∙ e) (trades e)
         go false e = rw (test ∙ e) (keeps e)
 
-  all : (i : ℕ) → i < j → (side : List ℕ) → Shifting left k c j ends paths i side → Shifting left k c j ends paths 0 (tradeFrom look v j i side)
+  all : (i : ℕ) → i < j → (side : List ℕ) → Shifting left reach k c j ends paths i side → Shifting left reach k c j ends paths 0 (tradeFrom look v j i side)
   unfolding tradeFrom
   all zero less side now = now
   all (suc i) less side now = all i (omega arith) (tradeAt look v j (suc i) side) (turn i less side now)
 
-  starts : (side : List ℕ) → SideHeld k c side paths → Shifting left k c j ends paths (pred j) side
+  starts : (side : List ℕ) → SideHeld reach k c side paths → Shifting left reach k c j ends paths (pred j) side
   starts side held =
       record {
         long = held .long;
@@ -144,9 +147,9 @@ module _ (left look : ℕ → ℕ → ℕ) (k c j v : ℕ) (ends : ℕ → Bool)
       outside h above within other false e = e
 
   -- One side after its trades at v.
-  pub shifted-held : (side : List ℕ) → SideHeld k c side paths → SideHeld k c (tradeFrom look v j (pred j) side) (downshift left k j ends paths)
+  pub shifted-held : (side : List ℕ) → SideHeld reach k c side paths → SideHeld reach k c (tradeFrom look v j (pred j) side) (downshift left k j ends paths)
   shifted-held side held =
-      let done : Shifting left k c j ends paths 0 (tradeFrom look v j (pred j) side) = all (pred j) (omega arith) side (starts side held) in
+      let done : Shifting left reach k c j ends paths 0 (tradeFrom look v j (pred j) side) = all (pred j) (omega arith) side (starts side held) in
       record {
         long = done .long;
         base = done .base;

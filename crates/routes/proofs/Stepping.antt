@@ -1,5 +1,5 @@
 -- One step of the sweep on the two sides' lists gives the paths of the definition's slots after that place. Over any `left`
--- with the laws, where t and s are in one tree of forest k, places up to 1,000 and k up to 32.
+-- with the laws, where t and s are in one tree of forest k, and k up to 32.
 use Prim.Native.Nat.{ℕ, zero, suc, pred, _≤_, _<_}
 use mathlib.Core.Bool.{Bool, true, false, _||_}
 use mathlib.Core.List.{List, [], _∷_}
@@ -33,9 +33,9 @@ largest-same f g (suc k) same =
     rw (same (suc k) (omega arith) (omega arith), largest-same f g k (λ i one le. same i one (omega arith)))
 
 -- A side that holds equal paths.
-pub side-same : (k c : ℕ) (side : List ℕ) (old new : ℕ → List ℕ) → ((i : ℕ) → 1 ≤ i → i ≤ k → new i ≡ old i) → SideHeld k c side old
-    → SideHeld k c side new
-side-same k c side old new same held =
+pub side-same : (reach k c : ℕ) (side : List ℕ) (old new : ℕ → List ℕ) → ((i : ℕ) → 1 ≤ i → i ≤ k → new i ≡ old i) → SideHeld reach k c side old
+    → SideHeld reach k c side new
+side-same reach k c side old new same held =
     record {
       long = held .long;
       base = held .base;
@@ -44,11 +44,11 @@ side-same k c side old new same held =
 
 -- Both sides hold the paths of the slots.
 pub record Holds (k s t : ℕ) (both : Sides) (slots : ℕ → Slot) : Type 0 where
-  pub heldA : SideHeld k s (both .sideA) (λ i. slots i .pathA)
-  pub heldB : SideHeld k t (both .sideB) (λ i. slots i .pathB)
+  pub heldA : SideHeld s k s (both .sideA) (λ i. slots i .pathA)
+  pub heldB : SideHeld s k t (both .sideB) (λ i. slots i .pathB)
 
 module _ (left look : ℕ → ℕ → ℕ) (laws : LeftLaws left) (k s t : ℕ) (less : t < s) (alive : Alive left k t s) (positive : 1 ≤ t)
-    (small : k ≤ 32) (high : s ≤ 1000) (agree : (i x : ℕ) → 1 ≤ i → i ≤ k → look i x ≡ left i x) where
+    (small : k ≤ 32) (agree : (i x : ℕ) → 1 ≤ i → i ≤ k → look i x ≡ left i x) where
   module _ (v : ℕ) (slots : ℕ → Slot) (inv : Sweeping left k s t (suc v) slots) (a b : List ℕ) (now : Holds k s t (sides a b) slots) where
     abbrev new : ℕ → Slot
     new = slotAfter left k t (suc v) slots
@@ -74,10 +74,10 @@ module _ (left look : ℕ → ℕ → ℕ) (laws : LeftLaws left) (k s t : ℕ) 
       t-held =
           record {
             heldA =
-                side-same k s a (λ i. slots i .pathA) (λ i. new i .pathA)
+                side-same s k s a (λ i. slots i .pathA) (λ i. new i .pathA)
                 (λ i _ _. ap (λ (x : Slot). x .pathA) (after-t left k t (suc v) slots at i) ∙ at-t-A left t (slots i) i) (now .heldA);
             heldB =
-                leave-held left look k small agree t positive a (λ i. new i .pathB)
+                leave-held left look s k small agree t positive a (λ i. new i .pathB)
                 (λ i one le ends.
                 ap (λ (x : Slot). x .pathB) (after-t left k t (suc v) slots at i)
                 ∙ at-t-meets left t (slots i) i (sym (endA i one le) ∙ ends) ∙ aloneB i one le)
@@ -86,7 +86,7 @@ module _ (left look : ℕ → ℕ → ℕ) (laws : LeftLaws left) (k s t : ℕ) 
                 ap (λ (x : Slot). x .pathB) (after-t left k t (suc v) slots at i)
                 ∙ at-t-goes left t (slots i) i off′ (never-rests-at left laws k s t less alive v slots inv at i one le off′)
                 ∙ ap (λ (p : List ℕ). left i t ∷ p) (aloneB i one le))
-                b (side-same k t b (λ i. slots i .pathB) (λ i. t ∷ []) (λ i one le. sym (aloneB i one le)) (now .heldB));
+                b (side-same s k t b (λ i. slots i .pathB) (λ i. t ∷ []) (λ i one le. sym (aloneB i one le)) (now .heldB));
           }
 
     -- Elsewhere.
@@ -115,8 +115,8 @@ module _ (left look : ℕ → ℕ → ℕ) (laws : LeftLaws left) (k s t : ℕ) 
       none-held : j ≡ 0 → Holds k s t (sides a b) new
       none-held none =
           record {
-            heldA = side-same k s a (λ i. slots i .pathA) (λ i. new i .pathA) (λ i _ _. ap (λ (x : Slot). x .pathA) (after-none left k t (suc v) slots other none i)) (now .heldA);
-            heldB = side-same k t b (λ i. slots i .pathB) (λ i. new i .pathB) (λ i _ _. ap (λ (x : Slot). x .pathB) (after-none left k t (suc v) slots other none i)) (now .heldB);
+            heldA = side-same s k s a (λ i. slots i .pathA) (λ i. new i .pathA) (λ i _ _. ap (λ (x : Slot). x .pathA) (after-none left k t (suc v) slots other none i)) (now .heldA);
+            heldB = side-same s k t b (λ i. slots i .pathB) (λ i. new i .pathB) (λ i _ _. ap (λ (x : Slot). x .pathB) (after-none left k t (suc v) slots other none i)) (now .heldB);
           }
 
       module _ (some : 0 < j) where
@@ -135,14 +135,14 @@ module _ (left look : ℕ → ℕ → ℕ) (laws : LeftLaws left) (k s t : ℕ) 
         bound : j ≤ k
         bound = highestA k t (suc v) slots some .bound
 
-        heldA′ : SideHeld k s a′ shiftA
+        heldA′ : SideHeld s k s a′ shiftA
         heldA′ =
-            shifted-held left look k s j (suc v) (λ i. endsA (suc v) (slots i)) (λ i. slots i .pathA) some bound small
+            shifted-held left look s k s j (suc v) (λ i. endsA (suc v) (slots i)) (λ i. slots i .pathA) some bound small
             (highestA k t (suc v) slots some .top) agree testsA a (now .heldA)
 
-        heldB′ : SideHeld k t b′ shiftB
+        heldB′ : SideHeld s k t b′ shiftB
         heldB′ =
-            shifted-held left look k t j (suc v) (λ i. endsB t (suc v) (slots i)) (λ i. slots i .pathB) some bound small
+            shifted-held left look s k t j (suc v) (λ i. endsB t (suc v) (slots i)) (λ i. slots i .pathB) some bound small
             (highestB k t (suc v) slots some .top) agree testsB b (now .heldB)
 
         endA′ : endIn a′ j ≡ endOf (shiftA j)
@@ -160,10 +160,10 @@ module _ (left look : ℕ → ℕ → ℕ) (laws : LeftLaws left) (k s t : ℕ) 
         otherPath : (f : Slot → List ℕ) (i : ℕ) → i ≢ j → f (new i) ≡ f (shiftedSlot left k t (suc v) j slots i)
         otherPath f i apart = ap f (after-other left k t (suc v) slots other some i apart)
 
-        sideA : SideHeld k s (advance look (suc v) j (endIn b′ j) a′) (λ i. new i .pathA)
+        sideA : SideHeld s k s (advance look (suc v) j (endIn b′ j) a′) (λ i. new i .pathA)
         unfolding shiftedSlot
         sideA =
-            advance-held look k s (suc v) j a′ shiftA small (omega arith) (omega (arith, inv .below)) (λ e. omega (arith, inv .below)) some bound heldA′
+            advance-held look s k s (suc v) j a′ shiftA small (omega arith) (omega (arith, inv .below)) (λ e. omega (arith, inv .below)) some bound heldA′
             (shifted-tails left laws k s s (suc v) (λ i. slots i .isOpen) (λ i. endsA (suc v) (slots i)) (λ i. slots i .pathA)
             (readyA left laws k s t (suc v) slots inv) j (highestA k t (suc v) slots some))
             (endIn b′ j) (λ i. new i .pathA) (λ i apart. otherPath (λ x. x .pathA) i apart)
@@ -175,10 +175,10 @@ module _ (left look : ℕ → ℕ → ℕ) (laws : LeftLaws left) (k s t : ℕ) 
             (λ at at′. highestPath (λ x. x .pathA) ∙ settled-meetsA left (suc v) j shifted at (sym endB′ ∙ at′))
             (λ off. highestPath (λ x. x .pathA) ∙ settled-waitsA left (suc v) j shifted off)
 
-        sideB : SideHeld k t (advance look (suc v) j (endIn a′ j) b′) (λ i. new i .pathB)
+        sideB : SideHeld s k t (advance look (suc v) j (endIn a′ j) b′) (λ i. new i .pathB)
         unfolding shiftedSlot
         sideB =
-            advance-held look k t (suc v) j b′ shiftB small (omega arith) (omega (arith, inv .below)) other some bound heldB′
+            advance-held look s k t (suc v) j b′ shiftB small (omega arith) (omega (arith, inv .below)) other some bound heldB′
             (shifted-tails left laws k s t (suc v) (λ i. slots i .isOpen) (λ i. endsB t (suc v) (slots i)) (λ i. slots i .pathB)
             (readyB left laws k s t (suc v) slots inv other) j (highestB k t (suc v) slots some))
             (endIn a′ j) (λ i. new i .pathB) (λ i apart. otherPath (λ x. x .pathB) i apart)

@@ -1,8 +1,9 @@
--- What a trade between two indices of a side does to the paths that it holds. Over sides of 1,067 entries and indices up to 32.
+-- What a trade between two indices of a side does to the paths that it holds. Over sides of at least 66 entries and indices up to 32.
 use Prim.Native.Nat.{ℕ, _≤_}
 use mathlib.Core.List.{List, [], _∷_, tail}
 use mathlib.Core.Logic.{_≢_}
 use mathlib.Core.Path.{_≡_, sym, _∙_, ap, subst}
+use native.Mathlib.Omega.{arith}
 use lib.ListN.{length}
 use Rattle.definitions.specs.Sweep.{beforeEnd}
 use Rattle.routes.specs.Side.{endIn, secondIn, priorIn, setPath, trade}
@@ -13,16 +14,18 @@ pub held-whole : (side : List ℕ) (i : ℕ) (path : List ℕ) → HeldPath side
 held-whole side i [] h = absurd h
 held-whole side i (x ∷ rest) h = ap (λ (y : ℕ). y ∷ rest) (h .0)
 
-module _ (look : ℕ → ℕ → ℕ) (j i : ℕ) (side : List ℕ) (long : length side ≡ 1067) (smallJ : j ≤ 32) (smallI : i ≤ 32) (apart : i ≢ j) where
+module _ (look : ℕ → ℕ → ℕ) (j i : ℕ) (side : List ℕ) (long : 66 ≤ length side) (smallJ : j ≤ 32) (smallI : i ≤ 32) (apart : i ≢ j) where
   abbrev first : List ℕ
   first = setPath side j (endIn side i) (secondIn side i)
 
-  first-long : length first ≡ 1067
-  first-long = length-setPath side j (endIn side i) (secondIn side i) ∙ long
+  first-long : 66 ≤ length first
+  first-long = omega (arith, length-setPath side j (endIn side i) (secondIn side i))
 
-  pub trade-long : length (trade look j i side) ≡ 1067
+  pub trade-long : length (trade look j i side) ≡ length side
   unfolding trade
-  trade-long = length-setPath first i (look i (secondIn side j)) (secondIn side j) ∙ first-long
+  trade-long =
+      length-setPath first i (look i (secondIn side j)) (secondIn side j)
+      ∙ length-setPath side j (endIn side i) (secondIn side i)
 
   pub trade-prior : (x : ℕ) → priorIn (trade look j i side) x ≡ priorIn side x
   unfolding trade

@@ -6,7 +6,7 @@ use mathlib.Core.List.{List, [], _∷_, map}
 use mathlib.Core.Logic.{_≢_}
 use mathlib.Core.Path.{_≡_}
 use lib.Dec.{eqb, ltb, leb}
-use lib.ListN.{length}
+use lib.ListN.{length, getD}
 use Rattle.definitions.specs.Outcome.{pick, refused, done, Answer, refuseIf}
 use Rattle.definitions.specs.Lists.{overwrite, outside, joinAll}
 use Rattle.definitions.specs.Network.{Accepted}
@@ -16,6 +16,7 @@ use Rattle.network.specs.Answers.{refusalOf}
 use Rattle.forests.specs.Left.{LeftTable}
 use Rattle.routes.specs.declared.RouteAnswer.{RouteAnswer}
 use Rattle.routes.specs.declared.RouteAnswer.the-variants.{Written}
+use Rattle.routes.specs.Side.{NoPaths}
 use Rattle.routes.specs.Between.{joinedIn, betweenIn}
 
 -- The count of relays written, or a refusal.
@@ -42,9 +43,9 @@ abbrev pub answered : List ℕ → List ℕ → Answer → Answered
 answered counts relays answer = record { countList = counts; relayList = relays; answer = answer }
 
 -- Between two places over a left table: the routes, or 13.
-unfoldable pub answerIn : (ℕ → ℕ → ℕ) → ℕ → ℕ → ℕ → List ℕ → List ℕ → List ℕ → Answered
-answerIn left k p q order counts relays =
-    let all = betweenIn left k p q order counts relays in
+unfoldable pub answerIn : List ℕ → List ℕ → (ℕ → ℕ → ℕ) → ℕ → ℕ → ℕ → List ℕ → List ℕ → List ℕ → Answered
+answerIn a b left k p q order counts relays =
+    let all = betweenIn a b left k p q order counts relays in
     pick (joinedIn left k p q) (answered (all .countList) (all .relayList) (done (all .upto ∷ []))) (answered counts relays (refused 13 0))
 
 -- The same as the definition has it.
@@ -66,6 +67,15 @@ pub record Routable (n : ℕ) (lows highs : List ℕ) (k from to : ℕ) (counts 
   pub countRoom : k ≤ length counts
   pub relayRoom : n - 2 + 2 * k ≤ length relays
   pub scratchRoom : k * n ≤ length scratch
+
+-- Lists with room for the work on n relays and the links of `lows`: the order and the sides are zeros.
+pub record Workspace (n : ℕ) (lows order places numbers a b : List ℕ) : Type 0 where
+  pub relayRoom : n ≤ length order
+  pub placeRoom : n ≤ length places
+  pub linkRoom : length lows ≤ length numbers
+  pub noOrder : (i : ℕ) → getD order i 0 ≡ 0
+  pub noA : NoPaths n a
+  pub noB : NoPaths n b
 
 -- The order, the places and the left table made.
 pub record Prepared (n k : ℕ) (lows highs order order′ places places′ table table′ : List ℕ) : Type 0 where

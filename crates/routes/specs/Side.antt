@@ -1,9 +1,10 @@
 -- The paths of one side of the sweep, A or B, in one list: entry i is the end of path i, entry 33 + i its last but one, and
 -- entry 66 + x the relay before x on its path; 0 means none. What the functions on a side do to it. Assumes nothing.
-use Prim.Native.Nat.{ℕ, zero, suc, _+_, _-_, _*_}
+use Prim.Native.Nat.{ℕ, zero, suc, _+_, _-_, _*_, _<_}
 use mathlib.Core.List.{List}
+use mathlib.Core.Path.{_≡_}
 use lib.Dec.{eqb, ltb}
-use lib.ListN.{getD, set}
+use lib.ListN.{length, getD, set}
 use Rattle.definitions.specs.Outcome.{pick}
 
 -- Entry (i − 1) × n + (v − 1) of a left table, i and v from 1, v up to n; 0 for any other.
@@ -20,6 +21,11 @@ secondIn side i = getD side (33 + i) 0
 
 unfoldable pub priorIn : List ℕ → ℕ → ℕ
 priorIn side x = getD side (66 + x) 0
+
+-- A side with room for the places up to n, and no path yet.
+pub record NoPaths (n : ℕ) (side : List ℕ) : Type 0 where
+  pub room : 66 + n < length side
+  pub none : (i : ℕ) → getD side i 0 ≡ 0
 
 -- The side after a new end and last but one for path i.
 unfoldable pub setPath : List ℕ → ℕ → ℕ → ℕ → List ℕ

@@ -1,7 +1,6 @@
 // The routes between two places, over a left table.
 ghost use mathlib.Core.Path.{_≡_};
 ghost use Prim.Native.Nat.{_-_, _<_, _≤_};
-ghost use lib.ListN.{replicate};
 ghost use Rattle.routes.specs.Side.{leftIn};
 ghost use Rattle.routes.specs.Writing.{written};
 ghost use Rattle.routes.specs.Between.{aliveIn, joinedIn, fallIn, riseIn, betweenIn};
@@ -9,13 +8,6 @@ use crate::side::left;
 use crate::sweep::sweep;
 use crate::write::write_routes;
 use network::Place;
-
-// No path yet.
-fn no_paths() -> [u16; 1067]
-    ensures { λ r. ⌜ r ≡ replicate 1067 0 ⌝ }
-{
-    [0u16; 1067]
-}
 
 // Each place after t up to s has a left entry of index k.
 fn alive(table: &[u16], n: u16, k: u16, t: u16, s: u16) -> bool
@@ -43,8 +35,10 @@ pub(crate) fn joined(table: &[u16], n: u16, k: u16, p: Place, q: Place) -> bool
     }
 }
 
-// The routes from s down to t.
+// The routes from s down to t, swept on the sides a and b.
 fn fall(
+    a: &mut [u16],
+    b: &mut [u16],
     table: &[u16],
     n: u16,
     k: u16,
@@ -56,16 +50,17 @@ fn fall(
 ) -> usize
     requires { ⌜ (0 < s .0) × (k ≤ 32) ⌝ }
     ensures { λ r. ⌜ written (now (counts .exit)) (now (relays .exit)) r
-        ≡ fallIn (leftIn (now (table .entry)) n) k (s .0) (t .0) (now (order .entry)) (now (counts .entry)) (now (relays .entry)) ⌝ }
+        ≡ fallIn (now (a .entry)) (now (b .entry)) (leftIn (now (table .entry)) n) k (s .0) (t .0) (now (order .entry))
+        (now (counts .entry)) (now (relays .entry)) ⌝ }
 {
-    let mut a = no_paths();
-    let mut b = no_paths();
-    sweep(&mut a, &mut b, table, n, k, s.0, t.0);
-    write_routes(counts, relays, &a, &b, order, k)
+    sweep(a, b, table, n, k, s.0, t.0);
+    write_routes(counts, relays, a, b, order, k)
 }
 
 // The routes from t up to s.
 fn rise(
+    a: &mut [u16],
+    b: &mut [u16],
     table: &[u16],
     n: u16,
     k: u16,
@@ -77,16 +72,17 @@ fn rise(
 ) -> usize
     requires { ⌜ (0 < s .0) × (k ≤ 32) ⌝ }
     ensures { λ r. ⌜ written (now (counts .exit)) (now (relays .exit)) r
-        ≡ riseIn (leftIn (now (table .entry)) n) k (s .0) (t .0) (now (order .entry)) (now (counts .entry)) (now (relays .entry)) ⌝ }
+        ≡ riseIn (now (a .entry)) (now (b .entry)) (leftIn (now (table .entry)) n) k (s .0) (t .0) (now (order .entry))
+        (now (counts .entry)) (now (relays .entry)) ⌝ }
 {
-    let mut a = no_paths();
-    let mut b = no_paths();
-    sweep(&mut a, &mut b, table, n, k, s.0, t.0);
-    write_routes(counts, relays, &b, &a, order, k)
+    sweep(a, b, table, n, k, s.0, t.0);
+    write_routes(counts, relays, b, a, order, k)
 }
 
 // The routes from p to q. Gives the number of relays written.
 pub(crate) fn between(
+    a: &mut [u16],
+    b: &mut [u16],
     table: &[u16],
     n: u16,
     k: u16,
@@ -98,11 +94,12 @@ pub(crate) fn between(
 ) -> usize
     requires { ⌜ (0 < p .0) × (0 < q .0) × (k ≤ 32) ⌝ }
     ensures { λ r. ⌜ written (now (counts .exit)) (now (relays .exit)) r
-        ≡ betweenIn (leftIn (now (table .entry)) n) k (p .0) (q .0) (now (order .entry)) (now (counts .entry)) (now (relays .entry)) ⌝ }
+        ≡ betweenIn (now (a .entry)) (now (b .entry)) (leftIn (now (table .entry)) n) k (p .0) (q .0) (now (order .entry))
+        (now (counts .entry)) (now (relays .entry)) ⌝ }
 {
     if q.0 < p.0 {
-        fall(table, n, k, p, q, order, counts, relays)
+        fall(a, b, table, n, k, p, q, order, counts, relays)
     } else {
-        rise(table, n, k, q, p, order, counts, relays)
+        rise(a, b, table, n, k, q, p, order, counts, relays)
     }
 }

@@ -10,21 +10,30 @@ use network::Place;
 use network::Refusal;
 use network::Relay;
 use network::table_check;
+use wish::wish_check;
+use zeros::few_links;
+use zeros::few_paths;
+use zeros::few_relays;
+use zeros::no_links;
+use zeros::no_paths;
+use zeros::no_relays;
+ghost use mathlib.Core.Bool.{true};
 ghost use mathlib.Core.List.{_++_};
 ghost use mathlib.Core.Path.{_≡_};
 ghost use Prim.Native.Nat.{ℕ, _*_, _≤_, _<_};
 ghost use lib.ListN.{length, drop, getD, replicate};
 ghost use Rattle.definitions.specs.Lists.{zeroed};
-ghost use Rattle.definitions.specs.Network.{Accepted};
 ghost use Rattle.definitions.specs.Route.{routeAnswer, countsAfter, routeRelaysAfter, scratchAfter};
-ghost use Rattle.network.specs.Answers.{checkOutcome};
+ghost use Rattle.forests.specs.Scan.{Scannable};
 ghost use Rattle.routes.specs.Side.{leftIn};
-ghost use Rattle.routes.specs.Answers.{routeOutcome, wishCheck, answered, answerIn, treeAnswer, Routable, Prepared};
+ghost use Rattle.routes.specs.Answers.{routeOutcome, answered, answerIn, treeAnswer, Routable, Workspace, Prepared};
 
 mod between;
 mod side;
 mod sweep;
+mod wish;
 mod write;
+mod zeros;
 
 // The count of relays written.
 pub enum RouteAnswer {
@@ -44,60 +53,6 @@ fn clear(list: &mut [u16], count: usize)
     }
 }
 
-fn no_relays() -> [u16; 1000]
-    ensures { λ r. ⌜ r ≡ replicate 1000 0 ⌝ }
-{
-    [0u16; 1000]
-}
-
-fn no_links() -> [u16; 3000]
-    ensures { λ r. ⌜ r ≡ replicate 3000 0 ⌝ }
-{
-    [0u16; 3000]
-}
-
-// What is wrong with the wish or the room for it, 9 to 12.
-fn wish_check(
-    n: u16,
-    k: u16,
-    from: u16,
-    to: u16,
-    counts: usize,
-    relays: usize,
-    scratch: usize,
-) -> Check
-    requires { ⌜ n ≤ 1000 ⌝ }
-    ensures { λ r. ⌜ checkOutcome r ≡ wishCheck n k from to counts relays scratch ⌝ }
-{
-    if k < 1 {
-        return Check::Refused(Refusal::RouteCount);
-    }
-    if 32 < k {
-        return Check::Refused(Refusal::RouteCount);
-    }
-    if n <= from {
-        return Check::Refused(Refusal::EndRange);
-    }
-    if n <= to {
-        return Check::Refused(Refusal::EndRange);
-    }
-    if from == to {
-        return Check::Refused(Refusal::SameEnds);
-    }
-    let routes = k as usize;
-    let size = n as usize;
-    if counts < routes {
-        return Check::Refused(Refusal::Room);
-    }
-    if relays < size - 2 + 2 * routes {
-        return Check::Refused(Refusal::Room);
-    }
-    if scratch < routes * size {
-        return Check::Refused(Refusal::Room);
-    }
-    Check::Accepted
-}
-
 // The order, the places and the left table of an accepted table.
 fn prepare(
     n: u16,
@@ -106,21 +61,22 @@ fn prepare(
     k: u16,
     order: &mut [u16],
     places: &mut [u16],
+    numbers: &mut [u16],
     table: &mut [u16],
 )
-    requires { ⌜ Accepted n (now lows) (now highs) ⌝ }
-    requires { ⌜ (length (now order) ≡ 1000) × (length (now places) ≡ 1000) ⌝ }
+    requires { ⌜ Scannable n (now lows) (now highs) (now order) (now places) (now numbers) ⌝ }
     requires { ⌜ (k * n ≤ length (now table)) × ((j : ℕ) → j < k * n → getD (now table) j 0 ≡ 0) ⌝ }
     ensures { λ _. ⌜ Prepared n k (now (lows .entry)) (now (highs .entry)) (now (order .entry)) (now (order .exit))
         (now (places .entry)) (now (places .exit)) (now (table .entry)) (now (table .exit)) ⌝ }
 {
-    let mut numbers = no_links();
-    scan(n, lows, highs, order, places, &mut numbers);
-    left_table(table, n, k, lows, highs, places, &numbers);
+    scan(n, lows, highs, order, places, numbers);
+    left_table(table, n, k, lows, highs, places, numbers);
 }
 
 // The routes from p to q, or 13.
 fn answer(
+    a: &mut [u16],
+    b: &mut [u16],
     table: &[u16],
     n: u16,
     k: u16,
@@ -132,12 +88,133 @@ fn answer(
 ) -> RouteAnswer
     requires { ⌜ (0 < p .0) × (0 < q .0) × (k ≤ 32) ⌝ }
     ensures { λ r. ⌜ answered (now (counts .exit)) (now (relays .exit)) (routeOutcome r)
-        ≡ answerIn (leftIn (now (table .entry)) n) k (p .0) (q .0) (now (order .entry)) (now (counts .entry)) (now (relays .entry)) ⌝ }
+        ≡ answerIn (now (a .entry)) (now (b .entry)) (leftIn (now (table .entry)) n) k (p .0) (q .0) (now (order .entry))
+        (now (counts .entry)) (now (relays .entry)) ⌝ }
 {
     if joined(table, n, k, p, q) {
-        return RouteAnswer::Written(between(table, n, k, p, q, order, counts, relays));
+        return RouteAnswer::Written(between(a, b, table, n, k, p, q, order, counts, relays));
     }
     RouteAnswer::Refused(Refusal::NotOneTree)
+}
+
+// Route where 3 to 12 are passed, in arrays that are lent to it.
+fn route_in(
+    n: u16,
+    lows: &[u16],
+    highs: &[u16],
+    k: u16,
+    from: u16,
+    to: u16,
+    order: &mut [u16],
+    places: &mut [u16],
+    numbers: &mut [u16],
+    a: &mut [u16],
+    b: &mut [u16],
+    counts: &mut [u16],
+    relays: &mut [u16],
+    scratch: &mut [u16],
+) -> RouteAnswer
+    requires { ⌜ Routable n (now lows) (now highs) k from to (now counts) (now relays) (now scratch)
+        × Workspace n (now lows) (now order) (now places) (now numbers) (now a) (now b) ⌝ }
+    ensures { λ r. ⌜ answered (now (counts .exit)) (now (relays .exit)) (routeOutcome r)
+        ≡ treeAnswer n (now (lows .entry)) (now (highs .entry)) k from to (now (counts .entry)) (now (relays .entry)) ⌝ }
+    ensures { λ _. ⌜ now (scratch .exit) ≡ zeroed (now (scratch .entry)) ⌝ }
+{
+    let entries = k as usize * n as usize;
+    clear(scratch, entries);
+    prepare(n, lows, highs, k, order, places, numbers, scratch);
+    let p = place_of(places, Relay(from));
+    let q = place_of(places, Relay(to));
+    let result = answer(a, b, scratch, n, k, p, q, order, counts, relays);
+    let whole = scratch.len();
+    clear(scratch, whole);
+    result
+}
+
+// A small network is routed in small arrays, so that little is cleared.
+fn is_small(n: u16, m: usize) -> bool
+    ensures { λ r. ⌜ (r ≡ true → (n ≤ 128) × (m ≤ 384)) ⌝ }
+{
+    if n <= 128 { m <= 384 } else { false }
+}
+
+fn route_small(
+    n: u16,
+    lows: &[u16],
+    highs: &[u16],
+    k: u16,
+    from: u16,
+    to: u16,
+    counts: &mut [u16],
+    relays: &mut [u16],
+    scratch: &mut [u16],
+) -> RouteAnswer
+    requires { ⌜ Routable n (now lows) (now highs) k from to (now counts) (now relays) (now scratch)
+        × (n ≤ 128) × (length (now lows) ≤ 384) ⌝ }
+    ensures { λ r. ⌜ answered (now (counts .exit)) (now (relays .exit)) (routeOutcome r)
+        ≡ treeAnswer n (now (lows .entry)) (now (highs .entry)) k from to (now (counts .entry)) (now (relays .entry)) ⌝ }
+    ensures { λ _. ⌜ now (scratch .exit) ≡ zeroed (now (scratch .entry)) ⌝ }
+{
+    let mut order = few_relays();
+    let mut places = few_relays();
+    let mut numbers = few_links();
+    let mut a = few_paths();
+    let mut b = few_paths();
+    route_in(
+        n,
+        lows,
+        highs,
+        k,
+        from,
+        to,
+        &mut order,
+        &mut places,
+        &mut numbers,
+        &mut a,
+        &mut b,
+        counts,
+        relays,
+        scratch,
+    )
+}
+
+fn route_large(
+    n: u16,
+    lows: &[u16],
+    highs: &[u16],
+    k: u16,
+    from: u16,
+    to: u16,
+    counts: &mut [u16],
+    relays: &mut [u16],
+    scratch: &mut [u16],
+) -> RouteAnswer
+    requires { ⌜ Routable n (now lows) (now highs) k from to (now counts) (now relays) (now scratch) ⌝ }
+    ensures { λ r. ⌜ answered (now (counts .exit)) (now (relays .exit)) (routeOutcome r)
+        ≡ treeAnswer n (now (lows .entry)) (now (highs .entry)) k from to (now (counts .entry)) (now (relays .entry)) ⌝ }
+    ensures { λ _. ⌜ now (scratch .exit) ≡ zeroed (now (scratch .entry)) ⌝ }
+{
+    let mut order = no_relays();
+    let mut places = no_relays();
+    let mut numbers = no_links();
+    let mut a = no_paths();
+    let mut b = no_paths();
+    route_in(
+        n,
+        lows,
+        highs,
+        k,
+        from,
+        to,
+        &mut order,
+        &mut places,
+        &mut numbers,
+        &mut a,
+        &mut b,
+        counts,
+        relays,
+        scratch,
+    )
 }
 
 // Route where 3 to 12 are passed.
@@ -157,17 +234,11 @@ fn route_accepted(
         ≡ treeAnswer n (now (lows .entry)) (now (highs .entry)) k from to (now (counts .entry)) (now (relays .entry)) ⌝ }
     ensures { λ _. ⌜ now (scratch .exit) ≡ zeroed (now (scratch .entry)) ⌝ }
 {
-    let mut order = no_relays();
-    let mut places = no_relays();
-    let entries = k as usize * n as usize;
-    clear(scratch, entries);
-    prepare(n, lows, highs, k, &mut order, &mut places, scratch);
-    let p = place_of(&places, Relay(from));
-    let q = place_of(&places, Relay(to));
-    let result = answer(scratch, n, k, p, q, &order, counts, relays);
-    let whole = scratch.len();
-    clear(scratch, whole);
-    result
+    if is_small(n, lows.len()) {
+        route_small(n, lows, highs, k, from, to, counts, relays, scratch)
+    } else {
+        route_large(n, lows, highs, k, from, to, counts, relays, scratch)
+    }
 }
 
 // The k routes from one relay to another, one after another, and how many relays each has.

@@ -17,25 +17,41 @@ same-length c = search needs
 same-length-2 : tie.Need-same-length-2
 same-length-2 c = search needs
 
+same-length-3 : tie.Need-same-length-3
+same-length-3 c = search needs
+
+same-length-4 : tie.Need-same-length-4
+same-length-4 c = search needs
+
 returns : tie.Need-returns
 returns c =
-    let atBetween = c .before .before .before .before in
-    let atIf1 = atBetween .before .before .before in
+    let atBetween = c .before .before .before .before .before .before .before .before in
+    let atIf1 = atBetween .before .before .before .before .before in
     let atJoined = atIf1 .before in
-    let start = atJoined .before .before .before .before .before in
+    let start = atJoined .before .before .before .before .before .before .before in
     let a = start .args in
-    answer-some (leftIn (a .table .now) (a .n)) (a .k) (a .p .0) (a .q .0) (a .order .now) (a .counts .now) (a .relays .now)
-    (atJoined .joined .result) (atJoined .joined .ensures) (atBetween .between .last .1 .1 .1 .1 .1 .1 .0)
-    (atBetween .between .last .1 .1 .1 .1 .1 .1 .1 .0) (atBetween .between .result)
+    answer-some (a .a .now) (a .b .now) (leftIn (a .table .now) (a .n)) (a .k) (a .p .0) (a .q .0) (a .order .now) (a .counts .now)
+    (a .relays .now)
+    (atJoined .joined .result) (atJoined .joined .ensures) (atBetween .between .last .1 .1 .1 .1 .1 .1 .1 .1 .0)
+    (atBetween .between .last .1 .1 .1 .1 .1 .1 .1 .1 .1 .0) (atBetween .between .result)
     (atIf1 .if1 .taken) (atBetween .between .ensures)
 
 returns-2 : tie.Need-returns-2
 returns-2 c =
-    let a = c .before .before .before .before .before .before .args in
-    answer-none (leftIn (a .table .now) (a .n)) (a .k) (a .p .0) (a .q .0) (a .order .now) (a .counts .now) (a .relays .now)
+    let a = c .before .before .before .before .before .before .before .before .args in
+    answer-none (a .a .now) (a .b .now) (leftIn (a .table .now) (a .n)) (a .k) (a .p .0) (a .q .0) (a .order .now) (a .counts .now)
+    (a .relays .now)
     (c .before .joined .result) (c .before .joined .ensures) (c .if1 .left)
 
 pub answer-spec : {M : Type 1} → statement M
 answer-spec =
     tie.close
-    (tie.spec joined-requires between-requires same-length same-length-2 returns returns-2)
+    (tie.spec
+    joined-requires
+    between-requires
+    same-length
+    same-length-2
+    same-length-3
+    same-length-4
+    returns
+    returns-2)

@@ -17,26 +17,38 @@ same-length c = search needs
 same-length-2 : tie.Need-same-length-2
 same-length-2 c = search needs
 
-returns : tie.Need-returns
-unfolding betweenIn
-returns c =
-    let atFall = c .before .before .before .before in
-    let atIf1 = atFall .before .before .before in
-    let start = atIf1 .before .before .before .before .before .before .before in
-    rw (lt-ltb (start .args .q .0) (start .args .p .0) (atIf1 .if1 .taken)) (atFall .fall .ensures)
-
 same-length-3 : tie.Need-same-length-3
 same-length-3 c = search needs
 
 same-length-4 : tie.Need-same-length-4
 same-length-4 c = search needs
 
+returns : tie.Need-returns
+unfolding betweenIn
+returns c =
+    let atFall = c .before .before .before .before .before .before .before .before in
+    let atIf1 = atFall .before .before .before .before .before in
+    let start = atIf1 .before .before .before .before .before .before .before .before .before in
+    rw (lt-ltb (start .args .q .0) (start .args .p .0) (atIf1 .if1 .taken)) (atFall .fall .ensures)
+
+same-length-5 : tie.Need-same-length-5
+same-length-5 c = search needs
+
+same-length-6 : tie.Need-same-length-6
+same-length-6 c = search needs
+
+same-length-7 : tie.Need-same-length-7
+same-length-7 c = search needs
+
+same-length-8 : tie.Need-same-length-8
+same-length-8 c = search needs
+
 returns-2 : tie.Need-returns-2
 unfolding betweenIn
 returns-2 c =
-    let atRise = c .before .before .before .before in
-    let atIf1 = atRise .before .before .before in
-    let start = atIf1 .before .before .before .before .before .before .before in
+    let atRise = c .before .before .before .before .before .before .before .before in
+    let atIf1 = atRise .before .before .before .before .before in
+    let start = atIf1 .before .before .before .before .before .before .before .before .before in
     rw (le-ltb (start .args .q .0) (start .args .p .0) (atIf1 .if1 .left)) (atRise .rise .ensures)
 
 pub between-spec : {M : Type 1} → statement M
@@ -47,7 +59,11 @@ between-spec =
     rise-requires
     same-length
     same-length-2
-    returns
     same-length-3
     same-length-4
+    returns
+    same-length-5
+    same-length-6
+    same-length-7
+    same-length-8
     returns-2)

@@ -6,8 +6,8 @@ use borrow.Author.Tests.{lt-ltb, le-ltb, le-leb, lt-leb, eq-eqb, ne-eqb}
 use native.Mathlib.Nat.{mul-le-mul}
 use native.Mathlib.Omega.{arith}
 use borrow.Author.Needs.{needs}
-use Rattle.routes.proofs.wish_check.Statement.{statement}
-use Rattle.routes.proofs.wish_check.Tie as tie
+use Rattle.routes.proofs.wish.wish_check.Statement.{statement}
+use Rattle.routes.proofs.wish.wish_check.Tie as tie
 
 returns : tie.Need-returns
 unfolding wishCheck outside refuseIf

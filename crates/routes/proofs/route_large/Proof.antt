@@ -1,0 +1,84 @@
+-- `route_large` meets its contract. Assumes nothing.
+use native.Mathlib.Omega.{arith}
+use Rattle.routes.proofs.Answering.{workspace}
+use Rattle.theory.specs.Accepted.{accepted}
+use borrow.Author.Needs.{needs}
+use Rattle.routes.proofs.route_large.Statement.{statement}
+use Rattle.routes.proofs.route_large.Tie as tie
+
+no-relays-requires : tie.Need-no-relays-requires
+no-relays-requires c κs = search needs
+
+no-relays-requires-2 : tie.Need-no-relays-requires-2
+no-relays-requires-2 c κs = search needs
+
+no-links-requires : tie.Need-no-links-requires
+no-links-requires c κs = search needs
+
+no-paths-requires : tie.Need-no-paths-requires
+no-paths-requires c κs = search needs
+
+no-paths-requires-2 : tie.Need-no-paths-requires-2
+no-paths-requires-2 c κs = search needs
+
+slice-aggregate-route-in : tie.Need-slice-aggregate-route-in
+slice-aggregate-route-in c = search needs
+
+slice-aggregate-route-in-2 : tie.Need-slice-aggregate-route-in-2
+slice-aggregate-route-in-2 c = search needs
+
+slice-aggregate-route-in-3 : tie.Need-slice-aggregate-route-in-3
+slice-aggregate-route-in-3 c = search needs
+
+slice-aggregate-route-in-4 : tie.Need-slice-aggregate-route-in-4
+slice-aggregate-route-in-4 c = search needs
+
+slice-aggregate-route-in-5 : tie.Need-slice-aggregate-route-in-5
+slice-aggregate-route-in-5 c = search needs
+
+route-in-requires : tie.Need-route-in-requires
+route-in-requires c κs =
+    let atNoPaths2 = c .before .before .before .before .before .before .before .before in
+    let atNoPaths = atNoPaths2 .before in
+    let atNoLinks = atNoPaths .before in
+    let atNoRelays2 = atNoLinks .before in
+    let atNoRelays = atNoRelays2 .before in
+    let s = atNoRelays .before .before .before .before .before .before in
+    let t = accepted (s .args .n) (s .args .lows .now) (s .args .highs .now) (s .pre .accepted) in (
+      s .pre,
+      workspace 1000 3000 1067 (s .args .n) (t .few) (t .short) (omega (arith, t .few))
+          (atNoRelays .no-relays .ensures) (atNoRelays2 .no-relays2 .ensures) (atNoLinks .no-links .ensures)
+          (atNoPaths .no-paths .ensures) (atNoPaths2 .no-paths2 .ensures),
+    )
+
+same-length : tie.Need-same-length
+same-length c = search needs
+
+same-length-2 : tie.Need-same-length-2
+same-length-2 c = search needs
+
+same-length-3 : tie.Need-same-length-3
+same-length-3 c = search needs
+
+returns : tie.Need-returns
+returns c = search needs
+
+pub route-large-spec : {M : Type 1} → statement M
+route-large-spec =
+    tie.close
+    (tie.spec
+    no-relays-requires
+    no-relays-requires-2
+    no-links-requires
+    no-paths-requires
+    no-paths-requires-2
+    slice-aggregate-route-in
+    slice-aggregate-route-in-2
+    slice-aggregate-route-in-3
+    slice-aggregate-route-in-4
+    slice-aggregate-route-in-5
+    route-in-requires
+    same-length
+    same-length-2
+    same-length-3
+    returns)

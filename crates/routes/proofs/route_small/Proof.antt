@@ -1,0 +1,82 @@
+-- `route_small` meets its contract. Assumes nothing.
+use native.Mathlib.Omega.{arith}
+use Rattle.routes.proofs.Answering.{workspace}
+use borrow.Author.Needs.{needs}
+use Rattle.routes.proofs.route_small.Statement.{statement}
+use Rattle.routes.proofs.route_small.Tie as tie
+
+few-relays-requires : tie.Need-few-relays-requires
+few-relays-requires c κs = search needs
+
+few-relays-requires-2 : tie.Need-few-relays-requires-2
+few-relays-requires-2 c κs = search needs
+
+few-links-requires : tie.Need-few-links-requires
+few-links-requires c κs = search needs
+
+few-paths-requires : tie.Need-few-paths-requires
+few-paths-requires c κs = search needs
+
+few-paths-requires-2 : tie.Need-few-paths-requires-2
+few-paths-requires-2 c κs = search needs
+
+slice-aggregate-route-in : tie.Need-slice-aggregate-route-in
+slice-aggregate-route-in c = search needs
+
+slice-aggregate-route-in-2 : tie.Need-slice-aggregate-route-in-2
+slice-aggregate-route-in-2 c = search needs
+
+slice-aggregate-route-in-3 : tie.Need-slice-aggregate-route-in-3
+slice-aggregate-route-in-3 c = search needs
+
+slice-aggregate-route-in-4 : tie.Need-slice-aggregate-route-in-4
+slice-aggregate-route-in-4 c = search needs
+
+slice-aggregate-route-in-5 : tie.Need-slice-aggregate-route-in-5
+slice-aggregate-route-in-5 c = search needs
+
+route-in-requires : tie.Need-route-in-requires
+route-in-requires c κs =
+    let atFewPaths2 = c .before .before .before .before .before .before .before .before in
+    let atFewPaths = atFewPaths2 .before in
+    let atFewLinks = atFewPaths .before in
+    let atFewRelays2 = atFewLinks .before in
+    let atFewRelays = atFewRelays2 .before in
+    let s = atFewRelays .before .before .before .before .before .before in (
+      s .pre .0,
+      workspace 128 384 195 (s .args .n) (s .pre .1) (s .pre .2) (omega (arith, s .pre .1))
+          (atFewRelays .few-relays .ensures) (atFewRelays2 .few-relays2 .ensures) (atFewLinks .few-links .ensures)
+          (atFewPaths .few-paths .ensures) (atFewPaths2 .few-paths2 .ensures),
+    )
+
+same-length : tie.Need-same-length
+same-length c = search needs
+
+same-length-2 : tie.Need-same-length-2
+same-length-2 c = search needs
+
+same-length-3 : tie.Need-same-length-3
+same-length-3 c = search needs
+
+returns : tie.Need-returns
+returns c = search needs
+
+pub route-small-spec : {M : Type 1} → statement M
+route-small-spec =
+    tie.close
+    (tie.spec
+    few-relays-requires
+    few-relays-requires-2
+    few-links-requires
+    few-paths-requires
+    few-paths-requires-2
+    slice-aggregate-route-in
+    slice-aggregate-route-in-2
+    slice-aggregate-route-in-3
+    slice-aggregate-route-in-4
+    slice-aggregate-route-in-5
+    route-in-requires
+    same-length
+    same-length-2
+    same-length-3
+    returns)

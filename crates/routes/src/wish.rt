@@ -1,0 +1,49 @@
+// The wish of Route and the room for its answer.
+use network::Check;
+use network::Refusal;
+ghost use mathlib.Core.Path.{_≡_};
+ghost use Prim.Native.Nat.{_≤_};
+ghost use Rattle.network.specs.Answers.{checkOutcome};
+ghost use Rattle.routes.specs.Answers.{wishCheck};
+
+// What is wrong with the wish or the room for it, 9 to 12.
+pub(crate) fn wish_check(
+    n: u16,
+    k: u16,
+    from: u16,
+    to: u16,
+    counts: usize,
+    relays: usize,
+    scratch: usize,
+) -> Check
+    requires { ⌜ n ≤ 1000 ⌝ }
+    ensures { λ r. ⌜ checkOutcome r ≡ wishCheck n k from to counts relays scratch ⌝ }
+{
+    if k < 1 {
+        return Check::Refused(Refusal::RouteCount);
+    }
+    if 32 < k {
+        return Check::Refused(Refusal::RouteCount);
+    }
+    if n <= from {
+        return Check::Refused(Refusal::EndRange);
+    }
+    if n <= to {
+        return Check::Refused(Refusal::EndRange);
+    }
+    if from == to {
+        return Check::Refused(Refusal::SameEnds);
+    }
+    let routes = k as usize;
+    let size = n as usize;
+    if counts < routes {
+        return Check::Refused(Refusal::Room);
+    }
+    if relays < size - 2 + 2 * routes {
+        return Check::Refused(Refusal::Room);
+    }
+    if scratch < routes * size {
+        return Check::Refused(Refusal::Room);
+    }
+    Check::Accepted
+}
