@@ -155,8 +155,8 @@ fn scan_in(
     );
 }
 
-// A small network has small arrays, so that little is cleared.
-fn is_small(n: u16, m: usize) -> bool
+// A small network is worked on in small arrays, so that little is cleared.
+pub fn is_small(n: u16, m: usize) -> bool
     ensures { λ r. ⌜ (r ≡ true → (n ≤ 128) × (m ≤ 384)) ⌝ }
 {
     if n <= 128 { m <= 384 } else { false }

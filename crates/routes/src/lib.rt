@@ -3,6 +3,7 @@
 use between::between;
 use between::joined;
 use forests::left::left_table;
+use forests::scan::is_small;
 use forests::scan::place_of;
 use forests::scan::scan;
 use network::Check;
@@ -17,7 +18,6 @@ use zeros::few_relays;
 use zeros::no_links;
 use zeros::no_paths;
 use zeros::no_relays;
-ghost use mathlib.Core.Bool.{true};
 ghost use mathlib.Core.List.{_++_};
 ghost use mathlib.Core.Path.{_≡_};
 ghost use Prim.Native.Nat.{ℕ, _*_, _≤_, _<_};
@@ -131,13 +131,7 @@ fn route_in(
     result
 }
 
-// A small network is routed in small arrays, so that little is cleared.
-fn is_small(n: u16, m: usize) -> bool
-    ensures { λ r. ⌜ (r ≡ true → (n ≤ 128) × (m ≤ 384)) ⌝ }
-{
-    if n <= 128 { m <= 384 } else { false }
-}
-
+// Route in small arrays.
 fn route_small(
     n: u16,
     lows: &[u16],
@@ -178,6 +172,7 @@ fn route_small(
     )
 }
 
+// Route in large arrays.
 fn route_large(
     n: u16,
     lows: &[u16],
