@@ -23,7 +23,7 @@ module _ {n : ℕ} {lows highs : List ℕ} {k : ℕ} {keys : List ℕ} (few : n 
   pub key-placed : (r : ℕ) → r < n → has (placed n lows highs k) r ≡ true → getD keys r 0 ≡ 0
   key-placed r h w = at .key r h ∙ rw w
 
-  waits : (r : ℕ) → r < n → 0 < getD keys r 0 → has (placed n lows highs k) r ≡ false
+  pub waits : (r : ℕ) → r < n → 0 < getD keys r 0 → has (placed n lows highs k) r ≡ false
   waits r h p = go (has (placed n lows highs k) r) refl
     where
       go : (b : Bool) → has (placed n lows highs k) r ≡ b → b ≡ false

@@ -29,6 +29,15 @@ pub number-some : (key old : ℕ) → 0 < key → numberOf key old ≡ key / 102
 unfolding numberOf
 number-some key old h = rw (ne-eqb key 0 (λ e. omega arith))
 
+-- Of a waiting relay's count and the number that stands there one is 0, so their sum is the number.
+pub number-sum : (key old : ℕ) → (0 < key → old ≡ 0) → old + key / 1024 ≡ numberOf key old
+number-sum zero old fresh = omega (arith, number-none zero old refl)
+number-sum (suc key) old fresh = omega (arith, fresh (omega arith), number-some (suc key) old (omega arith))
+
+pub number-small : (key old : ℕ) → (0 < key → old ≡ 0) → key < 2000000 → old < 65536 → old + key / 1024 < 65536
+number-small zero old fresh few short = omega arith
+number-small (suc key) old fresh few short = omega (arith, fresh (omega arith))
+
 pub no-keys : (size n : ℕ) (keys : List ℕ) → n ≤ size → size ≤ 1024 → size % 32 ≡ 0 → keys ≡ replicate size 0
     → NoKeys n keys
 no-keys size n keys room few full e =

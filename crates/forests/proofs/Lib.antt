@@ -7,6 +7,7 @@ pub mod OrderLaws
 pub mod ChoiceLaws
 pub mod StepLaws
 pub mod FinishLaws
+pub mod ClearLaws
 pub mod ScanLaws
 pub mod LeftLaws
 pub mod AnswerLaws

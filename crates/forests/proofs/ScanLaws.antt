@@ -25,6 +25,7 @@ use Rattle.forests.proofs.StepLaws.{
   places-start,
   forests-start,
   overwrite-next,
+  unnumbered,
   keys-step,
   places-step,
   forests-step,
@@ -112,7 +113,7 @@ module _ {n : ℕ} {lows highs first lownext highnext keys tops relays places fo
           keysAt = keys-start (can .startKeys);
           relaysAt = refl;
           placesAt = places-start places;
-          forestsAt = forests-start forests;
+          forestsAt = forests-start forests (can .zeros);
         }
 
     pub relays-long : {keys′ relays′ places′ forests′ : List ℕ} (k : ℕ) → k ≤ n
@@ -144,6 +145,7 @@ module _ {n : ℕ} {lows highs first lownext highnext keys tops relays places fo
                     room = omega (arith, at .forestsAt .long, can .scannable .forestRoom);
                     topped = topped;
                     bound = λ r. keys-bound k (proper .few) (omega arith) (at .keysAt) r;
+                    fresh = rw choice (unnumbered proper k within (at .keysAt) (at .forestsAt));
                   };
               rest = at .keysAt .rest;
               some = omega arith;

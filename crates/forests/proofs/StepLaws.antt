@@ -1,12 +1,12 @@
 -- One step of the scan: the relay that follows is placed, its key is 0, and its links are walked. Assumes nothing.
 use Prim.Native.Nat.{ℕ, suc, _/_, _≤_, _<_}
-use mathlib.Core.Bool.{Bool, true, false, true≢false}
+use mathlib.Core.Bool.{Bool, true, false, _||_, true≢false}
 use mathlib.Core.List.{List, [], _∷_, _++_, append-assoc}
 use mathlib.Core.Logic.{_≢_, _⊎_, inl, inr}
 use mathlib.Core.Path.{_≡_, refl, sym, _∙_, ap}
 use native.Mathlib.Decide.{ℕ-discrete}
 use native.Mathlib.Omega.{arith}
-use borrow.Author.Tests.{eqb-true, lt-ltb, le-ltb}
+use borrow.Author.Tests.{eqb-true, ne-eqb, lt-ltb, le-ltb}
 use lib.Dec.{eqb}
 use lib.ListN.{length, getD, set, drop, length-set, length-append}
 use lib.Seq.{getD-set-same, getD-set-other, set-at, drop-cons}
@@ -19,12 +19,12 @@ use Rattle.theory.specs.Accepted.{ProperTable}
 use Rattle.theory.specs.Links.{joins-ends, joins-sym, joined-linked}
 use Rattle.forests.specs.Chains.{touches}
 use Rattle.forests.specs.Keys.{keyOf, raisedKey, numberOf, StartKeys}
-use Rattle.forests.specs.Walk.{farEnd, Walked}
+use Rattle.forests.specs.Walk.{otherEnd, farEnd, Walked}
 use Rattle.forests.specs.Scan.{placed, following, KeysAt, PlacesAt, ForestsAt}
 use Rattle.forests.proofs.KeyLaws.{raised-none, raised-some, number-none, number-some}
 use Rattle.forests.proofs.WalkLaws.{joins-touches, joins-far}
 use Rattle.forests.proofs.OrderLaws.{placed-earlier, following-new, has-new, has-same, weight-linked, weight-apart, position-new, position-same}
-use Rattle.forests.proofs.ChoiceLaws.{key-waiting, key-placed}
+use Rattle.forests.proofs.ChoiceLaws.{key-waiting, key-placed, waits}
 
 -- Before the first step.
 pub keys-start : {n : ℕ} {lows highs keys : List ℕ} → StartKeys n keys → KeysAt n lows highs 0 keys
@@ -35,8 +35,10 @@ pub places-start : {n : ℕ} {lows highs : List ℕ} (places : List ℕ) → Pla
 unfolding placedAfter has
 places-start places = record { long = refl; place = λ r h. absurd (true≢false (sym h)); rest = λ r h. refl }
 
-pub forests-start : {n : ℕ} {lows highs : List ℕ} (forests : List ℕ) → ForestsAt n lows highs 0 forests forests
-forests-start forests = record { long = refl; forest = λ i j y a b. absurd (omega arith); rest = λ i h. refl }
+pub forests-start : {n : ℕ} {lows highs : List ℕ} (forests : List ℕ) → ((i : ℕ) → i < length lows → getD forests i 0 ≡ 0)
+    → ForestsAt n lows highs 0 forests forests
+forests-start forests zeros =
+    record { long = refl; forest = λ i j y a b. absurd (omega arith); waiting = λ i h a b. zeros i h; rest = λ i h. refl }
 
 -- One entry more is written over a list.
 pub overwrite-next : (new old : List ℕ) (k x : ℕ) → length new ≡ k → k < length old
@@ -77,6 +79,45 @@ module _ {n : ℕ} {lows highs : List ℕ} (t : ProperTable n lows highs) (k : �
       go (inl p) (inr q) = sym (eqb-true (getD lows i 0) c p) ∙ q .0
       go (inr p) (inl q) = sym (eqb-true (getD highs i 0) c p) ∙ q .1
       go (inr p) (inr q) = absurd (d (sym (eqb-true (getD highs i 0) c p) ∙ q .1))
+
+  -- Who waits when the relay that follows is placed is another relay, and waited before.
+  another : (r : ℕ) → has (placed n lows highs (suc k)) r ≡ false → r ≢ following n lows highs k
+  another r h e = true≢false (sym (has-new n lows highs k) ∙ ap (has (placed n lows highs (suc k))) (sym e) ∙ h)
+
+  waited : (r : ℕ) → has (placed n lows highs (suc k)) r ≡ false → has (placed n lows highs k) r ≡ false
+  waited r h = sym (has-same n lows highs k r (another r h)) ∙ h
+
+  -- A link from the relay that follows to a waiting one has no number yet.
+  pub unnumbered : {keys start forests : List ℕ} → KeysAt n lows highs k keys → ForestsAt n lows highs k start forests
+      → (j : ℕ) → j < length lows → touches lows highs (following n lows highs k) j ≡ true
+      → 0 < getD (set keys (following n lows highs k) 0) (farEnd lows highs (following n lows highs k) j) 0
+      → getD forests j 0 ≡ 0
+  unfolding touches farEnd otherEnd
+  unnumbered {keys} {start} {forests} at f j h e some =
+      go (eqb (getD lows j 0) (following n lows highs k)) refl (eqb (getD highs j 0) (following n lows highs k)) refl e some
+    where
+      new : (following n lows highs k < n) × (has (placed n lows highs k) (following n lows highs k) ≡ false)
+      new = following-new n lows highs k within
+
+      own : (r : ℕ) → eqb r (following n lows highs k) ≡ true → has (placed n lows highs k) r ≡ false
+      own r p = ap (has (placed n lows highs k)) (eqb-true r (following n lows highs k) p) ∙ new .1
+
+      far : (r : ℕ) → r < n → 0 < getD (set keys (following n lows highs k) 0) r 0 → Dec (r ≡ following n lows highs k)
+          → has (placed n lows highs k) r ≡ false
+      far r p q (yes d) = ap (has (placed n lows highs k)) d ∙ new .1
+      far r p q (no d) = waits (t .few) at r p (omega (arith, getD-set-other keys (following n lows highs k) r 0 0 d))
+
+      go : (a : Bool) → eqb (getD lows j 0) (following n lows highs k) ≡ a
+          → (b : Bool) → eqb (getD highs j 0) (following n lows highs k) ≡ b → (a || b) ≡ true
+          → 0 < getD (set keys (following n lows highs k) 0) (pick a (getD highs j 0) (getD lows j 0)) 0 → getD forests j 0 ≡ 0
+      go true p b q z s =
+          f .waiting j h (own (getD lows j 0) p)
+          (far (getD highs j 0) (t .below j h) s (ℕ-discrete (getD highs j 0) (following n lows highs k)))
+      go false p true q z s =
+          f .waiting j h
+          (far (getD lows j 0) (omega (arith, t .ordered j h, t .below j h)) s (ℕ-discrete (getD lows j 0) (following n lows highs k)))
+          (own (getD highs j 0) q)
+      go false p false q z s = absurd (true≢false (sym z))
 
   module _ {keys keys′ forests forests′ : List ℕ}
       (at : KeysAt n lows highs k keys)
@@ -187,11 +228,22 @@ module _ {n : ℕ} {lows highs : List ℕ} (t : ProperTable n lows highs) (k : �
               (sym (joins-far lows highs (following n lows highs k) (following n lows highs j) i f (t .ordered i h)) ∙ back) in
               rw far (number-none (getD (set keys (following n lows highs k) 0) (following n lows highs j) 0) (getD forests i 0) gone)
 
+      -- A link with other ends is not one of the relay that is placed now.
+      untouched : (i : ℕ) → getD lows i 0 ≢ following n lows highs k → getD highs i 0 ≢ following n lows highs k
+          → touches lows highs (following n lows highs k) i ≡ false
+      unfolding touches
+      untouched i a b =
+          rw (ne-eqb (getD lows i 0) (following n lows highs k) a, ne-eqb (getD highs i 0) (following n lows highs k) b)
+
       pub forests-step : (start : List ℕ) → ForestsAt n lows highs k start forests → ForestsAt n lows highs (suc k) start forests′
       forests-step start f =
           record {
             long = w .long ∙ f .long;
             forest = λ i j y h early e p. go i j y h early e p (ℕ-discrete j k);
+            waiting = λ i h low high.
+                w .forest i
+                ∙ rw (lt-ltb i (length lows) h, untouched i (another (getD lows i 0) low) (another (getD highs i 0) high))
+                (f .waiting i h (waited (getD lows i 0) low) (waited (getD highs i 0) high));
             rest = λ i h. w .forest i ∙ rw (le-ltb i (length lows) h) (f .rest i h);
           }
         where
@@ -227,6 +279,5 @@ module _ {n : ℕ} {lows highs : List ℕ} (t : ProperTable n lows highs) (k : �
 
       rest : (r : ℕ) → has (placed n lows highs (suc k)) r ≡ false → Dec (r ≡ following n lows highs k)
           → getD (set places (following n lows highs k) (suc k)) r 0 ≡ getD start r 0
-      rest r h (yes e) = absurd (true≢false (sym (has-new n lows highs k) ∙ ap (has (placed n lows highs (suc k))) (sym e) ∙ h))
-      rest r h (no d) =
-          getD-set-other places (following n lows highs k) r (suc k) 0 d ∙ f .rest r (sym (has-same n lows highs k r d) ∙ h)
+      rest r h (yes e) = absurd (another r h e)
+      rest r h (no d) = getD-set-other places (following n lows highs k) r (suc k) 0 d ∙ f .rest r (waited r h)

@@ -239,6 +239,8 @@ module _ {x : ℕ} {lows highs first lownext highnext keys cleared tops tops₀ 
         pub walk-visits : Visitable x i lows highs lownext highnext keys′ tops′ forests′
         walk-visits =
             let y = farEnd lows highs x i in
+            let old : getD keys′ y 0 ≡ getD cleared y 0 = far-key lows highs x i (can .proper) within (w .1 within) (w .2) in
+            let left : getD forests′ i 0 ≡ getD forests i 0 = w .2 .forest i ∙ rw (le-ltb i i (omega arith)) in
             record {
               within = within;
               same = sym (can .proper .even);
@@ -248,7 +250,8 @@ module _ {x : ℕ} {lows highs first lownext highnext keys cleared tops tops₀ 
               highRoom = can .chained .highRoom;
               far = omega (arith, far-below lows highs x i (can .proper) within, w .2 .keyRoom, room);
               topped = w .3;
-              bound = omega (arith, far-key lows highs x i (can .proper) within (w .1 within) (w .2), bounded y);
+              bound = omega (arith, old, bounded y);
+              fresh = λ h. left ∙ can .fresh i within (w .1 within) (omega (arith, h, old ∙ ap (λ l. getD l y 0) (c .stored)));
             }
 
         pub walk-moves : {keys″ tops″ forests″ : List ℕ} (next : ℕ)

@@ -3,7 +3,7 @@ use Prim.Native.Nat.{ℕ, suc, _-_, _≤_, _<_}
 use mathlib.Core.Bool.{true, false}
 use mathlib.Core.List.{List}
 use mathlib.Core.Path.{_≡_}
-use lib.ListN.{length, getD, set, take}
+use lib.ListN.{length, getD, set, take, drop}
 use Rattle.definitions.specs.Outcome.{pick}
 use Rattle.definitions.specs.Lists.{table, overwrite, has, position, greatest}
 use Rattle.definitions.specs.Network.{joins, linked, Accepted}
@@ -55,12 +55,15 @@ pub record PlacesAt (n : ℕ) (lows highs : List ℕ) (k : ℕ) (places places�
   pub rest : (r : ℕ) → has (placed n lows highs k) r ≡ false → getD places′ r 0 ≡ getD places r 0
 
 -- The forest numbers when k relays are placed: of a link from the j-th of them to a relay y that was not placed then, the
--- number of links of y to relays placed by then.
+-- number of links of y to relays placed by then; of a link between waiting relays, 0.
 pub record ForestsAt (n : ℕ) (lows highs : List ℕ) (k : ℕ) (forests forests′ : List ℕ) : Type 0 where
   pub long : length forests′ ≡ length forests
   pub forest : (i j y : ℕ) → i < length lows → j < k
       → joins lows highs (following n lows highs j) y i ≡ true → has (placed n lows highs j) y ≡ false
       → getD forests′ i 0 ≡ weight (linked lows highs) (placed n lows highs (suc j)) y
+  pub waiting : (i : ℕ) → i < length lows
+      → has (placed n lows highs k) (getD lows i 0) ≡ false → has (placed n lows highs k) (getD highs i 0) ≡ false
+      → getD forests′ i 0 ≡ 0
   pub rest : (i : ℕ) → length lows ≤ i → getD forests′ i 0 ≡ getD forests i 0
 
 -- All lists when k relays are placed.
@@ -77,6 +80,12 @@ pub record Scannable (n : ℕ) (lows highs relays places forests : List ℕ) : T
   pub placeRoom : n ≤ length places
   pub forestRoom : length lows ≤ length forests
 
+-- Of the first m entries the first i are 0; past them nothing has changed.
+pub record Cleared (i m : ℕ) (forests forests′ : List ℕ) : Type 0 where
+  pub long : length forests′ ≡ length forests
+  pub zeros : (j : ℕ) → j < i → getD forests′ j 0 ≡ 0
+  pub rest : drop m forests′ ≡ drop m forests
+
 -- Arrays with room for the scan, without chains and keys.
 pub record Workspace (n : ℕ) (lows first lownext highnext keys : List ℕ) : Type 0 where
   pub heads : n ≤ length first
@@ -86,7 +95,7 @@ pub record Workspace (n : ℕ) (lows first lownext highnext keys : List ℕ) : T
   pub highRoom : length lows ≤ length highnext
   pub noKeys : NoKeys (length first) keys
 
--- The same, with chains and keys made.
+-- The same, with chains and keys made, and without forest numbers.
 pub record Startable (n : ℕ) (lows highs first lownext highnext keys tops relays places forests : List ℕ) : Type 0 where
   pub scannable : Scannable n lows highs relays places forests
   pub heads : n ≤ length first
@@ -95,6 +104,7 @@ pub record Startable (n : ℕ) (lows highs first lownext highnext keys tops rela
   pub chained : ChainedFrom lows highs 0 first lownext highnext
   pub startKeys : StartKeys n keys
   pub topped : Tops keys tops
+  pub zeros : (i : ℕ) → i < length lows → getD forests i 0 ≡ 0
 
 -- What the scan does.
 pub record Scanned (n : ℕ) (lows highs relays relays′ places places′ forests forests′ : List ℕ) : Type 0 where

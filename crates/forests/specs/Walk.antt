@@ -1,7 +1,7 @@
 -- What the walk over the links of a relay x does to the keys and the forest numbers, in terms of all links below an index.
 -- Assumes nothing.
 use Prim.Native.Nat.{ℕ, _≤_, _<_}
-use mathlib.Core.Bool.{_&&_}
+use mathlib.Core.Bool.{true, _&&_}
 use mathlib.Core.List.{List}
 use mathlib.Core.Path.{_≡_}
 use lib.Dec.{eqb, ltb}
@@ -37,6 +37,7 @@ pub record Visitable (x i : ℕ) (lows highs lownext highnext keys tops forests 
   pub far : farEnd lows highs x i < length keys
   pub topped : Tops keys tops
   pub bound : getD keys (farEnd lows highs x i) 0 < 2000000
+  pub fresh : 0 < getD keys (farEnd lows highs x i) 0 → getD forests i 0 ≡ 0
 
 -- What a visit does.
 pub record Visited (x i : ℕ) (lows highs lownext highnext keys keys′ tops′ forests forests′ : List ℕ) (next : ℕ) : Type 0 where
@@ -55,7 +56,7 @@ pub record WalkedTo (lows highs : List ℕ) (x i : ℕ) (keys keys′ forests fo
       → getD forests′ j 0
       ≡ pick (ltb j i && touches lows highs x j) (numberOf (getD keys (farEnd lows highs x j) 0) (getD forests j 0)) (getD forests j 0)
 
--- What the walk over all links of x asks.
+-- What the walk over all links of x asks; a link from x to a waiting relay has no number yet.
 pub record Walkable (x : ℕ) (lows highs first lownext highnext keys tops forests : List ℕ) : Type 0 where
   pub proper : ProperTable (length first) lows highs
   pub chained : ChainedFrom lows highs 0 first lownext highnext
@@ -64,6 +65,8 @@ pub record Walkable (x : ℕ) (lows highs first lownext highnext keys tops fores
   pub room : length lows ≤ length forests
   pub topped : Tops keys tops
   pub bound : (r : ℕ) → getD keys r 0 < 2000000
+  pub fresh : (j : ℕ) → j < length lows → touches lows highs x j ≡ true → 0 < getD (set keys x 0) (farEnd lows highs x j) 0
+      → getD forests j 0 ≡ 0
 
 -- What it does: x is placed, so that its key is 0, and all its links are visited.
 abbrev pub Walked : ℕ → List ℕ → List ℕ → List ℕ → List ℕ → List ℕ → List ℕ → Type 0

@@ -56,10 +56,11 @@ pub fn raised(key: u32) -> u32
     if key == 0 { 0 } else { key + 1024 }
 }
 
-// The forest number of a link to a relay with this key, `old` if that relay is placed.
+// The forest number of a link to a relay with this key, `old` if that relay is placed; a sum, since one of the two is 0.
 pub fn number(key: u32, old: u16) -> u16
-    requires { ⌜ key < 2000000 ⌝ }
+    requires { ⌜ (key < 2000000) × (0 < key → old ≡ 0) ⌝ }
     ensures { λ r. ⌜ r ≡ numberOf key old ⌝ }
 {
-    if key == 0 { old } else { (key / 1024) as u16 }
+    let count = (key / 1024) as u16;
+    old + count
 }

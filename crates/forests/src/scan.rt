@@ -21,7 +21,7 @@ ghost use Rattle.definitions.specs.Lists.{overwrite};
 ghost use Rattle.definitions.specs.Network.{Accepted};
 ghost use Rattle.definitions.specs.Order.{orderOf, placesOf};
 ghost use Rattle.definitions.specs.Forests.{forestsOf};
-ghost use Rattle.forests.specs.Scan.{Placeable, PlacedOne, Startable, Scannable, Workspace, Scanned};
+ghost use Rattle.forests.specs.Scan.{Placeable, PlacedOne, Startable, Scannable, Workspace, Cleared, Scanned};
 
 // The place of a relay, from the list of places.
 pub fn place_of(places: &[u16], r: Relay) -> Place
@@ -119,6 +119,18 @@ fn place_all(
     }
 }
 
+// No link has a number yet.
+fn clear_numbers(m: usize, forests: &mut [u16])
+    requires { ⌜ m ≤ length (now forests) ⌝ }
+    ensures { λ _. ⌜ Cleared m m (now (forests .entry)) (now (forests .exit)) ⌝ }
+{
+    let mut i = 0;
+    while i < m {
+        forests[i] = 0;
+        i += 1;
+    }
+}
+
 // The scan in arrays that are lent to it.
 fn scan_in(
     n: u16,
@@ -140,6 +152,7 @@ fn scan_in(
     link_up(lows, highs, first, lownext, highnext);
     let mut tops = no_tops();
     start_keys(n, keys, &mut tops);
+    clear_numbers(lows.len(), forests);
     place_all(
         n,
         lows,

@@ -1,19 +1,18 @@
--- The forest number by a key, case by case. Assumes nothing.
-use mathlib.Core.Path.{sym}
+-- The forest number by a key: of the two numbers that are added one is 0. Assumes nothing.
 use native.Mathlib.Omega.{arith}
-use Rattle.forests.proofs.KeyLaws.{number-none, number-some}
-use borrow.Author.Needs.{needs}
+use Rattle.forests.proofs.KeyLaws.{number-sum, number-small}
 use Rattle.forests.proofs.keys.number.Statement.{statement}
 use Rattle.forests.proofs.keys.number.Tie as tie
 
-cast-result : tie.Need-cast-result
-cast-result c = search needs
+cast-count : tie.Need-cast-count
+cast-count c = omega arith
+
+add-result : tie.Need-add-result
+add-result c =
+    omega (arith, number-small (c .args .key) (c .args .old) (c .pre .1) (c .pre .0) (omega arith))
 
 returns : tie.Need-returns
-returns c = sym (number-none (c .before .args .key) (c .before .args .old) (c .if1 .taken))
-
-returns-2 : tie.Need-returns-2
-returns-2 c = sym (number-some (c .before .args .key) (c .before .args .old) (omega arith))
+returns c = number-sum (c .args .key) (c .args .old) (c .pre .1)
 
 pub number-spec : {M : Type 1} → statement M
-number-spec = tie.close (tie.spec cast-result returns returns-2)
+number-spec = tie.close (tie.spec cast-count add-result returns)

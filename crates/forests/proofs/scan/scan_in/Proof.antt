@@ -1,6 +1,7 @@
--- Chains and keys are made in the arrays, and all relays are placed. Assumes nothing.
+-- Chains and keys are made in the arrays, the numbers are cleared, and all relays are placed. Assumes nothing.
 use native.Mathlib.Omega.{arith}
 use Rattle.theory.specs.Accepted.{accepted}
+use Rattle.forests.proofs.ClearLaws.{scan-cleared}
 use Rattle.forests.proofs.ScanLaws.{chain-ready}
 use borrow.Author.Needs.{needs}
 use Rattle.forests.proofs.scan.scan_in.Statement.{statement}
@@ -26,20 +27,32 @@ start-keys-requires c κs =
       c .before .before .no-tops .ensures,
     )
 
+clear-numbers-requires : tie.Need-clear-numbers-requires
+clear-numbers-requires c κs = search needs
+
 place-all-requires : tie.Need-place-all-requires
 place-all-requires c κs =
-    let started = c .before .before .before .before .before .before .before .before .before .before in
+    let cleared = c .before .before .before .before .before .before .before .before .before .before in
+    let started = cleared .before .before .before .before in
     let chained = started .before .before .before .before .before .before .before .before .before .before in
     let s = chained .before .before .before .before .before .before .before .before .before .before .before .before .before in
+    let p = s .pre .0 in
     let w = s .pre .1 in
     record {
-      scannable = s .pre .0;
+      scannable =
+          record {
+            accepted = p .accepted;
+            relayRoom = p .relayRoom;
+            placeRoom = p .placeRoom;
+            forestRoom = omega (arith, p .forestRoom, cleared .clear-numbers .ensures .long);
+          };
       heads = omega (arith, w .heads);
       few = omega (arith, w .few);
       keyRoom = omega (arith, w .noKeys .room);
       chained = chained .link-up .ensures;
       startKeys = started .start-keys .ensures .0;
       topped = started .start-keys .ensures .1;
+      zeros = cleared .clear-numbers .ensures .zeros;
     }
 
 same-length : tie.Need-same-length
@@ -64,7 +77,10 @@ same-length-7 : tie.Need-same-length-7
 same-length-7 c = search needs
 
 returns : tie.Need-returns
-returns c = search needs
+returns c =
+    let placed = c .before .before .before .before .before .before .before .before in
+    let cleared = placed .before .before .before .before .before .before .before .before .before .before .before in
+    scan-cleared (cleared .clear-numbers .ensures) (placed .place-all .ensures)
 
 pub scan-in-spec : {M : Type 1} → statement M
 scan-in-spec =
@@ -73,6 +89,7 @@ scan-in-spec =
     link-up-requires
     no-tops-requires
     start-keys-requires
+    clear-numbers-requires
     place-all-requires
     same-length
     same-length-2

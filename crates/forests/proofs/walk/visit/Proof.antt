@@ -60,7 +60,7 @@ unfolding farEnd
 number-requires c κs =
     let atOtherEnd = c .before .before .before .before .before .before .before .before .before in
     let start = atOtherEnd .before .before .before .before .before .before .before .before .before in
-    rw (atOtherEnd .other-end .ensures) (start .pre .bound)
+    rw (atOtherEnd .other-end .ensures) (start .pre .bound, start .pre .fresh)
 
 mul-forests-3 : tie.Need-mul-forests-3
 mul-forests-3 c = search needs
