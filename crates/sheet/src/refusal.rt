@@ -8,6 +8,8 @@ ghost use Rattle.network.specs.Answers.{refusalOf};
 ghost use Rattle.text.specs.Put.{Put};
 use crate::print;
 use network::Refusal;
+use network::refusal_number;
+use network::refusal_place;
 
 pub struct RefusedLine {
     pub number: usize,
@@ -17,54 +19,9 @@ pub struct RefusedLine {
 fn numbered(refusal: Refusal) -> RefusedLine
     ensures { λ r. ⌜ _≡_ {A = Outcome Sheet} (refused (r .number) (r .place)) (refusalOf refusal) ⌝ }
 {
-    match refusal {
-        Refusal::Wish(place) => RefusedLine { number: 1, place },
-        Refusal::Form(place) => RefusedLine { number: 2, place },
-        Refusal::RelayCount => RefusedLine {
-            number: 3,
-            place: 0,
-        },
-        Refusal::LinkCount => RefusedLine {
-            number: 4,
-            place: 0,
-        },
-        Refusal::RelayRange(link) => RefusedLine {
-            number: 5,
-            place: link,
-        },
-        Refusal::NotBelow(link) => RefusedLine {
-            number: 6,
-            place: link,
-        },
-        Refusal::Repeated(link) => RefusedLine {
-            number: 7,
-            place: link,
-        },
-        Refusal::TableRoom => RefusedLine {
-            number: 8,
-            place: 0,
-        },
-        Refusal::RouteCount => RefusedLine {
-            number: 9,
-            place: 0,
-        },
-        Refusal::EndRange => RefusedLine {
-            number: 10,
-            place: 0,
-        },
-        Refusal::SameEnds => RefusedLine {
-            number: 11,
-            place: 0,
-        },
-        Refusal::Room => RefusedLine {
-            number: 12,
-            place: 0,
-        },
-        Refusal::NotOneTree => RefusedLine {
-            number: 13,
-            place: 0,
-        },
-    }
+    let number = refusal_number(refusal) as usize;
+    let place = refusal_place(refusal);
+    RefusedLine { number, place }
 }
 
 // The refused line.

@@ -1,116 +1,23 @@
--- `sheet::refusal::numbered` meets its contract: a way out for each refusal. Assumes nothing.
-use mathlib.Core.Path.{sym, ap}
-use Rattle.definitions.specs.Plan.{Sheet}
-use Rattle.network.specs.Answers.{refusalOf}
+-- `sheet::refusal::numbered` meets its contract: the refusal's number and place. Assumes nothing.
+use mathlib.Core.Path.{sym, _∙_, ap₂}
+use Rattle.definitions.specs.Outcome.{refused}
+use Rattle.network.specs.Refusals.{refusal-is}
 use borrow.Author.Needs.{needs}
 use Rattle.sheet.proofs.refusal.numbered.Statement.{statement}
 use Rattle.sheet.proofs.refusal.numbered.Tie as tie
 
-enum-known-refusal : tie.Need-enum-known-refusal
-enum-known-refusal c = search needs
+refusal-number-requires : tie.Need-refusal-number-requires
+refusal-number-requires c κs = search needs
 
-enum-known-refusal-2 : tie.Need-enum-known-refusal-2
-enum-known-refusal-2 c = search needs
+cast-number : tie.Need-cast-number
+cast-number c = search needs
 
-enum-told : tie.Need-enum-told
-enum-told c = search needs
-
-enum-told-2 : tie.Need-enum-told-2
-enum-told-2 c = search needs
-
-enum-known-refusal-3 : tie.Need-enum-known-refusal-3
-enum-known-refusal-3 c = search needs
-
-enum-known-refusal-4 : tie.Need-enum-known-refusal-4
-enum-known-refusal-4 c = search needs
-
-enum-known-refusal-5 : tie.Need-enum-known-refusal-5
-enum-known-refusal-5 c = search needs
-
-enum-told-3 : tie.Need-enum-told-3
-enum-told-3 c = search needs
-
-enum-told-4 : tie.Need-enum-told-4
-enum-told-4 c = search needs
-
-enum-told-5 : tie.Need-enum-told-5
-enum-told-5 c = search needs
-
-enum-told-6 : tie.Need-enum-told-6
-enum-told-6 c = search needs
-
-enum-told-7 : tie.Need-enum-told-7
-enum-told-7 c = search needs
-
-enum-told-8 : tie.Need-enum-told-8
-enum-told-8 c = search needs
+refusal-place-requires : tie.Need-refusal-place-requires
+refusal-place-requires c κs = search needs
 
 returns : tie.Need-returns
-returns c = sym (ap (refusalOf {A = Sheet}) (c .before .refusal .given .1))
-
-returns-2 : tie.Need-returns-2
-returns-2 c = sym (ap (refusalOf {A = Sheet}) (c .before .refusal2 .given .1))
-
-returns-3 : tie.Need-returns-3
-returns-3 c = sym (ap (refusalOf {A = Sheet}) (c .enum-told .given .1))
-
-returns-4 : tie.Need-returns-4
-returns-4 c = sym (ap (refusalOf {A = Sheet}) (c .enum-told2 .given .1))
-
-returns-5 : tie.Need-returns-5
-returns-5 c = sym (ap (refusalOf {A = Sheet}) (c .before .refusal3 .given .1))
-
-returns-6 : tie.Need-returns-6
-returns-6 c = sym (ap (refusalOf {A = Sheet}) (c .before .refusal4 .given .1))
-
-returns-7 : tie.Need-returns-7
-returns-7 c = sym (ap (refusalOf {A = Sheet}) (c .before .refusal5 .given .1))
-
-returns-8 : tie.Need-returns-8
-returns-8 c = sym (ap (refusalOf {A = Sheet}) (c .enum-told3 .given .1))
-
-returns-9 : tie.Need-returns-9
-returns-9 c = sym (ap (refusalOf {A = Sheet}) (c .enum-told4 .given .1))
-
-returns-10 : tie.Need-returns-10
-returns-10 c = sym (ap (refusalOf {A = Sheet}) (c .enum-told5 .given .1))
-
-returns-11 : tie.Need-returns-11
-returns-11 c = sym (ap (refusalOf {A = Sheet}) (c .enum-told6 .given .1))
-
-returns-12 : tie.Need-returns-12
-returns-12 c = sym (ap (refusalOf {A = Sheet}) (c .enum-told7 .given .1))
-
-returns-13 : tie.Need-returns-13
-returns-13 c = sym (ap (refusalOf {A = Sheet}) (c .enum-told8 .given .1))
+returns c =
+    ap₂ refused (c .before .refusal-number .ensures) (c .refusal-place .ensures) ∙ sym (refusal-is (c .before .before .args .refusal))
 
 pub numbered-spec : {M : Type 1} → statement M
-numbered-spec =
-    tie.close
-    (tie.spec
-    enum-known-refusal
-    enum-known-refusal-2
-    enum-told
-    enum-told-2
-    enum-known-refusal-3
-    enum-known-refusal-4
-    enum-known-refusal-5
-    enum-told-3
-    enum-told-4
-    enum-told-5
-    enum-told-6
-    enum-told-7
-    enum-told-8
-    returns
-    returns-2
-    returns-3
-    returns-4
-    returns-5
-    returns-6
-    returns-7
-    returns-8
-    returns-9
-    returns-10
-    returns-11
-    returns-12
-    returns-13)
+numbered-spec = tie.close (tie.spec refusal-number-requires cast-number refusal-place-requires returns)
