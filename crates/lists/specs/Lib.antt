@@ -15,6 +15,7 @@ pub mod Overwritten
 pub mod Parts
 pub mod Ranges
 pub mod Bitmap
+pub mod LowestBit
 pub mod Rising
 pub mod Totals
 pub mod Greatest

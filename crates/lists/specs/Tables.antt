@@ -1,12 +1,10 @@
 -- Entries and lengths of a `table`, of a list of zeros and of an overwritten list.
 use Prim.Native.Nat.{ℕ, zero, suc, _+_, _-_, _≤_, _<_}
-use mathlib.Core.List.{List, [], _∷_, _++_}
+use mathlib.Core.List.{List}
 use mathlib.Core.Path.{_≡_, refl, sym, _∙_, ap}
 use native.Mathlib.Nat.{add-zero}
-use native.Mathlib.Numerals.{add-one}
 use native.Mathlib.Omega.{arith}
 use lib.ListN.{length, getD, drop, length-append, length-drop}
-use lib.Seq.{getD-append-add}
 use Rattle.definitions.specs.Lists.{table, overwrite}
 
 pub length-table : {A : Type 0} (f : ℕ → A) (i count : ℕ) → length (table f i count) ≡ count

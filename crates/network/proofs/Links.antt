@@ -5,18 +5,16 @@ use mathlib.Core.Bool.{Bool, true, false, _||_}
 use mathlib.Core.List.{List, [], _∷_}
 use mathlib.Core.Logic.{⊎-elim}
 use mathlib.Core.Path.{_≡_, refl, sym, _∙_, ap}
-use native.Mathlib.Nat.{one-mul, mod-lt, mod-eq-of-lt}
 use native.Mathlib.Omega.{arith}
 use denote.Enum.Declared.{tagOf}
 use types.Run.{OneOf}
 use borrow.Author.Tests.{lt-leb, eq-eqb, ne-eqb}
 use lib.Bits.{bitOr}
-use lib.Dec.{lit<, eqb, leb}
+use lib.Dec.{eqb, leb}
 use lib.ListN.{getD, set}
-use lib.Pow.{pow-lt}
 use Rattle.definitions.specs.Outcome.{pick}
 use Rattle.definitions.specs.Network.{pairNumber}
-use Rattle.lists.specs.Bitmap.{bitOf, marked, mark}
+use Rattle.lists.specs.Bitmap.{bitOf, marked, mark, one-bit}
 use Rattle.network.specs.declared.LinkCheck.{LinkCheck}
 use Rattle.network.specs.declared.LinkCheck.the-variants.{Fine, RelayRange, NotBelow, Repeated}
 use Rattle.network.proofs.LinkCheck.{the-type}
@@ -97,10 +95,7 @@ module _ (n a b : ℕ) (bits : List ℕ) where
       fault-fit h k l false (ap (marked bits) (sym e) ∙ ne-eqb (getD bits (p / 64) 0 / 2 ^ (p % 64) % 2) 1 bit) in
       record {
         fault = sym none;
-        bitsThen = ap (λ (x : ℕ). set bits (p / 64) (bitOr (getD bits (p / 64) 0) x)) one-bit
+        bitsThen = ap (λ (x : ℕ). set bits (p / 64) (bitOr (getD bits (p / 64) 0) x)) (one-bit p)
             ∙ ap (mark bits) e
             ∙ sym (ap (λ (f : ℕ). pick (eqb f 0) (mark bits (pairNumber a b)) bits) none);
       }
-    where
-      one-bit : 1 * 2 ^ (p % 64) % 2 ^ 64 ≡ 2 ^ (p % 64)
-      one-bit = ap (λ (x : ℕ). x % 2 ^ 64) (one-mul (2 ^ (p % 64))) ∙ mod-eq-of-lt (pow-lt (mod-lt p (lit< tt)))
