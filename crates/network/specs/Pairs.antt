@@ -33,20 +33,18 @@ row-product b h = mul-le-mul {n₂ = 999} {m₂ = 998} (omega arith) (omega arit
 pub pair-below : (n a b : ℕ) → a < b → b < n → pairNumber a b < rowStart n
 pair-below n a b h k = omega (arith, in-row a b h, rows-rise (suc b) n k)
 
--- How many pairs 128 and 1,000 relays have.
-last-row-of-128 : rowStart 128 ≡ 8128
-unfolding rowStart
-last-row-of-128 = refl
-
-last-row-of-1000 : rowStart 1000 ≡ 499500
-unfolding rowStart
-last-row-of-1000 = refl
-
+-- How many pairs up to 128, up to 512 and up to 1,000 relays have at most.
 pub rows-of-128 : (n : ℕ) → n ≤ 128 → rowStart n ≤ 8128
-rows-of-128 n h = omega (arith, rows-rise n 128 h, last-row-of-128)
+unfolding rowStart
+rows-of-128 n = rows-rise n 128
+
+pub rows-of-512 : (n : ℕ) → n ≤ 512 → rowStart n ≤ 130816
+unfolding rowStart
+rows-of-512 n = rows-rise n 512
 
 pub rows-of-1000 : (n : ℕ) → n ≤ 1000 → rowStart n ≤ 499500
-rows-of-1000 n h = omega (arith, rows-rise n 1000 h, last-row-of-1000)
+unfolding rowStart
+rows-of-1000 n = rows-rise n 1000
 
 same-row : (a b c d : ℕ) → a < b → c < d → pairNumber a b ≡ pairNumber c d → b < d → ⊥
 same-row a b c d h k e l = omega (arith, in-row a b h, in-row c d k, rows-rise (suc b) d l)

@@ -13,7 +13,7 @@ use Rattle.definitions.specs.Outcome.{pick}
 use Rattle.definitions.specs.Lists.{someBelow}
 use Rattle.definitions.specs.Network.{rowStart, pairNumber, isPair, linkFault}
 use Rattle.lists.specs.Bitmap.{marked, mark, marked-mark, marked-none, length-mark}
-use Rattle.network.specs.Pairs.{pair-below, rows-of-128, rows-of-1000}
+use Rattle.network.specs.Pairs.{pair-below, rows-of-128, rows-of-512, rows-of-1000}
 use Rattle.network.specs.Marks.{Marks, marks-none, marks-next, marks-front}
 use Rattle.network.specs.declared.LinkCheck.{LinkCheck}
 use Rattle.network.specs.declared.LinkCheck.the-variants.{Fine, RelayRange, NotBelow, Repeated}
@@ -47,20 +47,25 @@ pub record Seen (n : ℕ) (bits lows highs : List ℕ) (i : ℕ) : Type 0 where
   pub room : RoomFor n bits
   pub marks : Marks n (marked bits) lows highs i
 
-seen-none : (n words : ℕ) (bits lows highs : List ℕ) → rowStart n ≤ 64 * words → bits ≡ replicate words 0 → Seen n bits lows highs 0
-seen-none n words bits lows highs room e =
-    record {
-      room = omega (arith, ap length e ∙ length-replicate {A = ℕ} words 0);
-      marks = marks-none n (marked bits) lows highs
-          (λ p h. ap (λ (l : List ℕ). marked l p) e ∙ marked-none words p (omega arith));
-    }
+-- No pair is marked yet: in as many words as have room for the pairs of n relays, and so in those for up to 128, up to 512
+-- and up to 1,000 relays.
+module _ (n : ℕ) (bits lows highs : List ℕ) where
+  seen-none : (words : ℕ) → rowStart n ≤ 64 * words → bits ≡ replicate words 0 → Seen n bits lows highs 0
+  seen-none words room e =
+      record {
+        room = omega (arith, ap length e ∙ length-replicate {A = ℕ} words 0);
+        marks = marks-none n (marked bits) lows highs
+            (λ p h. ap (λ (l : List ℕ). marked l p) e ∙ marked-none words p (omega arith));
+      }
 
--- No pair of up to 128, or up to 1,000, relays is marked yet.
-pub none-of-128 : (n : ℕ) (bits lows highs : List ℕ) → n ≤ 128 → bits ≡ replicate 127 0 → Seen n bits lows highs 0
-none-of-128 n bits lows highs h = seen-none n 127 bits lows highs (omega (arith, rows-of-128 n h))
+  pub none-of-128 : n ≤ 128 → bits ≡ replicate 127 0 → Seen n bits lows highs 0
+  none-of-128 h = seen-none 127 (rows-of-128 n h)
 
-pub none-of-1000 : (n : ℕ) (bits lows highs : List ℕ) → n ≤ 1000 → bits ≡ replicate 7805 0 → Seen n bits lows highs 0
-none-of-1000 n bits lows highs h = seen-none n 7805 bits lows highs (omega (arith, rows-of-1000 n h))
+  pub none-of-512 : n ≤ 512 → bits ≡ replicate 2044 0 → Seen n bits lows highs 0
+  none-of-512 h = seen-none 2044 (rows-of-512 n h)
+
+  pub none-of-1000 : n ≤ 1000 → bits ≡ replicate 7805 0 → Seen n bits lows highs 0
+  none-of-1000 h = seen-none 7805 (omega (arith, rows-of-1000 n h))
 
 -- The fault by the marks is the fault by the table.
 pub fault-same : (n a b : ℕ) (at : ℕ → Bool) (lows highs : List ℕ) (i : ℕ) → Marks n at lows highs i

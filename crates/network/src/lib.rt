@@ -119,6 +119,13 @@ pub fn no_pairs_of_128() -> [u64; 127]
     [0u64; 127]
 }
 
+// No pair of up to 512 relays is marked yet: one bit for each of the 130,816 pair numbers.
+pub fn no_pairs_of_512() -> [u64; 2044]
+    ensures { λ r. ⌜ r ≡ replicate 2044 0 ⌝ }
+{
+    [0u64; 2044]
+}
+
 // No pair of up to 1,000 relays is marked yet: one bit for each of the 499,500 pair numbers.
 pub fn no_pairs_of_1000() -> [u64; 7805]
     ensures { λ r. ⌜ r ≡ replicate 7805 0 ⌝ }
@@ -230,6 +237,10 @@ fn all_links_check(n: u16, lows: &[u16], highs: &[u16]) -> Check
     if n <= 128 {
         let mut few = no_pairs_of_128();
         return links_check(n, lows, highs, &mut few);
+    }
+    if n <= 512 {
+        let mut more = no_pairs_of_512();
+        return links_check(n, lows, highs, &mut more);
     }
     let mut seen = no_pairs_of_1000();
     links_check(n, lows, highs, &mut seen)

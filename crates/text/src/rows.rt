@@ -94,6 +94,10 @@ pub fn read_all_links(
         let mut few = network::no_pairs_of_128();
         return read_links(text, n, m, at, lows, highs, &mut few);
     }
+    if n <= 512 {
+        let mut more = network::no_pairs_of_512();
+        return read_links(text, n, m, at, lows, highs, &mut more);
+    }
     let mut seen = network::no_pairs_of_1000();
     read_links(text, n, m, at, lows, highs, &mut seen)
 }

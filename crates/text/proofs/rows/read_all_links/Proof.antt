@@ -3,7 +3,7 @@
 use mathlib.Core.List.{[]}
 use native.Mathlib.Omega.{arith}
 use borrow.Author.Needs.{needs}
-use Rattle.network.specs.Seen.{none-of-128, none-of-1000}
+use Rattle.network.specs.Seen.{none-of-128, none-of-512, none-of-1000}
 use Rattle.text.proofs.rows.read_all_links.Statement.{statement}
 use Rattle.text.proofs.rows.read_all_links.Tie as tie
 
@@ -27,16 +27,16 @@ same-length-2 c = search needs
 returns : tie.Need-returns
 returns c = search needs
 
-no-pairs-of-1000-requires : tie.Need-no-pairs-of-1000-requires
-no-pairs-of-1000-requires c κs = search needs
+no-pairs-of-512-requires : tie.Need-no-pairs-of-512-requires
+no-pairs-of-512-requires c κs = search needs
 
 slice-aggregate-read-links-2 : tie.Need-slice-aggregate-read-links-2
 slice-aggregate-read-links-2 c = search needs
 
 read-links-requires-2 : tie.Need-read-links-requires-2
 read-links-requires-2 c κs =
-    let atNoPairsOf1000 = c .before .before .before in
-    ((omega arith, omega arith, omega arith), none-of-1000 _ _ [] [] (omega arith) (atNoPairsOf1000 .no-pairs-of-1000 .ensures))
+    let atNoPairsOf512 = c .before .before .before in
+    ((omega arith, omega arith, omega arith), none-of-512 _ _ [] [] (omega arith) (atNoPairsOf512 .no-pairs-of-512 .ensures))
 
 same-length-3 : tie.Need-same-length-3
 same-length-3 c = search needs
@@ -46,6 +46,26 @@ same-length-4 c = search needs
 
 returns-2 : tie.Need-returns-2
 returns-2 c = search needs
+
+no-pairs-of-1000-requires : tie.Need-no-pairs-of-1000-requires
+no-pairs-of-1000-requires c κs = search needs
+
+slice-aggregate-read-links-3 : tie.Need-slice-aggregate-read-links-3
+slice-aggregate-read-links-3 c = search needs
+
+read-links-requires-3 : tie.Need-read-links-requires-3
+read-links-requires-3 c κs =
+    let atNoPairsOf1000 = c .before .before .before in
+    ((omega arith, omega arith, omega arith), none-of-1000 _ _ [] [] (omega arith) (atNoPairsOf1000 .no-pairs-of-1000 .ensures))
+
+same-length-5 : tie.Need-same-length-5
+same-length-5 c = search needs
+
+same-length-6 : tie.Need-same-length-6
+same-length-6 c = search needs
+
+returns-3 : tie.Need-returns-3
+returns-3 c = search needs
 
 pub read-all-links-spec : {M : Type 1} → statement M
 read-all-links-spec =
@@ -57,9 +77,15 @@ read-all-links-spec =
     same-length
     same-length-2
     returns
-    no-pairs-of-1000-requires
+    no-pairs-of-512-requires
     slice-aggregate-read-links-2
     read-links-requires-2
     same-length-3
     same-length-4
-    returns-2)
+    returns-2
+    no-pairs-of-1000-requires
+    slice-aggregate-read-links-3
+    read-links-requires-3
+    same-length-5
+    same-length-6
+    returns-3)
