@@ -9,6 +9,7 @@ pub mod Links
 pub mod ForestNumbers
 pub mod Arranged
 pub mod ForestBound
+pub mod ForestDepth
 pub mod Trees
 pub mod SweepShift
 pub mod SweepPaths

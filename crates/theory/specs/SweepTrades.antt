@@ -9,7 +9,7 @@ use mathlib.Core.List.{List, _∷_, tail}
 use mathlib.Core.Logic.{_⊎_, inl, inr, _≢_, by-cases}
 use mathlib.Core.Path.{_≡_, refl, sym, _∙_, ap, subst}
 use lib.Dec.{eqb}
-use borrow.Author.Tests.{eqb-true, eqb-false, eq-eqb, ne-eqb}
+use borrow.Author.Tests.{eqb-true, eq-eqb, ne-eqb}
 use Rattle.definitions.specs.Outcome.{pick}
 use Rattle.definitions.specs.Lists.{largest, firstFrom}
 use Rattle.definitions.specs.Sweep.{beforeEnd, together, downshift}
