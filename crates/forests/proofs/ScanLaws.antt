@@ -1,43 +1,93 @@
 -- The scan from its start over each step to its end. Assumes nothing.
-use Prim.Native.Nat.{ℕ, suc, _+_, _-_, _%_, _≤_, _<_}
+use Prim.Native.Nat.{ℕ, suc, _+_, _-_, _*_, _/_, _≤_, _<_}
 use mathlib.Core.Bool.{Bool, true, false}
 use mathlib.Core.List.{List}
 use mathlib.Core.Path.{_≡_, refl, sym, _∙_, ap}
-use native.Mathlib.Decide.{decLt}
+use native.Mathlib.Decide.{ℕ-discrete, decLt}
 use native.Mathlib.Numerals.{add-one}
 use native.Mathlib.Omega.{arith}
+use borrow.Author.Tests.{eq-eqb}
 use lib.ListN.{length, getD, set, replicate, length-replicate, getD-replicate}
-use Rattle.definitions.specs.Lists.{overwrite, has}
-use Rattle.definitions.specs.Network.{linked, Accepted}
-use Rattle.definitions.specs.Order.{weight, placedAfter, orderOf}
+use lib.Seq.{getD-set-same, getD-set-other, set-out}
+use Rattle.definitions.specs.Outcome.{pick}
+use Rattle.definitions.specs.Lists.{overwrite, someBelow, has}
+use Rattle.definitions.specs.Network.{joins, linked, Accepted}
+use Rattle.definitions.specs.Order.{placedAfter, orderOf}
 use Rattle.lists.specs.Tables.{length-overwrite}
-use Rattle.lists.specs.Counting.{count-length}
 use Rattle.theory.specs.Accepted.{ProperTable, accepted}
-use Rattle.forests.specs.Chains.{Chainable}
-use Rattle.forests.specs.Tops.{Tops}
-use Rattle.forests.specs.Walk.{Walked}
-use Rattle.forests.specs.Scan.{chosen, placed, following, Placeable, PlacedOne, KeysAt, ScannedTo, Workspace, Startable, Scanned}
-use Rattle.forests.proofs.KeyLaws.{no-keys}
-use Rattle.forests.proofs.OrderLaws.{placed-long, placed-suc, following-new}
-use Rattle.forests.proofs.ChoiceLaws.{chosen-follows, key-waiting, key-placed}
+use Rattle.theory.specs.Links.{joined-linked}
+use Rattle.forests.specs.Chains.{touches, Chainable}
+use Rattle.forests.specs.Counts.{raisedCount, Heaviest}
+use Rattle.forests.specs.Buckets.{wordOf, Buckets, Leads}
+use Rattle.forests.specs.Walk.{farEnd, Walked}
+use Rattle.forests.specs.Scan.{placed, following, Placeable, PlacedOne, CountsAt, ScannedTo, Workspace, Startable, Scanned}
+use Rattle.forests.proofs.CountLaws.{raised-most, start-none}
+use Rattle.forests.proofs.BucketLaws.{buckets-none}
+use Rattle.forests.proofs.LeadLaws.{leads-heaviest}
+use Rattle.forests.proofs.WalkLaws.{joins-far, far-below}
+use Rattle.forests.proofs.OrderLaws.{placed-long, placed-suc, following-new, has-same, weight-linked}
+use Rattle.forests.proofs.WeightLaws.{weight-few}
+use Rattle.forests.proofs.ChoiceLaws.{count-waiting, count-placed, some-waits, heaviest-follows}
 use Rattle.forests.proofs.StepLaws.{
-  keys-start,
+  counts-start,
   places-start,
   forests-start,
   overwrite-next,
   unnumbered,
-  keys-step,
+  counts-step,
   places-step,
   forests-step,
 }
 use Rattle.forests.proofs.FinishLaws.{places-finish, forests-finish}
 
 -- What placing one relay did, in the code's terms.
-pub placed-one : {n v : ℕ} {lows highs keys keys′ tops′ relays relays′ places places′ forests forests′ : List ℕ} (x : ℕ)
-    → x ≡ chosen n keys → relays′ ≡ set relays (v - 1) x → places′ ≡ set places x v
-    → Walked x lows highs keys keys′ forests forests′ × Tops keys′ tops′
-    → PlacedOne n v lows highs keys keys′ tops′ relays relays′ places places′ forests forests′
-placed-one x e r p w = record { relay = rw e at r; place = rw e at p; walked = rw e at (w .0); topped = w .1 }
+pub placed-one : {n v : ℕ} {lows highs counts counts′ bits′ relays relays′ places places′ forests forests′ : List ℕ} {count : ℕ} (x : ℕ)
+    → following n lows highs (v - 1) ≡ x → Heaviest counts x → getD counts x 0 < 78
+    → relays′ ≡ set relays (v - 1) x → places′ ≡ set places x v
+    → (count ≡ getD counts x 0) × Walked x lows highs counts counts′ forests forests′ × Buckets counts′ bits′
+    → PlacedOne n v lows highs counts counts′ bits′ relays relays′ places places′ forests forests′ (count + 1)
+placed-one {n} {v} {lows} {highs} {counts} {counts′} {count = count} x e h few r p w =
+    record {
+      relay = rw e r;
+      place = rw e p;
+      walked = rw e (w .1);
+      sorted = w .2;
+      bounded = λ q. rw (w .1 .count q) (go q (someBelow (joins lows highs x q) (length lows)));
+      mostFew = omega (arith, w .0);
+    }
+  where
+    cleared : (q : ℕ) → Dec (q ≡ x) → Dec (x < length counts) → getD (set counts x 0) q 0 ≤ count
+    cleared q (yes d) (yes below) = rw (d, getD-set-same counts x 0 0 below) (omega arith)
+    cleared q (yes d) (no below) = rw (set-out counts x 0 (omega arith)) (omega (arith, h .most q, w .0))
+    cleared q (no d) below = rw (getD-set-other counts x q 0 0 d) (omega (arith, h .most q, w .0))
+
+    go : (q : ℕ) (b : Bool) → pick b (raisedCount (getD (set counts x 0) q 0)) (getD (set counts x 0) q 0) ≤ count + 1
+    go q true =
+        omega (arith, raised-most (getD (set counts x 0) q 0), cleared q (ℕ-discrete q x) (decLt x (length counts)))
+    go q false = omega (arith, cleared q (ℕ-discrete q x) (decLt x (length counts)))
+
+-- The columns of n relays have room, and the relay that leads in them is the next one.
+module _ {n v most : ℕ} {lows highs first nexts counts bits relays places forests : List ℕ}
+    (p : Placeable n v most lows highs first nexts counts bits relays places forests) (columns : ℕ) (e : columns ≡ (n + 63) / 64)
+  where
+    within : v - 1 < n
+    within = omega (arith, p .some, p .within)
+
+    pub columns-room : (columns ≤ 16) × (columns * 80 ≤ length bits)
+    unfolding wordOf
+    columns-room = omega (arith, e, p .few, within, p .walkable .sorted .room (n - 1) (omega (arith, within, p .countsAt .room)))
+
+    pub leads-most : {x : ℕ} → Leads columns most bits x → Heaviest counts x
+    leads-most {x} l =
+        leads-heaviest columns most x (following n lows highs (v - 1)) (p .walkable .sorted) l (p .mostFew) (columns-room .1)
+        (λ r h. p .countsAt .rest r (omega (arith, e, h))) (p .bounded) (some-waits (p .countsAt) within)
+
+    pub leads-next : {x : ℕ} → Leads columns most bits x → following n lows highs (v - 1) ≡ x
+    leads-next l = heaviest-follows (v - 1) (p .countsAt) within (leads-most l)
+
+    -- It is one of the n.
+    pub next-below : following n lows highs (v - 1) < n
+    next-below = following-new n lows highs (v - 1) within .0
 
 -- A table of fewer relays is one of more.
 wide : {n size : ℕ} {lows highs : List ℕ} → n ≤ size → size ≤ 1000 → ProperTable n lows highs → ProperTable size lows highs
@@ -53,117 +103,146 @@ wide h few t =
     }
 
 -- Arrays of enough relays and links.
-pub workspace : (size links keyCount n : ℕ) {lows first lownext highnext keys : List ℕ} → n ≤ size → size ≤ 1000 → length lows ≤ links
-    → size ≤ keyCount → keyCount ≤ 1024 → keyCount % 32 ≡ 0
-    → first ≡ replicate size (length lows) → lownext ≡ replicate links 0 → highnext ≡ replicate links 0 → keys ≡ replicate keyCount 0
-    → Workspace n lows first lownext highnext keys
-workspace size links keyCount n {lows} {first} {lownext} {highnext} {keys} heads few room keyRoom keyFew full f l h k =
-    let long : length first ≡ size = ap length f ∙ length-replicate size (length lows) in
+pub workspace : (size halves words n : ℕ) {lows first nexts counts bits : List ℕ} → n ≤ size → size ≤ 1000 → 2 * length lows ≤ halves
+    → ((r : ℕ) → r < size → wordOf 79 r < words)
+    → first ≡ replicate size (2 * length lows) → nexts ≡ replicate halves 0 → counts ≡ replicate size 0 → bits ≡ replicate words 0
+    → Workspace n lows first nexts counts bits
+workspace size halves words n {lows} {first} {nexts} {counts} {bits} heads few room columns f h c b =
+    let long : length first ≡ size = ap length f ∙ length-replicate size (2 * length lows) in
+    let wide : length counts ≡ size = ap length c ∙ length-replicate {A = ℕ} size 0 in
+    let start = start-none size counts c in
     record {
       heads = omega arith;
       few = omega arith;
-      none = λ r p. ap (λ z. getD z r 0) f ∙ getD-replicate size r (length lows) 0 (omega arith);
-      lowRoom = omega (arith, ap length l, length-replicate {A = ℕ} links 0);
-      highRoom = omega (arith, ap length h, length-replicate {A = ℕ} links 0);
-      noKeys = no-keys keyCount (length first) keys (omega arith) keyFew full k;
+      none = λ r p. ap (λ z. getD z r 0) f ∙ getD-replicate size r (2 * length lows) 0 (omega arith);
+      nextRoom = omega (arith, ap length h, length-replicate {A = ℕ} halves 0);
+      countRoom = omega arith;
+      noCounts = start;
+      sorted = buckets-none words counts bits start b (λ r p. columns r (omega arith));
     }
 
 -- Chains can be made of an accepted table.
-pub chain-ready : {n : ℕ} {lows highs first lownext highnext keys : List ℕ} → Accepted n lows highs
-    → Workspace n lows first lownext highnext keys → Chainable lows highs first lownext highnext
+pub chain-ready : {n : ℕ} {lows highs first nexts counts bits : List ℕ} → Accepted n lows highs
+    → Workspace n lows first nexts counts bits → Chainable lows highs first nexts
 chain-ready {n} {lows} {highs} ok w =
     let t = accepted n lows highs ok in
     record {
       short = t .short;
       same = sym (t .even);
-      low = λ i h. omega (arith, t .ordered i h, t .below i h, w .heads);
-      high = λ i h. omega (arith, t .below i h, w .heads);
+      rises = t .ordered;
+      below = λ i h. omega (arith, t .below i h, w .heads);
       none = w .none;
-      lowRoom = w .lowRoom;
-      highRoom = w .highRoom;
+      room = w .nextRoom;
     }
 
--- Keys are small.
-keys-bound : {n : ℕ} {lows highs keys : List ℕ} (k : ℕ) → n ≤ 1000 → k ≤ n → KeysAt n lows highs k keys
-    → (r : ℕ) → getD keys r 0 < 2000000
-unfolding weight
-keys-bound {n} {lows} {highs} {keys} k few within at r = go (decLt r n) (has (placed n lows highs k) r) refl
+-- A relay with one more link to a placed relay waits with at most 76 of them.
+counts-few : {n : ℕ} {lows highs counts : List ℕ} (k : ℕ) → Accepted n lows highs → k < n → CountsAt n lows highs k counts
+    → (j : ℕ) → j < length lows → touches lows highs (following n lows highs k) j ≡ true
+    → getD (set counts (following n lows highs k) 0) (farEnd lows highs (following n lows highs k) j) 0 < 77
+counts-few {n} {lows} {highs} {counts} k ok within at j h touch =
+    go (ℕ-discrete y x) (has (placed n lows highs k) y) refl
   where
-    go : Dec (r < n) → (b : Bool) → has (placed n lows highs k) r ≡ b → getD keys r 0 < 2000000
-    go (yes h) true e = omega (arith, key-placed few at r h e)
-    go (yes h) false e =
-        omega (
-          arith,
-          key-waiting few at r h e,
-          count-length (λ p. linked lows highs p r) (placed n lows highs k),
-          placed-long n lows highs k,
-        )
-    go (no h) b e = omega (arith, at .rest r (omega arith))
+    t : ProperTable n lows highs
+    t = accepted n lows highs ok
 
-module _ {n : ℕ} {lows highs first lownext highnext keys tops relays places forests : List ℕ}
-    (can : Startable n lows highs first lownext highnext keys tops relays places forests)
+    x : ℕ
+    x = following n lows highs k
+
+    y : ℕ
+    y = farEnd lows highs (following n lows highs k) j
+
+    below : y < n
+    below = far-below lows highs x j t h
+
+    link : linked lows highs x y ≡ true
+    link = joined-linked lows highs x y j h (joins-far lows highs x y j touch (t .ordered j h) ∙ eq-eqb y y refl)
+
+    go : Dec (y ≡ x) → (b : Bool) → has (placed n lows highs k) y ≡ b → getD (set counts x 0) y 0 < 77
+    go (yes e) b p =
+        rw (e, getD-set-same counts x 0 0 (omega (arith, following-new n lows highs k within .0, at .room))) (omega arith)
+    go (no e) true p = rw (getD-set-other counts x y 0 0 e) (omega (arith, count-placed at y below p))
+    go (no e) false p =
+        let later : has (placed n lows highs (suc k)) y ≡ false = has-same n lows highs k y e ∙ p in
+        rw (getD-set-other counts x y 0 0 e)
+        (omega (
+          arith,
+          count-waiting at y below p,
+          weight-linked n lows highs k y link,
+          weight-few n lows highs ok (suc k) y within below later,
+        ))
+
+module _ {n : ℕ} {lows highs first nexts counts bits relays places forests : List ℕ}
+    (can : Startable n lows highs first nexts counts bits relays places forests)
   where
     proper : ProperTable n lows highs
     proper = accepted n lows highs (can .scannable .accepted)
 
-    pub scan-starts : ScannedTo n lows highs 0 keys relays relays places places forests forests
+    pub scan-starts : ScannedTo n lows highs 0 counts relays relays places places forests forests
     unfolding placedAfter overwrite
     scan-starts =
         record {
-          keysAt = keys-start (can .startKeys);
+          countsAt = counts-start (can .startCounts);
           relaysAt = refl;
           placesAt = places-start places;
           forestsAt = forests-start forests (can .zeros);
         }
 
-    pub relays-long : {keys′ relays′ places′ forests′ : List ℕ} (k : ℕ) → k ≤ n
-        → ScannedTo n lows highs k keys′ relays relays′ places places′ forests forests′ → length relays′ ≡ length relays
+    -- No relay has a link to a placed one yet.
+    pub first-most : (r : ℕ) → getD counts r 0 ≤ 1
+    first-most r = go (decLt r n)
+      where
+        go : Dec (r < n) → getD counts r 0 ≤ 1
+        go (yes h) = omega (arith, can .startCounts .waiting r h)
+        go (no h) = omega (arith, can .startCounts .rest r (omega arith))
+
+    pub relays-long : {counts′ relays′ places′ forests′ : List ℕ} (k : ℕ) → k ≤ n
+        → ScannedTo n lows highs k counts′ relays relays′ places places′ forests forests′ → length relays′ ≡ length relays
     relays-long k within at =
         ap length (at .relaysAt)
         ∙ length-overwrite (placed n lows highs k) relays (omega (arith, placed-long n lows highs k, can .scannable .relayRoom))
 
-    module _ {keys′ relays′ places′ forests′ : List ℕ} (k : ℕ) (within : k < n)
-        (at : ScannedTo n lows highs k keys′ relays relays′ places places′ forests forests′)
+    module _ {counts′ relays′ places′ forests′ : List ℕ} (k : ℕ) (within : k < n)
+        (at : ScannedTo n lows highs k counts′ relays relays′ places places′ forests forests′)
       where
-        choice : chosen n keys′ ≡ following n lows highs k
-        choice = chosen-follows k (proper .few) (at .keysAt) within
-
-        below : chosen n keys′ < n
-        below = omega (arith, choice, following-new n lows highs k within .0)
-
-        pub scan-places : {tops′ : List ℕ} → Tops keys′ tops′ → length first ≤ length keys′
-            → Placeable n (k + 1) lows highs first lownext highnext keys′ tops′ relays′ places′ forests′
-        scan-places topped room =
+        pub scan-places : {bits′ : List ℕ} (most : ℕ) → Buckets counts′ bits′ → ((r : ℕ) → getD counts′ r 0 ≤ most) → most < 80
+            → length first ≤ length counts′
+            → Placeable n (k + 1) most lows highs first nexts counts′ bits′ relays′ places′ forests′
+        scan-places most sorted bounded few room =
+            let back : k + 1 - 1 ≡ k = omega arith in
             record {
-              keyRoom = at .keysAt .room;
+              some = omega arith;
+              within = omega arith;
+              few = proper .few;
+              relayRoom = omega (arith, relays-long k (omega arith) at, can .scannable .relayRoom);
+              placeRoom = omega (arith, at .placesAt .long, can .scannable .placeRoom);
+              countsAt = rw back (at .countsAt);
+              bounded = bounded;
+              mostFew = few;
               walkable =
-                  record {
+                  rw back
+                  (record {
                     proper = wide (can .heads) (can .few) proper;
                     chained = can .chained;
-                    relay = omega (arith, below, can .heads);
-                    keyRoom = room;
+                    relay = omega (arith, following-new n lows highs k within .0, can .heads);
+                    countRoom = room;
                     room = omega (arith, at .forestsAt .long, can .scannable .forestRoom);
-                    topped = topped;
-                    bound = λ r. keys-bound k (proper .few) (omega arith) (at .keysAt) r;
-                    fresh = rw choice (unnumbered proper k within (at .keysAt) (at .forestsAt));
-                  };
-              rest = at .keysAt .rest;
-              some = omega arith;
-              within = omega (arith, relays-long k (omega arith) at, can .scannable .relayRoom);
-              room = omega (arith, below, at .placesAt .long, can .scannable .placeRoom);
+                    sorted = sorted;
+                    bound = counts-few k (can .scannable .accepted) within (at .countsAt);
+                    fresh = unnumbered proper k within (at .countsAt) (at .forestsAt);
+                  });
             }
 
-        pub scan-moves : {keys″ tops″ relays″ places″ forests″ : List ℕ}
-            → PlacedOne n (k + 1) lows highs keys′ keys″ tops″ relays′ relays″ places′ places″ forests′ forests″
-            → ScannedTo n lows highs (k + 1) keys″ relays relays″ places places″ forests forests″
-        scan-moves {keys″} {tops″} {relays″} {places″} {forests″} p =
-            let walked : Walked (following n lows highs k) lows highs keys′ keys″ forests′ forests″ = rw choice at (p .walked) in
+        pub scan-moves : {counts″ bits″ relays″ places″ forests″ : List ℕ} {most : ℕ}
+            → PlacedOne n (k + 1) lows highs counts′ counts″ bits″ relays′ relays″ places′ places″ forests′ forests″ most
+            → ScannedTo n lows highs (k + 1) counts″ relays relays″ places places″ forests forests″
+        scan-moves {counts″} {bits″} {relays″} {places″} {forests″} p =
             let back : k + 1 - 1 ≡ k = omega arith in
-            let relay : relays″ ≡ set relays′ k (following n lows highs k) = rw (choice, back) at (p .relay) in
-            let place : places″ ≡ set places′ (following n lows highs k) (suc k) = rw (choice, add-one k) at (p .place) in
+            let walked : Walked (following n lows highs k) lows highs counts′ counts″ forests′ forests″ = rw back at (p .walked) in
+            let relay : relays″ ≡ set relays′ k (following n lows highs k) = rw back at (p .relay) in
+            let place : places″ ≡ set places′ (following n lows highs k) (suc k) = rw (back, add-one k) at (p .place) in
             rw (add-one k)
             (record {
-              keysAt = keys-step proper k within (at .keysAt) walked;
+              countsAt = counts-step proper k within (at .countsAt) walked;
               relaysAt =
                   relay
                   ∙ ap (λ l. set l k (following n lows highs k)) (at .relaysAt)
@@ -171,14 +250,14 @@ module _ {n : ℕ} {lows highs first lownext highnext keys tops relays places fo
                   (omega (arith, can .scannable .relayRoom))
                   ∙ ap (λ l. overwrite l relays) (sym (placed-suc n lows highs k));
               placesAt = rw place (places-step proper k within places places′ (can .scannable .placeRoom) (at .placesAt));
-              forestsAt = forests-step proper k within (at .keysAt) walked forests (at .forestsAt);
+              forestsAt = forests-step proper k within (at .countsAt) walked forests (at .forestsAt);
             })
 
-    pub scan-ends : {keys′ relays′ places′ forests′ : List ℕ}
-        → ScannedTo n lows highs n keys′ relays relays′ places places′ forests forests′
+    pub scan-ends : {counts′ relays′ places′ forests′ : List ℕ}
+        → ScannedTo n lows highs n counts′ relays relays′ places places′ forests forests′
         → Scanned n lows highs relays relays′ places places′ forests forests′
     unfolding orderOf
-    scan-ends {keys′} {relays′} {places′} {forests′} at =
+    scan-ends {counts′} {relays′} {places′} {forests′} at =
         record {
           theOrder = at .relaysAt;
           thePlaces = places-finish n lows highs places places′ (can .scannable .placeRoom) (at .placesAt);

@@ -1,5 +1,5 @@
--- One step of the scan: the relay that follows is placed, its key is 0, and its links are walked. Assumes nothing.
-use Prim.Native.Nat.{ℕ, suc, _/_, _≤_, _<_}
+-- One step of the scan: the relay that follows is placed, its count is 0, and its links are walked. Assumes nothing.
+use Prim.Native.Nat.{ℕ, suc, _≤_, _<_}
 use mathlib.Core.Bool.{Bool, true, false, _||_, true≢false}
 use mathlib.Core.List.{List, [], _∷_, _++_, append-assoc}
 use mathlib.Core.Logic.{_≢_, _⊎_, inl, inr}
@@ -18,18 +18,18 @@ use Rattle.lists.specs.Tests.{or-either}
 use Rattle.theory.specs.Accepted.{ProperTable}
 use Rattle.theory.specs.Links.{joins-ends, joins-sym, joined-linked}
 use Rattle.forests.specs.Chains.{touches}
-use Rattle.forests.specs.Keys.{keyOf, raisedKey, numberOf, StartKeys}
+use Rattle.forests.specs.Counts.{raisedCount, numberOf, StartCounts}
 use Rattle.forests.specs.Walk.{otherEnd, farEnd, Walked}
-use Rattle.forests.specs.Scan.{placed, following, KeysAt, PlacesAt, ForestsAt}
-use Rattle.forests.proofs.KeyLaws.{raised-none, raised-some, number-none, number-some}
+use Rattle.forests.specs.Scan.{placed, following, CountsAt, PlacesAt, ForestsAt}
+use Rattle.forests.proofs.CountLaws.{raised-none, raised-some, number-none, number-some}
 use Rattle.forests.proofs.WalkLaws.{joins-touches, joins-far}
 use Rattle.forests.proofs.OrderLaws.{placed-earlier, following-new, has-new, has-same, weight-linked, weight-apart, position-new, position-same}
-use Rattle.forests.proofs.ChoiceLaws.{key-waiting, key-placed, waits}
+use Rattle.forests.proofs.ChoiceLaws.{count-waiting, count-placed, waits}
 
 -- Before the first step.
-pub keys-start : {n : ℕ} {lows highs keys : List ℕ} → StartKeys n keys → KeysAt n lows highs 0 keys
+pub counts-start : {n : ℕ} {lows highs counts : List ℕ} → StartCounts n counts → CountsAt n lows highs 0 counts
 unfolding placedAfter weight count has
-keys-start s = record { room = s .room; key = s .waiting; rest = s .rest }
+counts-start s = record { room = s .room; count = s .waiting; rest = s .rest }
 
 pub places-start : {n : ℕ} {lows highs : List ℕ} (places : List ℕ) → PlacesAt n lows highs 0 places places
 unfolding placedAfter has
@@ -88,12 +88,12 @@ module _ {n : ℕ} {lows highs : List ℕ} (t : ProperTable n lows highs) (k : �
   waited r h = sym (has-same n lows highs k r (another r h)) ∙ h
 
   -- A link from the relay that follows to a waiting one has no number yet.
-  pub unnumbered : {keys start forests : List ℕ} → KeysAt n lows highs k keys → ForestsAt n lows highs k start forests
+  pub unnumbered : {counts start forests : List ℕ} → CountsAt n lows highs k counts → ForestsAt n lows highs k start forests
       → (j : ℕ) → j < length lows → touches lows highs (following n lows highs k) j ≡ true
-      → 0 < getD (set keys (following n lows highs k) 0) (farEnd lows highs (following n lows highs k) j) 0
+      → 0 < getD (set counts (following n lows highs k) 0) (farEnd lows highs (following n lows highs k) j) 0
       → getD forests j 0 ≡ 0
   unfolding touches farEnd otherEnd
-  unnumbered {keys} {start} {forests} at f j h e some =
+  unnumbered {counts} {start} {forests} at f j h e some =
       go (eqb (getD lows j 0) (following n lows highs k)) refl (eqb (getD highs j 0) (following n lows highs k)) refl e some
     where
       new : (following n lows highs k < n) × (has (placed n lows highs k) (following n lows highs k) ≡ false)
@@ -102,14 +102,14 @@ module _ {n : ℕ} {lows highs : List ℕ} (t : ProperTable n lows highs) (k : �
       own : (r : ℕ) → eqb r (following n lows highs k) ≡ true → has (placed n lows highs k) r ≡ false
       own r p = ap (has (placed n lows highs k)) (eqb-true r (following n lows highs k) p) ∙ new .1
 
-      far : (r : ℕ) → r < n → 0 < getD (set keys (following n lows highs k) 0) r 0 → Dec (r ≡ following n lows highs k)
+      far : (r : ℕ) → r < n → 0 < getD (set counts (following n lows highs k) 0) r 0 → Dec (r ≡ following n lows highs k)
           → has (placed n lows highs k) r ≡ false
       far r p q (yes d) = ap (has (placed n lows highs k)) d ∙ new .1
-      far r p q (no d) = waits (t .few) at r p (omega (arith, getD-set-other keys (following n lows highs k) r 0 0 d))
+      far r p q (no d) = waits at r p (omega (arith, getD-set-other counts (following n lows highs k) r 0 0 d))
 
       go : (a : Bool) → eqb (getD lows j 0) (following n lows highs k) ≡ a
           → (b : Bool) → eqb (getD highs j 0) (following n lows highs k) ≡ b → (a || b) ≡ true
-          → 0 < getD (set keys (following n lows highs k) 0) (pick a (getD highs j 0) (getD lows j 0)) 0 → getD forests j 0 ≡ 0
+          → 0 < getD (set counts (following n lows highs k) 0) (pick a (getD highs j 0) (getD lows j 0)) 0 → getD forests j 0 ≡ 0
       go true p b q z s =
           f .waiting j h (own (getD lows j 0) p)
           (far (getD highs j 0) (t .below j h) s (ℕ-discrete (getD highs j 0) (following n lows highs k)))
@@ -119,59 +119,59 @@ module _ {n : ℕ} {lows highs : List ℕ} (t : ProperTable n lows highs) (k : �
           (own (getD highs j 0) q)
       go false p false q z s = absurd (true≢false (sym z))
 
-  module _ {keys keys′ forests forests′ : List ℕ}
-      (at : KeysAt n lows highs k keys)
-      (w : Walked (following n lows highs k) lows highs keys keys′ forests forests′)
+  module _ {counts counts′ forests forests′ : List ℕ}
+      (at : CountsAt n lows highs k counts)
+      (w : Walked (following n lows highs k) lows highs counts counts′ forests forests′)
     where
-      -- The key of another relay before the walk.
-      other : (r : ℕ) → r ≢ following n lows highs k → getD (set keys (following n lows highs k) 0) r 0 ≡ getD keys r 0
-      other r d = getD-set-other keys (following n lows highs k) r 0 0 d
+      -- The count of another relay before the walk.
+      other : (r : ℕ) → r ≢ following n lows highs k → getD (set counts (following n lows highs k) 0) r 0 ≡ getD counts r 0
+      other r d = getD-set-other counts (following n lows highs k) r 0 0 d
 
       below : following n lows highs k < n
       below = following-new n lows highs k within .0
 
-      own : getD (set keys (following n lows highs k) 0) (following n lows highs k) 0 ≡ 0
-      own = getD-set-same keys (following n lows highs k) 0 0 (omega (arith, below, at .room))
+      own : getD (set counts (following n lows highs k) 0) (following n lows highs k) 0 ≡ 0
+      own = getD-set-same counts (following n lows highs k) 0 0 (omega (arith, below, at .room))
 
-      nothing : (r : ℕ) → getD (set keys (following n lows highs k) 0) r 0 ≡ 0 → getD keys′ r 0 ≡ 0
-      nothing r e = w .key r ∙ go (someBelow (joins lows highs (following n lows highs k) r) (length lows))
+      nothing : (r : ℕ) → getD (set counts (following n lows highs k) 0) r 0 ≡ 0 → getD counts′ r 0 ≡ 0
+      nothing r e = w .count r ∙ go (someBelow (joins lows highs (following n lows highs k) r) (length lows))
         where
           go : (b : Bool)
-              → pick b (raisedKey (getD (set keys (following n lows highs k) 0) r 0)) (getD (set keys (following n lows highs k) 0) r 0) ≡ 0
-          go true = raised-none (getD (set keys (following n lows highs k) 0) r 0) e
+              → pick b (raisedCount (getD (set counts (following n lows highs k) 0) r 0)) (getD (set counts (following n lows highs k) 0) r 0) ≡ 0
+          go true = raised-none (getD (set counts (following n lows highs k) 0) r 0) e
           go false = e
 
-      key : (r : ℕ) → r < n → Dec (r ≡ following n lows highs k) → (b : Bool) → has (placed n lows highs k) r ≡ b
-          → getD keys′ r 0
-          ≡ pick (has (placed n lows highs (suc k)) r) 0 (keyOf (weight (linked lows highs) (placed n lows highs (suc k)) r) r)
+      raised-or-not : (r : ℕ) → r < n → Dec (r ≡ following n lows highs k) → (b : Bool) → has (placed n lows highs k) r ≡ b
+          → getD counts′ r 0
+          ≡ pick (has (placed n lows highs (suc k)) r) 0 (suc (weight (linked lows highs) (placed n lows highs (suc k)) r))
       unfolding linked
-      key r h (yes e) b p = rw (e, has-new n lows highs k) (nothing (following n lows highs k) own)
-      key r h (no d) true p =
-          rw (has-same n lows highs k r d, p) (nothing r (other r d ∙ key-placed (t .few) at r h p))
-      key r h (no d) false p =
+      raised-or-not r h (yes e) b p = rw (e, has-new n lows highs k) (nothing (following n lows highs k) own)
+      raised-or-not r h (no d) true p =
+          rw (has-same n lows highs k r d, p) (nothing r (other r d ∙ count-placed at r h p))
+      raised-or-not r h (no d) false p =
           rw (has-same n lows highs k r d, p)
-          (w .key r ∙ go (linked lows highs (following n lows highs k) r) refl)
+          (w .count r ∙ go (linked lows highs (following n lows highs k) r) refl)
         where
-          before : getD (set keys (following n lows highs k) 0) r 0 ≡ keyOf (weight (linked lows highs) (placed n lows highs k) r) r
-          before = other r d ∙ key-waiting (t .few) at r h p
+          before : getD (set counts (following n lows highs k) 0) r 0 ≡ suc (weight (linked lows highs) (placed n lows highs k) r)
+          before = other r d ∙ count-waiting at r h p
 
           go : (b : Bool) → linked lows highs (following n lows highs k) r ≡ b
-              → pick b (raisedKey (getD (set keys (following n lows highs k) 0) r 0)) (getD (set keys (following n lows highs k) 0) r 0)
-              ≡ keyOf (weight (linked lows highs) (placed n lows highs (suc k)) r) r
+              → pick b (raisedCount (getD (set counts (following n lows highs k) 0) r 0)) (getD (set counts (following n lows highs k) 0) r 0)
+              ≡ suc (weight (linked lows highs) (placed n lows highs (suc k)) r)
           go true e =
               omega (
                 arith,
                 before,
-                raised-some (getD (set keys (following n lows highs k) 0) r 0) (omega (arith, before)),
+                raised-some (getD (set counts (following n lows highs k) 0) r 0) (omega (arith, before)),
                 weight-linked n lows highs k r e,
               )
           go false e = omega (arith, before, weight-apart n lows highs k r e)
 
-      pub keys-step : KeysAt n lows highs (suc k) keys′
-      keys-step =
+      pub counts-step : CountsAt n lows highs (suc k) counts′
+      counts-step =
           record {
-            room = omega (arith, w .keyRoom, length-set keys (following n lows highs k) 0, at .room);
-            key = λ r h. key r h (ℕ-discrete r (following n lows highs k)) (has (placed n lows highs k) r) refl;
+            room = omega (arith, w .countRoom, length-set counts (following n lows highs k) 0, at .room);
+            count = λ r h. raised-or-not r h (ℕ-discrete r (following n lows highs k)) (has (placed n lows highs k) r) refl;
             rest = λ r h. nothing r (other r (λ e. omega (arith, below)) ∙ at .rest r h);
           }
 
@@ -185,12 +185,11 @@ module _ {n : ℕ} {lows highs : List ℕ} (t : ProperTable n lows highs) (k : �
           eqb-true (farEnd lows highs (following n lows highs k) i) y
           (sym (joins-far lows highs (following n lows highs k) y i touch (t .ordered i h)) ∙ e) in
           let ends = both-ends (following n lows highs k) y i h e in
-          let before : getD (set keys (following n lows highs k) 0) y 0 ≡ keyOf (weight (linked lows highs) (placed n lows highs k) y) y =
-          other y (ends .0) ∙ key-waiting (t .few) at y (ends .1) p in
-          let number = number-some (getD (set keys (following n lows highs k) 0) y 0) (getD forests i 0) (omega (arith, before)) in
+          let before : getD (set counts (following n lows highs k) 0) y 0 ≡ suc (weight (linked lows highs) (placed n lows highs k) y) =
+          other y (ends .0) ∙ count-waiting at y (ends .1) p in
+          let number = number-some (getD (set counts (following n lows highs k) 0) y 0) (getD forests i 0) (omega (arith, before)) in
           let link = joined-linked lows highs (following n lows highs k) y i h e in
-          let few = t .few in
-          let given : getD forests′ i 0 ≡ getD (set keys (following n lows highs k) 0) y 0 / 1024 =
+          let given : getD forests′ i 0 ≡ getD (set counts (following n lows highs k) 0) y 0 =
           w .forest i ∙ rw (lt-ltb i (length lows) h, touch, far) number in
           omega (arith, given, before, weight-linked n lows highs k y link, ends .1)
 
@@ -208,14 +207,14 @@ module _ {n : ℕ} {lows highs : List ℕ} (t : ProperTable n lows highs) (k : �
           old : following n lows highs j < n
           old = following-new n lows highs j (omega arith) .0
 
-          gone : getD (set keys (following n lows highs k) 0) (following n lows highs j) 0 ≡ 0
+          gone : getD (set counts (following n lows highs k) 0) (following n lows highs j) 0 ≡ 0
           gone =
               other (following n lows highs j) (λ q. apart (sym q))
-              ∙ key-placed (t .few) at (following n lows highs j) old (placed-earlier n lows highs j k early)
+              ∙ count-placed at (following n lows highs j) old (placed-earlier n lows highs j k early)
 
           go : (b : Bool) → touches lows highs (following n lows highs k) i ≡ b
               → pick b
-              (numberOf (getD (set keys (following n lows highs k) 0) (farEnd lows highs (following n lows highs k) i) 0) (getD forests i 0))
+              (numberOf (getD (set counts (following n lows highs k) 0) (farEnd lows highs (following n lows highs k) i) 0) (getD forests i 0))
               (getD forests i 0)
               ≡ getD forests i 0
           go false f = refl
@@ -226,7 +225,7 @@ module _ {n : ℕ} {lows highs : List ℕ} (t : ProperTable n lows highs) (k : �
               let far : farEnd lows highs (following n lows highs k) i ≡ following n lows highs j =
               eqb-true (farEnd lows highs (following n lows highs k) i) (following n lows highs j)
               (sym (joins-far lows highs (following n lows highs k) (following n lows highs j) i f (t .ordered i h)) ∙ back) in
-              rw far (number-none (getD (set keys (following n lows highs k) 0) (following n lows highs j) 0) (getD forests i 0) gone)
+              rw far (number-none (getD (set counts (following n lows highs k) 0) (following n lows highs j) 0) (getD forests i 0) gone)
 
       -- A link with other ends is not one of the relay that is placed now.
       untouched : (i : ℕ) → getD lows i 0 ≢ following n lows highs k → getD highs i 0 ≢ following n lows highs k

@@ -1,5 +1,5 @@
 -- The laws of the walk over the links of a relay. Assumes nothing.
-use Prim.Native.Nat.{ℕ, suc, _≤_, _<_}
+use Prim.Native.Nat.{ℕ, suc, _+_, _*_, _/_, _%_, _≤_, _<_}
 use mathlib.Core.Bool.{Bool, true, false, _||_, true≢false, _&&_}
 use mathlib.Core.List.{List}
 use mathlib.Core.Path.{_≡_, refl, sym, _∙_, ap, ap₂}
@@ -17,11 +17,9 @@ use Rattle.lists.specs.Below.{none-below}
 use Rattle.lists.specs.Stretches.{some-skip, and-skip}
 use Rattle.theory.specs.Accepted.{ProperTable}
 use Rattle.theory.specs.Links.{one-link}
-use Rattle.forests.specs.Chains.{touches, nextFrom, ChainedFrom}
-use Rattle.forests.specs.Keys.{raisedKey, numberOf}
-use Rattle.forests.specs.Tops.{Tops, Stored}
-use Rattle.forests.specs.Walk.{otherEnd, farEnd, nextOf, Visitable, Visited, WalkedTo, Walkable}
-use Rattle.forests.proofs.ChainLaws.{next-within, next-touches, next-between}
+use Rattle.forests.specs.Chains.{touches, halfOf, nextHalf, ChainedFrom}
+use Rattle.forests.specs.Counts.{raisedCount, numberOf}
+use Rattle.forests.specs.Walk.{otherEnd, farEnd, acrossOf, across, WalkedTo}
 
 pub pick-eq : {A : Type 0} (x y : ℕ) (a b : A) → x ≡ y → pick (eqb x y) a b ≡ a
 pick-eq x y a b e = rw (eq-eqb x y e)
@@ -61,7 +59,7 @@ module _ (lows highs : List ℕ) (x : ℕ) where
       go false p true q e = and-true (eqb (getD lows j 0) r)
       go false p false q e = absurd (true≢false (sym e))
 
-  far-below : {n : ℕ} (j : ℕ) → ProperTable n lows highs → j < length lows → farEnd lows highs x j < n
+  pub far-below : {n : ℕ} (j : ℕ) → ProperTable n lows highs → j < length lows → farEnd lows highs x j < n
   unfolding farEnd otherEnd
   far-below {n} j t h = go (eqb (getD lows j 0) x)
     where
@@ -69,48 +67,66 @@ module _ (lows highs : List ℕ) (x : ℕ) where
       go true = t .below j h
       go false = omega (arith, t .below j h, t .ordered j h)
 
-  -- The link behind link j at x.
-  next-behind : {first lownext highnext : List ℕ} (j : ℕ) → ChainedFrom lows highs 0 first lownext highnext
-      → touches lows highs x j ≡ true → j < length lows
-      → nextOf x (getD lows j 0) (getD lownext j 0) (getD highnext j 0) ≡ nextFrom lows highs x (suc j)
-  unfolding touches nextOf
-  next-behind {first} {lownext} {highnext} j c h k =
+  -- The far end of a half-link at x.
+  pub across-far : (j : ℕ) → across lows highs (halfOf lows x j) ≡ farEnd lows highs x j
+  unfolding halfOf across acrossOf farEnd otherEnd
+  across-far j = go (eqb (getD lows j 0) x)
+    where
+      go : (b : Bool)
+          → pick (eqb (pick b (2 * j) (2 * j + 1) % 2) 0)
+          (getD highs (pick b (2 * j) (2 * j + 1) / 2) 0)
+          (getD lows (pick b (2 * j) (2 * j + 1) / 2) 0)
+          ≡ pick b (getD highs j 0) (getD lows j 0)
+      go true =
+          let side : 2 * j % 2 ≡ 0 = omega arith in
+          let link : 2 * j / 2 ≡ j = omega arith in
+          rw (side, link)
+      go false =
+          let side : (2 * j + 1) % 2 ≡ 1 = omega arith in
+          let link : (2 * j + 1) / 2 ≡ j = omega arith in
+          rw (side, link)
+
+  -- The half-link behind that of link j at x.
+  pub next-behind : {first nexts : List ℕ} (j : ℕ) → ChainedFrom lows highs 0 first nexts
+      → touches lows highs x j ≡ true → j < length lows → getD nexts (halfOf lows x j) 0 ≡ nextHalf lows highs x (suc j)
+  unfolding touches halfOf
+  next-behind {first} {nexts} j c h k =
       go (eqb (getD lows j 0) x) refl (eqb (getD highs j 0) x) refl h
     where
       go : (a : Bool) → eqb (getD lows j 0) x ≡ a → (b : Bool) → eqb (getD highs j 0) x ≡ b → (a || b) ≡ true
-          → pick a (getD lownext j 0) (getD highnext j 0) ≡ nextFrom lows highs x (suc j)
+          → getD nexts (pick a (2 * j) (2 * j + 1)) 0 ≡ nextHalf lows highs x (suc j)
       go true p b q e =
-          c .low j (omega arith) k ∙ ap (λ r. nextFrom lows highs r (suc j)) (eqb-true (getD lows j 0) x p)
+          c .low j (omega arith) k ∙ ap (λ r. nextHalf lows highs r (suc j)) (eqb-true (getD lows j 0) x p)
       go false p true q e =
-          c .high j (omega arith) k ∙ ap (λ r. nextFrom lows highs r (suc j)) (eqb-true (getD highs j 0) x q)
+          c .high j (omega arith) k ∙ ap (λ r. nextHalf lows highs r (suc j)) (eqb-true (getD highs j 0) x q)
       go false p false q e = absurd (true≢false (sym e))
 
-  walked-none : (keys forests : List ℕ) → WalkedTo lows highs x 0 keys keys forests forests
+  pub walked-none : (counts forests : List ℕ) → WalkedTo lows highs x 0 counts counts forests forests
   unfolding someBelow
-  walked-none keys forests =
+  walked-none counts forests =
       record {
-        keyRoom = refl;
+        countRoom = refl;
         long = refl;
-        key = λ r. refl;
+        count = λ r. refl;
         forest = λ j. rw (le-ltb j 0 (omega arith));
       }
 
-  walked-skip : {keys keys′ forests forests′ : List ℕ} (i k : ℕ) → i ≤ k
+  pub walked-skip : {counts counts′ forests forests′ : List ℕ} (i k : ℕ) → i ≤ k
       → ((j : ℕ) → i ≤ j → j < k → touches lows highs x j ≡ false)
-      → WalkedTo lows highs x i keys keys′ forests forests′ → WalkedTo lows highs x k keys keys′ forests forests′
-  walked-skip {keys} {keys′} {forests} {forests′} i k h none w =
+      → WalkedTo lows highs x i counts counts′ forests forests′ → WalkedTo lows highs x k counts counts′ forests forests′
+  walked-skip {counts} {counts′} {forests} {forests′} i k h none w =
       record {
-        keyRoom = w .keyRoom;
+        countRoom = w .countRoom;
         long = w .long;
-        key = λ r. rw (some-skip (joins lows highs x r) i k h (λ j a b. joins-touches r j (none j a b))) (w .key r);
+        count = λ r. rw (some-skip (joins lows highs x r) i k h (λ j a b. joins-touches r j (none j a b))) (w .count r);
         forest = λ j. rw (and-skip (touches lows highs x) i k j h none) (w .forest j);
       }
 
-  -- The far end of the next link has its key from before the walk.
-  far-key : {n : ℕ} {keys keys′ forests forests′ : List ℕ} (i : ℕ) → ProperTable n lows highs → i < length lows
-      → touches lows highs x i ≡ true → WalkedTo lows highs x i keys keys′ forests forests′
-      → getD keys′ (farEnd lows highs x i) 0 ≡ getD keys (farEnd lows highs x i) 0
-  far-key {n} {keys} {keys′} {forests} {forests′} i t within at w = w .key y ∙ rw fresh
+  -- The far end of the next link has its count from before the walk.
+  pub far-count : {n : ℕ} {counts counts′ forests forests′ : List ℕ} (i : ℕ) → ProperTable n lows highs → i < length lows
+      → touches lows highs x i ≡ true → WalkedTo lows highs x i counts counts′ forests forests′
+      → getD counts′ (farEnd lows highs x i) 0 ≡ getD counts (farEnd lows highs x i) 0
+  far-count {n} {counts} {counts′} {forests} {forests′} i t within at w = w .count y ∙ rw fresh
     where
       y : ℕ
       y = farEnd lows highs x i
@@ -125,20 +141,20 @@ module _ (lows highs : List ℕ) (x : ℕ) where
           go j h true e = absurd (omega (arith, one-link n lows highs t x y j i (omega arith) within e here))
           go j h false e = refl
 
-  -- Link i is visited: its far end's key rises, and it gets its forest number.
-  walked-one : {n : ℕ} {keys keys′ forests forests′ : List ℕ} (i : ℕ) → ProperTable n lows highs → i < length lows
-      → n ≤ length keys → length lows ≤ length forests → touches lows highs x i ≡ true
-      → WalkedTo lows highs x i keys keys′ forests forests′
-      → WalkedTo lows highs x (suc i) keys
-      (set keys′ (farEnd lows highs x i) (raisedKey (getD keys′ (farEnd lows highs x i) 0)))
+  -- Link i is visited: its far end's count rises, and it gets its forest number.
+  pub walked-one : {n : ℕ} {counts counts′ forests forests′ : List ℕ} (i : ℕ) → ProperTable n lows highs → i < length lows
+      → n ≤ length counts → length lows ≤ length forests → touches lows highs x i ≡ true
+      → WalkedTo lows highs x i counts counts′ forests forests′
+      → WalkedTo lows highs x (suc i) counts
+      (set counts′ (farEnd lows highs x i) (raisedCount (getD counts′ (farEnd lows highs x i) 0)))
       forests
-      (set forests′ i (numberOf (getD keys′ (farEnd lows highs x i) 0) (getD forests′ i 0)))
+      (set forests′ i (numberOf (getD counts′ (farEnd lows highs x i) 0) (getD forests′ i 0)))
   unfolding someBelow
-  walked-one {n} {keys} {keys′} {forests} {forests′} i t within keyRoom room at w =
+  walked-one {n} {counts} {counts′} {forests} {forests′} i t within countRoom room at w =
       record {
-        keyRoom = simp length-set (w .keyRoom);
+        countRoom = simp length-set (w .countRoom);
         long = simp length-set (w .long);
-        key = λ r. key r (ℕ-discrete r y);
+        count = λ r. count r (ℕ-discrete r y);
         forest = λ j. forest j (ℕ-discrete j i);
       }
     where
@@ -151,123 +167,32 @@ module _ (lows highs : List ℕ) (x : ℕ) where
       here : joins lows highs x y i ≡ true
       here = joins-far y i at (t .ordered i within) ∙ eq-eqb y y refl
 
-      old : getD keys′ y 0 ≡ getD keys y 0
-      old = far-key i t within at w
+      old : getD counts′ y 0 ≡ getD counts y 0
+      old = far-count i t within at w
 
-      key : (r : ℕ) → Dec (r ≡ y)
-          → getD (set keys′ y (raisedKey (getD keys′ y 0))) r 0
-          ≡ pick (joins lows highs x r i || someBelow (joins lows highs x r) i) (raisedKey (getD keys r 0)) (getD keys r 0)
-      key r (yes e) =
-          rw (e, here) (getD-set-same keys′ y (raisedKey (getD keys′ y 0)) 0 (omega (arith, w .keyRoom, below)) ∙ ap raisedKey old)
-      key r (no e) =
+      count : (r : ℕ) → Dec (r ≡ y)
+          → getD (set counts′ y (raisedCount (getD counts′ y 0))) r 0
+          ≡ pick (joins lows highs x r i || someBelow (joins lows highs x r) i) (raisedCount (getD counts r 0)) (getD counts r 0)
+      count r (yes e) =
+          rw (e, here) (getD-set-same counts′ y (raisedCount (getD counts′ y 0)) 0 (omega (arith, w .countRoom, below)) ∙ ap raisedCount old)
+      count r (no e) =
           rw (joins-far r i at (t .ordered i within) ∙ ne-eqb y r (λ z. e (sym z)))
-          (getD-set-other keys′ y r (raisedKey (getD keys′ y 0)) 0 e ∙ w .key r)
+          (getD-set-other counts′ y r (raisedCount (getD counts′ y 0)) 0 e ∙ w .count r)
 
       forest : (j : ℕ) → Dec (j ≡ i)
-          → getD (set forests′ i (numberOf (getD keys′ y 0) (getD forests′ i 0))) j 0
+          → getD (set forests′ i (numberOf (getD counts′ y 0) (getD forests′ i 0))) j 0
           ≡ pick (ltb j (suc i) && touches lows highs x j)
-          (numberOf (getD keys (farEnd lows highs x j) 0) (getD forests j 0))
+          (numberOf (getD counts (farEnd lows highs x j) 0) (getD forests j 0))
           (getD forests j 0)
       forest j (yes e) =
           rw (e, at, lt-ltb i (suc i) (omega arith))
-          (getD-set-same forests′ i (numberOf (getD keys′ y 0) (getD forests′ i 0)) 0 (omega (arith, w .long))
+          (getD-set-same forests′ i (numberOf (getD counts′ y 0) (getD forests′ i 0)) 0 (omega (arith, w .long))
           ∙ ap₂ numberOf old (w .forest i ∙ rw (le-ltb i i (omega arith))))
       forest j (no e) =
-          getD-set-other forests′ i j (numberOf (getD keys′ y 0) (getD forests′ i 0)) 0 e
+          getD-set-other forests′ i j (numberOf (getD counts′ y 0) (getD forests′ i 0)) 0 e
           ∙ w .forest j
-          ∙ ap (λ b. pick (b && touches lows highs x j) (numberOf (getD keys (farEnd lows highs x j) 0) (getD forests j 0)) (getD forests j 0)) (same (decLt j i))
+          ∙ ap (λ b. pick (b && touches lows highs x j) (numberOf (getD counts (farEnd lows highs x j) 0) (getD forests j 0)) (getD forests j 0)) (same (decLt j i))
         where
           same : Dec (j < i) → ltb j i ≡ ltb j (suc i)
           same (yes p) = lt-ltb j i p ∙ sym (lt-ltb j (suc i) (omega arith))
           same (no p) = le-ltb j i (omega arith) ∙ sym (le-ltb j (suc i) (omega arith))
-
--- What a visit did, in the code's terms.
-pub visit-done : {x i : ℕ} {lows highs lownext highnext keys keys′ tops′ forests : List ℕ} {key number next : ℕ} (y : ℕ)
-    → y ≡ farEnd lows highs x i → key ≡ raisedKey (getD keys y 0) → Stored y key keys keys′ tops′
-    → number ≡ numberOf (getD keys y 0) (getD forests i 0)
-    → next ≡ nextOf x (getD lows i 0) (getD lownext i 0) (getD highnext i 0)
-    → Visited x i lows highs lownext highnext keys keys′ tops′ forests (set forests i number) next
-visit-done {x} {i} {lows} {highs} {lownext} {highnext} {keys} {keys′} {tops′} {forests} {key} {number} {next} y e k s f n =
-    record {
-      key = s .stored ∙ ap₂ (set keys) e (k ∙ ap (λ z. raisedKey (getD keys z 0)) e);
-      topped = s .topped;
-      forest = ap (set forests i) (f ∙ ap (λ z. numberOf (getD keys z 0) (getD forests i 0)) e);
-      onward = n;
-    }
-
--- The walk stands before link i, the next link at x; below it all is done.
-abbrev pub Walking : List ℕ → List ℕ → ℕ → ℕ → List ℕ → List ℕ → List ℕ → List ℕ → List ℕ → Type 0
-Walking lows highs x i keys keys′ tops′ forests forests′ =
-    (i ≤ length lows)
-    × (i < length lows → touches lows highs x i ≡ true)
-    × WalkedTo lows highs x i keys keys′ forests forests′
-    × Tops keys′ tops′
-
--- `cleared` are the keys with x placed.
-module _ {x : ℕ} {lows highs first lownext highnext keys cleared tops tops₀ forests : List ℕ}
-    (can : Walkable x lows highs first lownext highnext keys tops forests) (c : Stored x 0 keys cleared tops₀)
-  where
-    pub walk-starts : (i : ℕ) → i ≡ getD first x 0 → Walking lows highs x i cleared cleared tops₀ forests forests
-    walk-starts i e =
-        let head : i ≡ nextFrom lows highs x 0 = e ∙ can .chained .heads x (can .relay) in
-        let start = walked-none lows highs x cleared forests in
-        rw head (
-          next-within lows highs x 0 (omega arith) .1,
-          next-touches lows highs x 0,
-          walked-skip lows highs x 0 (nextFrom lows highs x 0) (omega arith) (next-between lows highs x 0) start,
-          c .topped,
-        )
-
-    room : length first ≤ length cleared
-    room = omega (arith, can .keyRoom, ap length (c .stored), length-set keys x 0)
-
-    bounded : (r : ℕ) → getD cleared r 0 < 2000000
-    bounded r = rw (c .stored) (go (ℕ-discrete r x))
-      where
-        go : Dec (r ≡ x) → getD (set keys x 0) r 0 < 2000000
-        go (yes e) =
-            omega (
-              arith,
-              ap (λ z. getD (set keys x 0) z 0) e,
-              getD-set-same keys x 0 0 (omega (arith, can .keyRoom, can .relay)),
-            )
-        go (no e) = omega (arith, getD-set-other keys x r 0 0 e, can .bound r)
-
-    module _ {keys′ tops′ forests′ : List ℕ} (i : ℕ) (within : i < length lows)
-        (w : Walking lows highs x i cleared keys′ tops′ forests forests′)
-      where
-        pub walk-visits : Visitable x i lows highs lownext highnext keys′ tops′ forests′
-        walk-visits =
-            let y = farEnd lows highs x i in
-            let old : getD keys′ y 0 ≡ getD cleared y 0 = far-key lows highs x i (can .proper) within (w .1 within) (w .2) in
-            let left : getD forests′ i 0 ≡ getD forests i 0 = w .2 .forest i ∙ rw (le-ltb i i (omega arith)) in
-            record {
-              within = within;
-              same = sym (can .proper .even);
-              short = can .proper .short;
-              room = omega (arith, can .room, w .2 .long);
-              lowRoom = can .chained .lowRoom;
-              highRoom = can .chained .highRoom;
-              far = omega (arith, far-below lows highs x i (can .proper) within, w .2 .keyRoom, room);
-              topped = w .3;
-              bound = omega (arith, old, bounded y);
-              fresh = λ h. left ∙ can .fresh i within (w .1 within) (omega (arith, h, old ∙ ap (λ l. getD l y 0) (c .stored)));
-            }
-
-        pub walk-moves : {keys″ tops″ forests″ : List ℕ} (next : ℕ)
-            → Visited x i lows highs lownext highnext keys′ keys″ tops″ forests′ forests″ next
-            → (i < next) × Walking lows highs x next cleared keys″ tops″ forests forests″
-        walk-moves {keys″} {tops″} {forests″} next v =
-            let e : next ≡ nextFrom lows highs x (suc i) =
-            v .onward ∙ next-behind lows highs x i (can .chained) (w .1 within) within in
-            let one = walked-one lows highs x i (can .proper) within room (can .room) (w .1 within) (w .2) in
-            let bounds = next-within lows highs x (suc i) within in
-            rw (e, v .forest) (
-              bounds .0,
-              (
-                bounds .1,
-                next-touches lows highs x (suc i),
-                rw (v .key) (walked-skip lows highs x (suc i) (nextFrom lows highs x (suc i)) (bounds .0) (next-between lows highs x (suc i)) one),
-                v .topped,
-              ),
-            )

@@ -1,9 +1,10 @@
--- Chains of links by a search: the next link at a relay from an index on. Assumes nothing.
-use Prim.Native.Nat.{ℕ, zero, suc, _-_, _≤_, _<_}
+-- Chains of links by a search: the next link at a relay from an index on. A link is in two chains, by its two halves.
+-- Assumes nothing.
+use Prim.Native.Nat.{ℕ, zero, suc, _+_, _-_, _*_, _≤_, _<_}
 use mathlib.Core.Bool.{Bool, _||_}
 use mathlib.Core.List.{List}
 use mathlib.Core.Path.{_≡_}
-use lib.Dec.{eqb}
+use lib.Dec.{eqb, ltb}
 use lib.ListN.{length, getD}
 use Rattle.definitions.specs.Outcome.{pick}
 
@@ -20,20 +21,26 @@ nextAt lows highs r (suc count) i = pick (touches lows highs r i) i (nextAt lows
 unfoldable pub nextFrom : List ℕ → List ℕ → ℕ → ℕ → ℕ
 nextFrom lows highs r i = nextAt lows highs r (length lows - i) i
 
--- What making the chains asks: at most 3,000 links between relays that have a head, and no chain yet.
-pub record Chainable (lows highs first lownext highnext : List ℕ) : Type 0 where
+-- The half of link i at relay r: 2 i at its low end, 2 i + 1 at its high end.
+unfoldable pub halfOf : List ℕ → ℕ → ℕ → ℕ
+halfOf lows r i = pick (eqb (getD lows i 0) r) (2 * i) (2 * i + 1)
+
+-- The half at r of the first link from i on that r is an end of; twice the number of links if there is none.
+unfoldable pub nextHalf : List ℕ → List ℕ → ℕ → ℕ → ℕ
+nextHalf lows highs r i = pick (ltb (nextFrom lows highs r i) (length lows)) (halfOf lows r (nextFrom lows highs r i)) (2 * length lows)
+
+-- What making the chains asks: at most 3,000 links, each from a relay to a higher one that has a head, and no chain yet.
+pub record Chainable (lows highs first nexts : List ℕ) : Type 0 where
   pub short : length lows ≤ 3000
   pub same : length highs ≡ length lows
-  pub low : (i : ℕ) → i < length lows → getD lows i 0 < length first
-  pub high : (i : ℕ) → i < length lows → getD highs i 0 < length first
-  pub none : (r : ℕ) → r < length first → getD first r 0 ≡ length lows
-  pub lowRoom : length lows ≤ length lownext
-  pub highRoom : length lows ≤ length highnext
+  pub rises : (i : ℕ) → i < length lows → getD lows i 0 < getD highs i 0
+  pub below : (i : ℕ) → i < length lows → getD highs i 0 < length first
+  pub none : (r : ℕ) → r < length first → getD first r 0 ≡ 2 * length lows
+  pub room : 2 * length lows ≤ length nexts
 
--- The chains of all links from i on: of each relay, and of each link.
-pub record ChainedFrom (lows highs : List ℕ) (i : ℕ) (first lownext highnext : List ℕ) : Type 0 where
-  pub lowRoom : length lows ≤ length lownext
-  pub highRoom : length lows ≤ length highnext
-  pub heads : (r : ℕ) → r < length first → getD first r 0 ≡ nextFrom lows highs r i
-  pub low : (j : ℕ) → i ≤ j → j < length lows → getD lownext j 0 ≡ nextFrom lows highs (getD lows j 0) (suc j)
-  pub high : (j : ℕ) → i ≤ j → j < length lows → getD highnext j 0 ≡ nextFrom lows highs (getD highs j 0) (suc j)
+-- The chains of all links from i on: of each relay, and of each half-link.
+pub record ChainedFrom (lows highs : List ℕ) (i : ℕ) (first nexts : List ℕ) : Type 0 where
+  pub room : 2 * length lows ≤ length nexts
+  pub heads : (r : ℕ) → r < length first → getD first r 0 ≡ nextHalf lows highs r i
+  pub low : (j : ℕ) → i ≤ j → j < length lows → getD nexts (2 * j) 0 ≡ nextHalf lows highs (getD lows j 0) (suc j)
+  pub high : (j : ℕ) → i ≤ j → j < length lows → getD nexts (2 * j + 1) 0 ≡ nextHalf lows highs (getD highs j 0) (suc j)

@@ -1,7 +1,7 @@
 -- What the scan and the operations over it promise, a module a subject.
 pub mod Chains
-pub mod Keys
-pub mod Tops
+pub mod Counts
+pub mod Buckets
 pub mod Walk
 pub mod Scan
 pub mod Left

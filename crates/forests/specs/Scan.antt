@@ -1,38 +1,18 @@
 -- What the scan promises: order, places and forest numbers of an accepted table; and its steps. Assumes nothing.
-use Prim.Native.Nat.{ℕ, suc, _-_, _≤_, _<_}
+use Prim.Native.Nat.{ℕ, suc, _-_, _*_, _≤_, _<_}
 use mathlib.Core.Bool.{true, false}
 use mathlib.Core.List.{List}
 use mathlib.Core.Path.{_≡_}
-use lib.ListN.{length, getD, set, take, drop}
+use lib.ListN.{length, getD, set, drop}
 use Rattle.definitions.specs.Outcome.{pick}
-use Rattle.definitions.specs.Lists.{table, overwrite, has, position, greatest}
+use Rattle.definitions.specs.Lists.{table, overwrite, has, position}
 use Rattle.definitions.specs.Network.{joins, linked, Accepted}
 use Rattle.definitions.specs.Order.{weight, nextRelay, placedAfter, orderOf, placesOf}
 use Rattle.definitions.specs.Forests.{forestsOf}
 use Rattle.forests.specs.Chains.{ChainedFrom}
-use Rattle.forests.specs.Keys.{keyOf, relayOf, NoKeys, StartKeys}
-use Rattle.forests.specs.Tops.{Tops}
+use Rattle.forests.specs.Counts.{StartCounts}
+use Rattle.forests.specs.Buckets.{Buckets}
 use Rattle.forests.specs.Walk.{Walkable, Walked}
-
--- The relay with the greatest key.
-unfoldable pub chosen : ℕ → List ℕ → ℕ
-chosen n keys = relayOf (greatest (take n keys))
-
--- What placing the chosen relay at v asks.
-pub record Placeable (n v : ℕ) (lows highs first lownext highnext keys tops relays places forests : List ℕ) : Type 0 where
-  pub keyRoom : n ≤ length keys
-  pub walkable : Walkable (chosen n keys) lows highs first lownext highnext keys tops forests
-  pub rest : (r : ℕ) → n ≤ r → getD keys r 0 ≡ 0
-  pub some : 0 < v
-  pub within : v ≤ length relays
-  pub room : chosen n keys < length places
-
--- What it does.
-pub record PlacedOne (n v : ℕ) (lows highs keys keys′ tops′ relays relays′ places places′ forests forests′ : List ℕ) : Type 0 where
-  pub relay : relays′ ≡ set relays (v - 1) (chosen n keys)
-  pub place : places′ ≡ set places (chosen n keys) v
-  pub walked : Walked (chosen n keys) lows highs keys keys′ forests forests′
-  pub topped : Tops keys′ tops′
 
 -- The first k relays of the order, and the one that comes after them.
 abbrev pub placed : ℕ → List ℕ → List ℕ → ℕ → List ℕ
@@ -41,12 +21,35 @@ placed n lows highs k = placedAfter (linked lows highs) 0 (table (λ r. r) 0 n) 
 abbrev pub following : ℕ → List ℕ → List ℕ → ℕ → ℕ
 following n lows highs k = nextRelay (linked lows highs) 0 (table (λ r. r) 0 n) (placed n lows highs k)
 
--- The keys when k relays are placed.
-pub record KeysAt (n : ℕ) (lows highs : List ℕ) (k : ℕ) (keys : List ℕ) : Type 0 where
-  pub room : n ≤ length keys
-  pub key : (r : ℕ) → r < n
-      → getD keys r 0 ≡ pick (has (placed n lows highs k) r) 0 (keyOf (weight (linked lows highs) (placed n lows highs k) r) r)
-  pub rest : (r : ℕ) → n ≤ r → getD keys r 0 ≡ 0
+-- The counts when k relays are placed.
+pub record CountsAt (n : ℕ) (lows highs : List ℕ) (k : ℕ) (counts : List ℕ) : Type 0 where
+  pub room : n ≤ length counts
+  pub count : (r : ℕ) → r < n
+      → getD counts r 0 ≡ pick (has (placed n lows highs k) r) 0 (suc (weight (linked lows highs) (placed n lows highs k) r))
+  pub rest : (r : ℕ) → n ≤ r → getD counts r 0 ≡ 0
+
+-- What placing the next relay at v asks.
+pub record Placeable (n v most : ℕ) (lows highs first nexts counts bits relays places forests : List ℕ) : Type 0 where
+  pub some : 0 < v
+  pub within : v ≤ n
+  pub few : n ≤ 1000
+  pub relayRoom : n ≤ length relays
+  pub placeRoom : n ≤ length places
+  pub countsAt : CountsAt n lows highs (v - 1) counts
+  pub bounded : (r : ℕ) → getD counts r 0 ≤ most
+  pub mostFew : most < 80
+  pub walkable : Walkable (following n lows highs (v - 1)) lows highs first nexts counts bits forests
+
+-- What it does; most′ is a bound for the counts afterwards.
+pub record PlacedOne (n v : ℕ) (lows highs counts counts′ bits′ relays relays′ places places′ forests forests′ : List ℕ) (most′ : ℕ)
+    : Type 0
+  where
+    pub relay : relays′ ≡ set relays (v - 1) (following n lows highs (v - 1))
+    pub place : places′ ≡ set places (following n lows highs (v - 1)) v
+    pub walked : Walked (following n lows highs (v - 1)) lows highs counts counts′ forests forests′
+    pub sorted : Buckets counts′ bits′
+    pub bounded : (r : ℕ) → getD counts′ r 0 ≤ most′
+    pub mostFew : most′ < 80
 
 -- The places when k relays are placed.
 pub record PlacesAt (n : ℕ) (lows highs : List ℕ) (k : ℕ) (places places′ : List ℕ) : Type 0 where
@@ -67,8 +70,8 @@ pub record ForestsAt (n : ℕ) (lows highs : List ℕ) (k : ℕ) (forests forest
   pub rest : (i : ℕ) → length lows ≤ i → getD forests′ i 0 ≡ getD forests i 0
 
 -- All lists when k relays are placed.
-pub record ScannedTo (n : ℕ) (lows highs : List ℕ) (k : ℕ) (keys relays relays′ places places′ forests forests′ : List ℕ) : Type 0 where
-  pub keysAt : KeysAt n lows highs k keys
+pub record ScannedTo (n : ℕ) (lows highs : List ℕ) (k : ℕ) (counts relays relays′ places places′ forests forests′ : List ℕ) : Type 0 where
+  pub countsAt : CountsAt n lows highs k counts
   pub relaysAt : relays′ ≡ overwrite (placed n lows highs k) relays
   pub placesAt : PlacesAt n lows highs k places places′
   pub forestsAt : ForestsAt n lows highs k forests forests′
@@ -86,24 +89,25 @@ pub record Cleared (i m : ℕ) (forests forests′ : List ℕ) : Type 0 where
   pub zeros : (j : ℕ) → j < i → getD forests′ j 0 ≡ 0
   pub rest : drop m forests′ ≡ drop m forests
 
--- Arrays with room for the scan, without chains and keys.
-pub record Workspace (n : ℕ) (lows first lownext highnext keys : List ℕ) : Type 0 where
+-- Arrays with room for the scan, without chains and counts.
+pub record Workspace (n : ℕ) (lows first nexts counts bits : List ℕ) : Type 0 where
   pub heads : n ≤ length first
   pub few : length first ≤ 1000
-  pub none : (r : ℕ) → r < length first → getD first r 0 ≡ length lows
-  pub lowRoom : length lows ≤ length lownext
-  pub highRoom : length lows ≤ length highnext
-  pub noKeys : NoKeys (length first) keys
+  pub none : (r : ℕ) → r < length first → getD first r 0 ≡ 2 * length lows
+  pub nextRoom : 2 * length lows ≤ length nexts
+  pub countRoom : length first ≤ length counts
+  pub noCounts : StartCounts 0 counts
+  pub sorted : Buckets counts bits
 
--- The same, with chains and keys made, and without forest numbers.
-pub record Startable (n : ℕ) (lows highs first lownext highnext keys tops relays places forests : List ℕ) : Type 0 where
+-- The same, with chains and counts made, and without forest numbers.
+pub record Startable (n : ℕ) (lows highs first nexts counts bits relays places forests : List ℕ) : Type 0 where
   pub scannable : Scannable n lows highs relays places forests
   pub heads : n ≤ length first
   pub few : length first ≤ 1000
-  pub keyRoom : length first ≤ length keys
-  pub chained : ChainedFrom lows highs 0 first lownext highnext
-  pub startKeys : StartKeys n keys
-  pub topped : Tops keys tops
+  pub countRoom : length first ≤ length counts
+  pub chained : ChainedFrom lows highs 0 first nexts
+  pub startCounts : StartCounts n counts
+  pub sorted : Buckets counts bits
   pub zeros : (i : ℕ) → i < length lows → getD forests i 0 ≡ 0
 
 -- What the scan does.

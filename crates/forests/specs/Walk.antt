@@ -1,6 +1,6 @@
--- What the walk over the links of a relay x does to the keys and the forest numbers, in terms of all links below an index.
+-- What the walk over the links of a relay x does to the counts and the forest numbers, in terms of all links below an index.
 -- Assumes nothing.
-use Prim.Native.Nat.{ℕ, _≤_, _<_}
+use Prim.Native.Nat.{ℕ, _*_, _/_, _%_, _≤_, _<_}
 use mathlib.Core.Bool.{true, _&&_}
 use mathlib.Core.List.{List}
 use mathlib.Core.Path.{_≡_}
@@ -11,8 +11,8 @@ use Rattle.definitions.specs.Lists.{someBelow}
 use Rattle.definitions.specs.Network.{joins}
 use Rattle.theory.specs.Accepted.{ProperTable}
 use Rattle.forests.specs.Chains.{touches, ChainedFrom}
-use Rattle.forests.specs.Keys.{raisedKey, numberOf}
-use Rattle.forests.specs.Tops.{Tops}
+use Rattle.forests.specs.Counts.{raisedCount, numberOf}
+use Rattle.forests.specs.Buckets.{Buckets}
 
 -- The end of a link that is not x.
 unfoldable pub otherEnd : ℕ → ℕ → ℕ → ℕ
@@ -22,52 +22,55 @@ otherEnd x low high = pick (eqb low x) high low
 unfoldable pub farEnd : List ℕ → List ℕ → ℕ → ℕ → ℕ
 farEnd lows highs x i = otherEnd x (getD lows i 0) (getD highs i 0)
 
--- Of the links after one at its low and at its high end, the one at x.
-unfoldable pub nextOf : ℕ → ℕ → ℕ → ℕ → ℕ
-nextOf x low lownext highnext = pick (eqb low x) lownext highnext
+-- The end of a link that its half h is not at: the high one from the low one, and back.
+unfoldable pub acrossOf : ℕ → ℕ → ℕ → ℕ
+acrossOf h low high = pick (eqb (h % 2) 0) high low
 
--- What a visit of link i at x asks.
-pub record Visitable (x i : ℕ) (lows highs lownext highnext keys tops forests : List ℕ) : Type 0 where
-  pub within : i < length lows
+-- The end of link h / 2 that its half h is not at.
+unfoldable pub across : List ℕ → List ℕ → ℕ → ℕ
+across lows highs h = acrossOf h (getD lows (h / 2) 0) (getD highs (h / 2) 0)
+
+-- What a visit of the half-link h asks.
+pub record Visitable (h : ℕ) (lows highs nexts counts bits forests : List ℕ) : Type 0 where
+  pub within : h < 2 * length lows
   pub same : length highs ≡ length lows
   pub short : length lows ≤ 3000
   pub room : length lows ≤ length forests
-  pub lowRoom : length lows ≤ length lownext
-  pub highRoom : length lows ≤ length highnext
-  pub far : farEnd lows highs x i < length keys
-  pub topped : Tops keys tops
-  pub bound : getD keys (farEnd lows highs x i) 0 < 2000000
-  pub fresh : 0 < getD keys (farEnd lows highs x i) 0 → getD forests i 0 ≡ 0
+  pub nextRoom : 2 * length lows ≤ length nexts
+  pub far : across lows highs h < length counts
+  pub sorted : Buckets counts bits
+  pub bound : getD counts (across lows highs h) 0 < 77
+  pub fresh : 0 < getD counts (across lows highs h) 0 → getD forests (h / 2) 0 ≡ 0
 
 -- What a visit does.
-pub record Visited (x i : ℕ) (lows highs lownext highnext keys keys′ tops′ forests forests′ : List ℕ) (next : ℕ) : Type 0 where
-  pub key : keys′ ≡ set keys (farEnd lows highs x i) (raisedKey (getD keys (farEnd lows highs x i) 0))
-  pub topped : Tops keys′ tops′
-  pub forest : forests′ ≡ set forests i (numberOf (getD keys (farEnd lows highs x i) 0) (getD forests i 0))
-  pub onward : next ≡ nextOf x (getD lows i 0) (getD lownext i 0) (getD highnext i 0)
+pub record Visited (h : ℕ) (lows highs nexts counts counts′ bits′ forests forests′ : List ℕ) (next : ℕ) : Type 0 where
+  pub count : counts′ ≡ set counts (across lows highs h) (raisedCount (getD counts (across lows highs h) 0))
+  pub sorted : Buckets counts′ bits′
+  pub forest : forests′ ≡ set forests (h / 2) (numberOf (getD counts (across lows highs h) 0) (getD forests (h / 2) 0))
+  pub onward : next ≡ getD nexts h 0
 
--- The keys and the forest numbers when all links of x below i were visited; `keys` and `forests` are those before.
-pub record WalkedTo (lows highs : List ℕ) (x i : ℕ) (keys keys′ forests forests′ : List ℕ) : Type 0 where
-  pub keyRoom : length keys′ ≡ length keys
+-- The counts and the forest numbers when all links of x below i were visited; `counts` and `forests` are those before.
+pub record WalkedTo (lows highs : List ℕ) (x i : ℕ) (counts counts′ forests forests′ : List ℕ) : Type 0 where
+  pub countRoom : length counts′ ≡ length counts
   pub long : length forests′ ≡ length forests
-  pub key : (r : ℕ)
-      → getD keys′ r 0 ≡ pick (someBelow (joins lows highs x r) i) (raisedKey (getD keys r 0)) (getD keys r 0)
+  pub count : (r : ℕ)
+      → getD counts′ r 0 ≡ pick (someBelow (joins lows highs x r) i) (raisedCount (getD counts r 0)) (getD counts r 0)
   pub forest : (j : ℕ)
       → getD forests′ j 0
-      ≡ pick (ltb j i && touches lows highs x j) (numberOf (getD keys (farEnd lows highs x j) 0) (getD forests j 0)) (getD forests j 0)
+      ≡ pick (ltb j i && touches lows highs x j) (numberOf (getD counts (farEnd lows highs x j) 0) (getD forests j 0)) (getD forests j 0)
 
 -- What the walk over all links of x asks; a link from x to a waiting relay has no number yet.
-pub record Walkable (x : ℕ) (lows highs first lownext highnext keys tops forests : List ℕ) : Type 0 where
+pub record Walkable (x : ℕ) (lows highs first nexts counts bits forests : List ℕ) : Type 0 where
   pub proper : ProperTable (length first) lows highs
-  pub chained : ChainedFrom lows highs 0 first lownext highnext
+  pub chained : ChainedFrom lows highs 0 first nexts
   pub relay : x < length first
-  pub keyRoom : length first ≤ length keys
+  pub countRoom : length first ≤ length counts
   pub room : length lows ≤ length forests
-  pub topped : Tops keys tops
-  pub bound : (r : ℕ) → getD keys r 0 < 2000000
-  pub fresh : (j : ℕ) → j < length lows → touches lows highs x j ≡ true → 0 < getD (set keys x 0) (farEnd lows highs x j) 0
+  pub sorted : Buckets counts bits
+  pub bound : (j : ℕ) → j < length lows → touches lows highs x j ≡ true → getD (set counts x 0) (farEnd lows highs x j) 0 < 77
+  pub fresh : (j : ℕ) → j < length lows → touches lows highs x j ≡ true → 0 < getD (set counts x 0) (farEnd lows highs x j) 0
       → getD forests j 0 ≡ 0
 
--- What it does: x is placed, so that its key is 0, and all its links are visited.
+-- What it does: x is placed, so that its count is 0, and all its links are visited.
 abbrev pub Walked : ℕ → List ℕ → List ℕ → List ℕ → List ℕ → List ℕ → List ℕ → Type 0
-Walked x lows highs keys keys′ forests forests′ = WalkedTo lows highs x (length lows) (set keys x 0) keys′ forests forests′
+Walked x lows highs counts counts′ forests forests′ = WalkedTo lows highs x (length lows) (set counts x 0) counts′ forests forests′

@@ -12,12 +12,12 @@ ghost use Rattle.definitions.specs.Order.{orderAnswer, relaysAfter, placesAfter
 ghost use Rattle.definitions.specs.Forests.{splitAnswer, forestsAfter, cutAnswer, marksAfter};
 ghost use Rattle.forests.specs.Answers.{orderOutcome, splitOutcome, cutOutcome};
 
+mod buckets;
 mod chains;
-mod keys;
+mod counts;
 pub mod left;
 mod marks;
 pub mod scan;
-mod tops;
 mod walk;
 
 pub enum OrderAnswer {

@@ -1,22 +1,21 @@
 // The scan: relays are placed one after another, and each link gets its forest number in the same pass.
-use crate::chains::few_heads;
+use crate::buckets::columns_of;
+use crate::buckets::few_bits;
+use crate::buckets::leading;
+use crate::buckets::no_bits;
+use crate::buckets::start_counts;
 use crate::chains::few_nexts;
+use crate::chains::for_few_relays;
+use crate::chains::for_relays;
 use crate::chains::link_up;
-use crate::chains::no_heads;
 use crate::chains::no_nexts;
-use crate::keys::few_keys;
-use crate::keys::no_keys;
-use crate::keys::relay_of;
-use crate::keys::start_keys;
-use crate::tops::greatest_of;
-use crate::tops::no_tops;
 use crate::walk::walk;
 use network::Place;
 use network::Relay;
 ghost use Prim.Native.Nat.{_-_, _<_, _≤_};
 ghost use mathlib.Core.Bool.{true};
 ghost use mathlib.Core.Path.{_≡_};
-ghost use lib.ListN.{length, getD, set};
+ghost use lib.ListN.{length, getD, set, replicate};
 ghost use Rattle.definitions.specs.Lists.{overwrite};
 ghost use Rattle.definitions.specs.Network.{Accepted};
 ghost use Rattle.definitions.specs.Order.{orderOf, placesOf};
@@ -44,40 +43,31 @@ fn put(x: Relay, v: Place, relays: &mut [u16], places: &mut [u16])
     places[r] = v.0;
 }
 
-// The relay with the greatest key gets place v.
+// The next relay gets place v; its count is at most `most`. Gives a bound for the counts afterwards.
 fn place_next(
     n: u16,
     v: Place,
+    most: u16,
     lows: &[u16],
     highs: &[u16],
     first: &[u16],
-    lownext: &[u16],
-    highnext: &[u16],
-    keys: &mut [u32],
-    tops: &mut [u32; 32],
+    nexts: &[u16],
+    counts: &mut [u16],
+    bits: &mut [u64],
     relays: &mut [u16],
     places: &mut [u16],
     forests: &mut [u16],
-)
-    requires { ⌜ Placeable n (v .0) (now lows) (now highs) (now first) (now lownext) (now highnext) (now keys) (now tops)
+) -> u16
+    requires { ⌜ Placeable n (v .0) most (now lows) (now highs) (now first) (now nexts) (now counts) (now bits)
         (now relays) (now places) (now forests) ⌝ }
-    ensures { λ _. ⌜ PlacedOne n (v .0) (now (lows .entry)) (now (highs .entry)) (now (keys .entry)) (now (keys .exit)) (now (tops .exit))
+    ensures { λ r. ⌜ PlacedOne n (v .0) (now (lows .entry)) (now (highs .entry)) (now (counts .entry)) (now (counts .exit)) (now (bits .exit))
         (now (relays .entry)) (now (relays .exit)) (now (places .entry)) (now (places .exit))
-        (now (forests .entry)) (now (forests .exit)) ⌝ }
+        (now (forests .entry)) (now (forests .exit)) r ⌝ }
 {
-    let x = relay_of(greatest_of(n, tops));
+    let x = leading(columns_of(n), most, bits);
     put(x, v, relays, places);
-    walk(
-        x,
-        lows,
-        highs,
-        first,
-        lownext,
-        highnext,
-        keys,
-        tops,
-        forests,
-    );
+    let count = walk(x, lows, highs, first, nexts, counts, bits, forests);
+    count + 1
 }
 
 // All n relays get their places.
@@ -86,37 +76,50 @@ fn place_all(
     lows: &[u16],
     highs: &[u16],
     first: &[u16],
-    lownext: &[u16],
-    highnext: &[u16],
-    keys: &mut [u32],
-    tops: &mut [u32; 32],
+    nexts: &[u16],
+    counts: &mut [u16],
+    bits: &mut [u64],
     relays: &mut [u16],
     places: &mut [u16],
     forests: &mut [u16],
 )
-    requires { ⌜ Startable n (now lows) (now highs) (now first) (now lownext) (now highnext) (now keys) (now tops)
+    requires { ⌜ Startable n (now lows) (now highs) (now first) (now nexts) (now counts) (now bits)
         (now relays) (now places) (now forests) ⌝ }
     ensures { λ _. ⌜ Scanned n (now (lows .entry)) (now (highs .entry)) (now (relays .entry)) (now (relays .exit))
         (now (places .entry)) (now (places .exit)) (now (forests .entry)) (now (forests .exit)) ⌝ }
 {
     let mut v = 0;
+    let mut most = 1;
     while v < n {
         v += 1;
-        place_next(
+        most = place_next(
             n,
             Place(v),
+            most,
             lows,
             highs,
             first,
-            lownext,
-            highnext,
-            keys,
-            tops,
+            nexts,
+            counts,
+            bits,
             relays,
             places,
             forests,
         );
     }
+}
+
+// No link has a number: for 3,000 links, and for 384.
+fn no_numbers() -> [u16; 3000]
+    ensures { λ r. ⌜ r ≡ replicate 3000 0 ⌝ }
+{
+    [0; 3000]
+}
+
+fn few_numbers() -> [u16; 384]
+    ensures { λ r. ⌜ r ≡ replicate 384 0 ⌝ }
+{
+    [0; 384]
 }
 
 // No link has a number yet.
@@ -137,31 +140,29 @@ fn scan_in(
     lows: &[u16],
     highs: &[u16],
     first: &mut [u16],
-    lownext: &mut [u16],
-    highnext: &mut [u16],
-    keys: &mut [u32],
+    nexts: &mut [u16],
+    counts: &mut [u16],
+    bits: &mut [u64],
     relays: &mut [u16],
     places: &mut [u16],
     forests: &mut [u16],
 )
     requires { ⌜ Scannable n (now lows) (now highs) (now relays) (now places) (now forests)
-        × Workspace n (now lows) (now first) (now lownext) (now highnext) (now keys) ⌝ }
+        × Workspace n (now lows) (now first) (now nexts) (now counts) (now bits) ⌝ }
     ensures { λ _. ⌜ Scanned n (now (lows .entry)) (now (highs .entry)) (now (relays .entry)) (now (relays .exit))
         (now (places .entry)) (now (places .exit)) (now (forests .entry)) (now (forests .exit)) ⌝ }
 {
-    link_up(lows, highs, first, lownext, highnext);
-    let mut tops = no_tops();
-    start_keys(n, keys, &mut tops);
+    link_up(lows, highs, first, nexts);
+    start_counts(n, counts, bits);
     clear_numbers(lows.len(), forests);
     place_all(
         n,
         lows,
         highs,
         first,
-        lownext,
-        highnext,
-        keys,
-        &mut tops,
+        nexts,
+        counts,
+        bits,
         relays,
         places,
         forests,
@@ -187,18 +188,19 @@ fn scan_small(
     ensures { λ _. ⌜ Scanned n (now (lows .entry)) (now (highs .entry)) (now (relays .entry)) (now (relays .exit))
         (now (places .entry)) (now (places .exit)) (now (forests .entry)) (now (forests .exit)) ⌝ }
 {
-    let mut first = few_heads(lows.len() as u16);
-    let mut lownext = few_nexts();
-    let mut highnext = few_nexts();
-    let mut keys = few_keys();
+    let none = 2 * lows.len() as u16;
+    let mut first = for_few_relays(none);
+    let mut nexts = few_nexts();
+    let mut counts = for_few_relays(0);
+    let mut bits = few_bits();
     scan_in(
         n,
         lows,
         highs,
         &mut first,
-        &mut lownext,
-        &mut highnext,
-        &mut keys,
+        &mut nexts,
+        &mut counts,
+        &mut bits,
         relays,
         places,
         forests,
@@ -217,18 +219,19 @@ fn scan_large(
     ensures { λ _. ⌜ Scanned n (now (lows .entry)) (now (highs .entry)) (now (relays .entry)) (now (relays .exit))
         (now (places .entry)) (now (places .exit)) (now (forests .entry)) (now (forests .exit)) ⌝ }
 {
-    let mut first = no_heads(lows.len() as u16);
-    let mut lownext = no_nexts();
-    let mut highnext = no_nexts();
-    let mut keys = no_keys();
+    let none = 2 * lows.len() as u16;
+    let mut first = for_relays(none);
+    let mut nexts = no_nexts();
+    let mut counts = for_relays(0);
+    let mut bits = no_bits();
     scan_in(
         n,
         lows,
         highs,
         &mut first,
-        &mut lownext,
-        &mut highnext,
-        &mut keys,
+        &mut nexts,
+        &mut counts,
+        &mut bits,
         relays,
         places,
         forests,
@@ -263,10 +266,10 @@ pub fn place_relays(n: u16, lows: &[u16], highs: &[u16], relays: &mut [u16], pla
         ≡ overwrite (placesOf n (orderOf n (now (lows .entry)) (now (highs .entry)))) (now (places .entry)) ⌝ }
 {
     if lows.len() <= 384 {
-        let mut forests = few_nexts();
+        let mut forests = few_numbers();
         scan(n, lows, highs, relays, places, &mut forests);
     } else {
-        let mut forests = no_nexts();
+        let mut forests = no_numbers();
         scan(n, lows, highs, relays, places, &mut forests);
     }
 }
@@ -277,12 +280,12 @@ pub fn number_links(n: u16, lows: &[u16], highs: &[u16], forests: &mut [u16])
     ensures { λ _. ⌜ now (forests .exit) ≡ overwrite (forestsOf n (now (lows .entry)) (now (highs .entry))) (now (forests .entry)) ⌝ }
 {
     if n <= 128 {
-        let mut relays = few_heads(0);
-        let mut places = few_heads(0);
+        let mut relays = for_few_relays(0);
+        let mut places = for_few_relays(0);
         scan(n, lows, highs, &mut relays, &mut places, forests);
     } else {
-        let mut relays = no_heads(0);
-        let mut places = no_heads(0);
+        let mut relays = for_relays(0);
+        let mut places = for_relays(0);
         scan(n, lows, highs, &mut relays, &mut places, forests);
     }
 }

@@ -1,24 +1,31 @@
 -- After each turn one relay more has its place. Assumes nothing.
-use Prim.Native.Nat.{_-_, _≤_}
+use Prim.Native.Nat.{ℕ, _-_, _≤_, _<_}
 use mathlib.Core.Path.{_≡_, refl, _∙_}
 use native.Mathlib.Omega.{arith}
-use lib.ListN.{length, length-set}
-use Rattle.forests.specs.Tops.{Tops}
+use lib.ListN.{length, getD, length-set}
+use Rattle.forests.specs.Buckets.{Buckets}
 use Rattle.forests.specs.Scan.{ScannedTo}
-use Rattle.forests.proofs.ScanLaws.{relays-long, scan-starts, scan-places, scan-moves, scan-ends}
+use Rattle.forests.proofs.ScanLaws.{relays-long, first-most, scan-starts, scan-places, scan-moves, scan-ends}
 use Rattle.forests.proofs.scan.place_all.Statement.{statement}
 use Rattle.forests.proofs.scan.place_all.Tie as tie
 
 abbrev Inv-loop : tie.InvT-loop
-Inv-loop n lows highs first lownext highnext keys₀ tops₀ relays₀ places₀ forests₀ v₀ keys tops relays places forests v = (v ≤ n) × ScannedTo n lows highs v keys relays₀ relays places₀ places forests₀ forests × Tops keys tops × (length keys ≡ length keys₀)
+Inv-loop n lows highs first nexts counts₀ bits₀ relays₀ places₀ forests₀ v₀ most₀ counts bits relays places forests v most =
+    (v ≤ n)
+    × ScannedTo n lows highs v counts relays₀ relays places₀ places forests₀ forests
+    × Buckets counts bits
+    × ((r : ℕ) → getD counts r 0 ≤ most)
+    × (most < 80)
+    × (length counts ≡ length counts₀)
+    × (length bits ≡ length bits₀)
 
 abbrev μ-loop : tie.MeasureT-loop
-μ-loop n lows highs first lownext highnext keys₀ tops₀ relays₀ places₀ forests₀ v₀ keys tops relays places forests v = n - v
+μ-loop n lows highs first nexts counts₀ bits₀ relays₀ places₀ forests₀ v₀ most₀ counts bits relays places forests v most = n - v
 
 loop-holds : tie.Need-loop-holds Inv-loop μ-loop
 loop-holds c =
     let start = c .before .before .before .before .before .before .before .before .before in
-    let p = start .pre in (omega arith, scan-starts p, p .topped, refl)
+    let p = start .pre in (omega arith, scan-starts p, p .sorted, first-most p, omega arith, refl, refl)
 
 add-v : tie.Need-add-v Inv-loop μ-loop
 add-v c = omega arith
@@ -28,38 +35,46 @@ place-next-requires c κs =
     let at = c .before .before .before .before .before .before in
     let p = at .before .before .before .before .before .before .before .before .before .before .pre in
     let inv = at .loop .inv in
-    scan-places p (at .loop .v) (omega arith) (inv .1) (inv .2) (omega (arith, p .keyRoom, inv .3))
+    scan-places p (at .loop .v) (omega arith) (inv .1) (at .loop .most) (inv .2) (inv .3) (inv .4) (omega (arith, p .countRoom, inv .5))
 
 loop-less : tie.Need-loop-less Inv-loop μ-loop
-loop-less c = omega arith
+loop-less c =
+    let turn = c .before .before .before .before .before .before .before .before .before .before .before .before .before .before .before .before in omega (arith, turn .loop-test .taken)
 
 loop-again : tie.Need-loop-again Inv-loop μ-loop
 loop-again c =
-    let atPlaceNext = c .before .before .before .before .before .before .before .before in
-    let at = c .before .before .before .before .before .before .before .before .before .before .before .before .before .before .before in
+    let placed = c .before .before .before .before .before .before .before .before .before .before in
+    let turn = c .before .before .before .before .before .before .before .before .before .before .before .before .before .before .before .before in
+    let at = turn .before in
     let inv = at .loop .inv in
-    let one = atPlaceNext .place-next .ensures in (
-      omega arith,
-      scan-moves (at .before .before .before .before .before .before .before .before .before .before .pre) (at .loop .v) (omega arith)
-          (inv .1) one,
-      one .topped,
-      one .walked .keyRoom ∙ simp length-set (inv .3),
+    let one = placed .place-next .ensures in (
+      omega (arith, turn .loop-test .taken),
+      scan-moves (at .before .before .before .before .before .before .before .before .before .before .pre) (at .loop .v)
+          (turn .loop-test .taken) (inv .1) one,
+      one .sorted,
+      one .bounded,
+      one .mostFew,
+      one .walked .countRoom ∙ simp length-set (inv .5),
+      omega (arith, inv .6),
     )
 
 same-length : tie.Need-same-length Inv-loop μ-loop
-same-length c = c .before .loop .inv .3
+same-length c = c .before .loop .inv .5
 
 same-length-2 : tie.Need-same-length-2 Inv-loop μ-loop
-same-length-2 c =
+same-length-2 c = c .before .loop .inv .6
+
+same-length-3 : tie.Need-same-length-3 Inv-loop μ-loop
+same-length-3 c =
     let start = c .before .before .before .before .before .before .before .before .before .before .before in
     let at = c .before .loop in
     relays-long (start .pre) (at .v) (omega arith) (at .inv .1)
 
-same-length-3 : tie.Need-same-length-3 Inv-loop μ-loop
-same-length-3 c = c .before .loop .inv .1 .placesAt .long
-
 same-length-4 : tie.Need-same-length-4 Inv-loop μ-loop
-same-length-4 c = c .before .loop .inv .1 .forestsAt .long
+same-length-4 c = c .before .loop .inv .1 .placesAt .long
+
+same-length-5 : tie.Need-same-length-5 Inv-loop μ-loop
+same-length-5 c = c .before .loop .inv .1 .forestsAt .long
 
 returns : tie.Need-returns Inv-loop μ-loop
 returns c =
@@ -82,4 +97,5 @@ place-all-spec =
     same-length-2
     same-length-3
     same-length-4
+    same-length-5
     returns)

@@ -1,6 +1,5 @@
--- Chains and keys are made in the arrays, the numbers are cleared, and all relays are placed. Assumes nothing.
+-- Chains and counts are made in the arrays, the numbers are cleared, and all relays are placed. Assumes nothing.
 use native.Mathlib.Omega.{arith}
-use Rattle.theory.specs.Accepted.{accepted}
 use Rattle.forests.proofs.ClearLaws.{scan-cleared}
 use Rattle.forests.proofs.ScanLaws.{chain-ready}
 use borrow.Author.Needs.{needs}
@@ -9,33 +8,21 @@ use Rattle.forests.proofs.scan.scan_in.Tie as tie
 
 link-up-requires : tie.Need-link-up-requires
 link-up-requires c κs =
-    let start = c .before .before .before .before .before .before .before .before .before .before .before .before in
+    let start = c .before .before .before .before .before .before .before .before .before .before .before in
     let p = start .pre in chain-ready (p .0 .accepted) (p .1)
 
-no-tops-requires : tie.Need-no-tops-requires
-no-tops-requires c κs = search needs
-
-start-keys-requires : tie.Need-start-keys-requires
-start-keys-requires c κs =
-    let s =
-    c .before .before .before .before .before .before .before .before .before .before .before .before .before .before .before .before .before .before .before .before .before .before
-    in
-    let few = accepted (s .args .n) (s .args .lows .now) (s .args .highs .now) (s .pre .0 .accepted) .few in
-    let none = s .pre .1 .noKeys in (
-      few,
-      record { room = omega (arith, none .room, s .pre .1 .heads); few = none .few; full = none .full; zero = none .zero },
-      c .before .before .no-tops .ensures,
-    )
+start-counts-requires : tie.Need-start-counts-requires
+start-counts-requires c κs = search needs
 
 clear-numbers-requires : tie.Need-clear-numbers-requires
 clear-numbers-requires c κs = search needs
 
 place-all-requires : tie.Need-place-all-requires
 place-all-requires c κs =
-    let cleared = c .before .before .before .before .before .before .before .before .before .before in
-    let started = cleared .before .before .before .before in
-    let chained = started .before .before .before .before .before .before .before .before .before .before in
-    let s = chained .before .before .before .before .before .before .before .before .before .before .before .before .before in
+    let cleared = c .before .before .before .before .before .before .before .before .before in
+    let started = cleared .before .before .before .before .before .before in
+    let chained = started .before .before .before .before .before .before .before in
+    let s = chained .before .before .before .before .before .before .before .before .before .before .before .before in
     let p = s .pre .0 in
     let w = s .pre .1 in
     record {
@@ -48,10 +35,10 @@ place-all-requires c κs =
           };
       heads = omega (arith, w .heads);
       few = omega (arith, w .few);
-      keyRoom = omega (arith, w .noKeys .room);
+      countRoom = omega (arith, w .countRoom);
       chained = chained .link-up .ensures;
-      startKeys = started .start-keys .ensures .0;
-      topped = started .start-keys .ensures .1;
+      startCounts = started .start-counts .ensures .0;
+      sorted = started .start-counts .ensures .1;
       zeros = cleared .clear-numbers .ensures .zeros;
     }
 
@@ -78,8 +65,8 @@ same-length-7 c = search needs
 
 returns : tie.Need-returns
 returns c =
-    let placed = c .before .before .before .before .before .before .before .before in
-    let cleared = placed .before .before .before .before .before .before .before .before .before .before .before in
+    let placed = c .before .before .before .before .before .before .before .before .before .before in
+    let cleared = placed .before .before .before .before .before .before .before .before .before .before in
     scan-cleared (cleared .clear-numbers .ensures) (placed .place-all .ensures)
 
 pub scan-in-spec : {M : Type 1} → statement M
@@ -87,8 +74,7 @@ scan-in-spec =
     tie.close
     (tie.spec
     link-up-requires
-    no-tops-requires
-    start-keys-requires
+    start-counts-requires
     clear-numbers-requires
     place-all-requires
     same-length

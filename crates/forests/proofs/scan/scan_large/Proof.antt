@@ -1,28 +1,33 @@
 -- The scan in large arrays. Assumes nothing.
-use mathlib.Core.Path.{refl}
 use native.Mathlib.Omega.{arith}
 use Rattle.theory.specs.Accepted.{accepted}
+use Rattle.forests.specs.Buckets.{wordOf}
 use Rattle.forests.proofs.ScanLaws.{workspace}
 use borrow.Author.Needs.{needs}
 use Rattle.forests.proofs.scan.scan_large.Statement.{statement}
 use Rattle.forests.proofs.scan.scan_large.Tie as tie
 
-cast-no-heads : tie.Need-cast-no-heads
-cast-no-heads c =
+cast-none : tie.Need-cast-none
+cast-none c =
     let s = c .before .before .before .before .before in
     omega (arith, accepted (s .args .n) (s .args .lows .now) (s .args .highs .now) (s .pre .accepted) .short)
 
-no-heads-requires : tie.Need-no-heads-requires
-no-heads-requires c κs = search needs
+mul-none : tie.Need-mul-none
+mul-none c =
+    let s = c .before .before .before .before .before in
+    omega (arith, accepted (s .args .n) (s .args .lows .now) (s .args .highs .now) (s .pre .accepted) .short)
+
+for-relays-requires : tie.Need-for-relays-requires
+for-relays-requires c κs = search needs
 
 no-nexts-requires : tie.Need-no-nexts-requires
 no-nexts-requires c κs = search needs
 
-no-nexts-requires-2 : tie.Need-no-nexts-requires-2
-no-nexts-requires-2 c κs = search needs
+for-relays-requires-2 : tie.Need-for-relays-requires-2
+for-relays-requires-2 c κs = search needs
 
-no-keys-requires : tie.Need-no-keys-requires
-no-keys-requires c κs = search needs
+no-bits-requires : tie.Need-no-bits-requires
+no-bits-requires c κs = search needs
 
 slice-aggregate-scan-in : tie.Need-slice-aggregate-scan-in
 slice-aggregate-scan-in c = search needs
@@ -37,16 +42,17 @@ slice-aggregate-scan-in-4 : tie.Need-slice-aggregate-scan-in-4
 slice-aggregate-scan-in-4 c = search needs
 
 scan-in-requires : tie.Need-scan-in-requires
+unfolding wordOf
 scan-in-requires c κs =
-    let keys = c .before .before .before .before .before .before .before in
-    let high = keys .before in
-    let low = high .before in
-    let first = low .before in
+    let bits = c .before .before .before .before .before .before .before in
+    let counts = bits .before in
+    let nexts = counts .before in
+    let first = nexts .before in
     let s = first .before .before .before .before .before .before in
     let t = accepted (s .args .n) (s .args .lows .now) (s .args .highs .now) (s .pre .accepted) in (
       s .pre,
-      workspace 1000 3000 1024 (s .args .n) (t .few) (omega arith) (t .short) (omega arith) (omega arith) refl
-          (first .no-heads .ensures) (low .no-nexts .ensures) (high .no-nexts2 .ensures) (keys .no-keys .ensures),
+      workspace 1000 6000 1280 (s .args .n) (t .few) (omega arith) (omega (arith, t .short)) (λ r h. omega arith)
+          (first .for-relays .ensures) (nexts .no-nexts .ensures) (counts .for-relays2 .ensures) (bits .no-bits .ensures),
     )
 
 same-length : tie.Need-same-length
@@ -65,11 +71,12 @@ pub scan-large-spec : {M : Type 1} → statement M
 scan-large-spec =
     tie.close
     (tie.spec
-    cast-no-heads
-    no-heads-requires
+    cast-none
+    mul-none
+    for-relays-requires
     no-nexts-requires
-    no-nexts-requires-2
-    no-keys-requires
+    for-relays-requires-2
+    no-bits-requires
     slice-aggregate-scan-in
     slice-aggregate-scan-in-2
     slice-aggregate-scan-in-3

@@ -1,25 +1,28 @@
 -- The scan in small arrays. Assumes nothing.
-use mathlib.Core.Path.{refl}
 use native.Mathlib.Omega.{arith}
+use Rattle.forests.specs.Buckets.{wordOf}
 use Rattle.forests.proofs.ScanLaws.{workspace}
 use borrow.Author.Needs.{needs}
 use Rattle.forests.proofs.scan.scan_small.Statement.{statement}
 use Rattle.forests.proofs.scan.scan_small.Tie as tie
 
-cast-few-heads : tie.Need-cast-few-heads
-cast-few-heads c = search needs
+cast-none : tie.Need-cast-none
+cast-none c = search needs
 
-few-heads-requires : tie.Need-few-heads-requires
-few-heads-requires c κs = search needs
+mul-none : tie.Need-mul-none
+mul-none c = search needs
+
+for-few-relays-requires : tie.Need-for-few-relays-requires
+for-few-relays-requires c κs = search needs
 
 few-nexts-requires : tie.Need-few-nexts-requires
 few-nexts-requires c κs = search needs
 
-few-nexts-requires-2 : tie.Need-few-nexts-requires-2
-few-nexts-requires-2 c κs = search needs
+for-few-relays-requires-2 : tie.Need-for-few-relays-requires-2
+for-few-relays-requires-2 c κs = search needs
 
-few-keys-requires : tie.Need-few-keys-requires
-few-keys-requires c κs = search needs
+few-bits-requires : tie.Need-few-bits-requires
+few-bits-requires c κs = search needs
 
 slice-aggregate-scan-in : tie.Need-slice-aggregate-scan-in
 slice-aggregate-scan-in c = search needs
@@ -34,15 +37,16 @@ slice-aggregate-scan-in-4 : tie.Need-slice-aggregate-scan-in-4
 slice-aggregate-scan-in-4 c = search needs
 
 scan-in-requires : tie.Need-scan-in-requires
+unfolding wordOf
 scan-in-requires c κs =
-    let keys = c .before .before .before .before .before .before .before in
-    let high = keys .before in
-    let low = high .before in
-    let first = low .before in
+    let bits = c .before .before .before .before .before .before .before in
+    let counts = bits .before in
+    let nexts = counts .before in
+    let first = nexts .before in
     let s = first .before .before .before .before .before .before in (
       s .pre .0,
-      workspace 128 384 128 (s .args .n) (s .pre .1) (omega arith) (s .pre .2) (omega arith) (omega arith) refl
-          (first .few-heads .ensures) (low .few-nexts .ensures) (high .few-nexts2 .ensures) (keys .few-keys .ensures),
+      workspace 128 768 160 (s .args .n) (s .pre .1) (omega arith) (omega (arith, s .pre .2)) (λ r h. omega arith)
+          (first .for-few-relays .ensures) (nexts .few-nexts .ensures) (counts .for-few-relays2 .ensures) (bits .few-bits .ensures),
     )
 
 same-length : tie.Need-same-length
@@ -61,11 +65,12 @@ pub scan-small-spec : {M : Type 1} → statement M
 scan-small-spec =
     tie.close
     (tie.spec
-    cast-few-heads
-    few-heads-requires
+    cast-none
+    mul-none
+    for-few-relays-requires
     few-nexts-requires
-    few-nexts-requires-2
-    few-keys-requires
+    for-few-relays-requires-2
+    few-bits-requires
     slice-aggregate-scan-in
     slice-aggregate-scan-in-2
     slice-aggregate-scan-in-3

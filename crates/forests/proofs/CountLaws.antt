@@ -1,0 +1,64 @@
+-- The laws of counts. Assumes nothing.
+use Prim.Native.Nat.{ℕ, zero, suc, _+_, _≤_, _<_}
+use mathlib.Core.List.{List}
+use mathlib.Core.Path.{_≡_, refl, _∙_, ap}
+use native.Mathlib.Decide.{ℕ-discrete}
+use native.Mathlib.Omega.{arith}
+use borrow.Author.Tests.{eq-eqb, ne-eqb}
+use lib.ListN.{length, getD, set, replicate, length-set}
+use lib.Seq.{getD-set-same, getD-set-other}
+use Rattle.forests.specs.Counts.{raisedCount, numberOf, StartCounts}
+
+pub raised-none : (count : ℕ) → count ≡ 0 → raisedCount count ≡ 0
+unfolding raisedCount
+raised-none count e = rw (eq-eqb count 0 e)
+
+pub raised-some : (count : ℕ) → 0 < count → raisedCount count ≡ count + 1
+unfolding raisedCount
+raised-some count h = rw (ne-eqb count 0 (λ e. omega arith))
+
+pub raised-most : (count : ℕ) → raisedCount count ≤ count + 1
+raised-most zero = omega (arith, raised-none zero refl)
+raised-most (suc count) = omega (arith, raised-some (suc count) (omega arith))
+
+pub number-none : (count old : ℕ) → count ≡ 0 → numberOf count old ≡ old
+unfolding numberOf
+number-none count old e = rw (eq-eqb count 0 e)
+
+pub number-some : (count old : ℕ) → 0 < count → numberOf count old ≡ count
+unfolding numberOf
+number-some count old h = rw (ne-eqb count 0 (λ e. omega arith))
+
+-- Of a waiting relay's count and the number that stands there one is 0, so their sum is the number.
+pub number-sum : (count old : ℕ) → (0 < count → old ≡ 0) → old + count ≡ numberOf count old
+number-sum zero old fresh = omega (arith, number-none zero old refl)
+number-sum (suc count) old fresh = omega (arith, fresh (omega arith), number-some (suc count) old (omega arith))
+
+pub number-small : (count old : ℕ) → (0 < count → old ≡ 0) → count < 65536 → old < 65536 → old + count < 65536
+number-small zero old fresh few short = omega arith
+number-small (suc count) old fresh few short = omega (arith, fresh (omega arith))
+
+pub start-none : (size : ℕ) (counts : List ℕ) → counts ≡ replicate size 0 → StartCounts 0 counts
+start-none size counts e =
+    record {
+      room = omega arith;
+      waiting = λ r h. absurd (omega arith);
+      rest = λ r h. ap (λ l. getD l r 0) e ∙ zeros size r;
+    }
+  where
+    zeros : (n r : ℕ) → _≡_ {A = ℕ} (getD (replicate n 0) r 0) 0
+    zeros zero r = refl
+    zeros (suc n) zero = refl
+    zeros (suc n) (suc r) = zeros n r
+
+pub start-more : (n : ℕ) (counts : List ℕ) → n < length counts → StartCounts n counts → StartCounts (n + 1) (set counts n 1)
+start-more n counts h s =
+    record {
+      room = omega (arith, length-set counts n 1);
+      waiting = λ r p. go r p (ℕ-discrete r n);
+      rest = λ r p. getD-set-other counts n r 1 0 (λ z. omega arith) ∙ s .rest r (omega arith);
+    }
+  where
+    go : (r : ℕ) → r < n + 1 → Dec (r ≡ n) → getD (set counts n 1) r 0 ≡ 1
+    go r p (yes d) = rw d (getD-set-same counts n 1 0 h)
+    go r p (no d) = getD-set-other counts n r 1 0 d ∙ s .waiting r (omega arith)

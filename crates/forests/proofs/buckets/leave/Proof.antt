@@ -1,0 +1,72 @@
+-- The bit of a relay that is placed is turned over in the word of its count. Assumes nothing.
+use mathlib.Core.Path.{refl}
+use native.Mathlib.Omega.{arith}
+use lib.ListN.{getD}
+use Rattle.forests.specs.Buckets.{wordOf}
+use Rattle.forests.proofs.BucketLaws.{leave-moves}
+use borrow.Author.Needs.{needs}
+use Rattle.forests.proofs.buckets.leave.Statement.{statement}
+use Rattle.forests.proofs.buckets.leave.Tie as tie
+
+cast-at : tie.Need-cast-at
+cast-at c = search needs
+
+mul-count : tie.Need-mul-count
+mul-count c = search needs
+
+slice-read-count : tie.Need-slice-read-count
+slice-read-count c = search needs
+
+mul-counts : tie.Need-mul-counts
+mul-counts c = search needs
+
+slice-write-counts : tie.Need-slice-write-counts
+slice-write-counts c = search needs
+
+word-of-requires : tie.Need-word-of-requires
+word-of-requires c κs = search needs
+
+bit-of-requires : tie.Need-bit-of-requires
+bit-of-requires c κs = search needs
+
+turn-requires : tie.Need-turn-requires
+unfolding wordOf
+turn-requires c κs =
+    let atWord = c .before .before in
+    let start = atWord .before .before .before .before .before in
+    let p = start .pre in
+    omega (arith, atWord .word-of .ensures, p .1 .few (start .args .r .0), p .1 .room (start .args .r .0) (p .0))
+
+same-length : tie.Need-same-length
+same-length c = search needs
+
+same-length-2 : tie.Need-same-length-2
+same-length-2 c = search needs
+
+returns : tie.Need-returns
+returns c =
+    let turned = c .before .before in
+    let atBit = turned .before .before in
+    let start = atBit .before .before .before .before .before .before in
+    let p = start .pre in
+    let count = getD (start .args .counts .now) (start .args .r .0) 0 in (
+      refl,
+      leave-moves (start .args .r .0) (p .0) (p .1) count (atBit .before .word-of .result) (atBit .bit-of .result)
+          (turned .turn .last .1 .1 .0) refl (atBit .before .word-of .ensures) (atBit .bit-of .ensures) (turned .turn .ensures),
+    )
+
+pub leave-spec : {M : Type 1} → statement M
+leave-spec =
+    tie.close
+    (tie.spec
+    cast-at
+    mul-count
+    slice-read-count
+    mul-counts
+    slice-write-counts
+    word-of-requires
+    bit-of-requires
+    turn-requires
+    same-length
+    same-length-2
+    returns)

@@ -1,0 +1,100 @@
+-- The bit of a relay with one more link goes from the word of its count to the next one. Assumes nothing.
+use mathlib.Core.Path.{refl, _∙_, ap}
+use native.Mathlib.Omega.{arith}
+use lib.Bits.{bitXor}
+use lib.ListN.{length, getD, length-set}
+use Rattle.forests.specs.Buckets.{wordOf}
+use Rattle.forests.proofs.BucketLaws.{raise-moves}
+use borrow.Author.Needs.{needs}
+use Rattle.forests.proofs.buckets.raise.Statement.{statement}
+use Rattle.forests.proofs.buckets.raise.Tie as tie
+
+cast-at : tie.Need-cast-at
+cast-at c = search needs
+
+mul-count : tie.Need-mul-count
+mul-count c = search needs
+
+slice-read-count : tie.Need-slice-read-count
+slice-read-count c = search needs
+
+bit-of-requires : tie.Need-bit-of-requires
+bit-of-requires c κs = search needs
+
+word-of-requires : tie.Need-word-of-requires
+word-of-requires c κs = search needs
+
+raised-requires : tie.Need-raised-requires
+raised-requires c κs = search needs
+
+mul-counts : tie.Need-mul-counts
+mul-counts c = search needs
+
+slice-write-counts : tie.Need-slice-write-counts
+slice-write-counts c = search needs
+
+turn-requires : tie.Need-turn-requires
+unfolding wordOf
+turn-requires c κs =
+    let atWord = c .before .before in
+    let start = atWord .before .before .before .before .before .before in
+    let p = start .pre in
+    omega (arith, atWord .word-of .ensures, p .2 .room (start .args .r .0) (p .0))
+
+add-turn : tie.Need-add-turn
+unfolding wordOf
+add-turn c =
+    let atWord = c .before .before .before .before .before in
+    let start = atWord .before .before .before .before .before .before in
+    omega (arith, atWord .word-of .ensures, start .pre .1)
+
+turn-requires-2 : tie.Need-turn-requires-2
+unfolding wordOf
+turn-requires-2 c κs =
+    let turned = c .before .before .before in
+    let atWord = turned .before .before .before in
+    let start = atWord .before .before .before .before .before .before in
+    let p = start .pre in
+    let bits = start .args .bits .now in
+    let word = atWord .word-of .result in
+    let long = ap length (turned .turn .ensures) ∙ length-set bits word (bitXor (getD bits word 0) (atWord .before .bit-of .result)) in
+    omega (arith, atWord .word-of .ensures, p .1, p .2 .room (start .args .r .0) (p .0), long)
+
+same-length : tie.Need-same-length
+same-length c = search needs
+
+same-length-2 : tie.Need-same-length-2
+same-length-2 c = search needs
+
+returns : tie.Need-returns
+returns c =
+    let again = c .before .before in
+    let turned = again .before .before .before .before in
+    let atRaised = turned .before .before in
+    let atWord = atRaised .before in
+    let start = atWord .before .before .before .before .before .before in
+    let p = start .pre in
+    let count = getD (start .args .counts .now) (start .args .r .0) 0 in
+    let moved = raise-moves (start .args .r .0) (p .0) (p .2) count (atWord .word-of .result) (atWord .before .bit-of .result)
+    (turned .turn .last .1 .1 .0) (again .turn2 .last .1 .1 .0) refl (p .1) (atWord .word-of .ensures) (atWord .before .bit-of .ensures)
+    (turned .turn .ensures) (again .turn2 .ensures) in
+    (refl, rw (atRaised .raised .ensures) moved)
+
+pub raise-spec : {M : Type 1} → statement M
+raise-spec =
+    tie.close
+    (tie.spec
+    cast-at
+    mul-count
+    slice-read-count
+    bit-of-requires
+    word-of-requires
+    raised-requires
+    mul-counts
+    slice-write-counts
+    turn-requires
+    add-turn
+    turn-requires-2
+    same-length
+    same-length-2
+    returns)

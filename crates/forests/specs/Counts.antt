@@ -1,0 +1,27 @@
+-- The count of a relay: 0 once it is placed, else one more than its links to placed relays. Assumes nothing.
+use Prim.Native.Nat.{ℕ, _+_, _≤_, _<_}
+use mathlib.Core.List.{List}
+use mathlib.Core.Path.{_≡_}
+use lib.Dec.{eqb}
+use lib.ListN.{length, getD}
+use Rattle.definitions.specs.Outcome.{pick}
+
+-- One link more; 0, the count of a placed relay, stays.
+unfoldable pub raisedCount : ℕ → ℕ
+raisedCount count = pick (eqb count 0) 0 (count + 1)
+
+-- The links that a waiting relay has to placed ones after that link, which is its count before, are the link's forest number;
+-- with a placed relay the number was given before.
+unfoldable pub numberOf : ℕ → ℕ → ℕ
+numberOf count old = pick (eqb count 0) old count
+
+-- The counts when the first n relays wait and none is placed.
+pub record StartCounts (n : ℕ) (counts : List ℕ) : Type 0 where
+  pub room : n ≤ length counts
+  pub waiting : (r : ℕ) → r < n → getD counts r 0 ≡ 1
+  pub rest : (r : ℕ) → n ≤ r → getD counts r 0 ≡ 0
+
+-- x is the lowest of the relays with the greatest count.
+pub record Heaviest (counts : List ℕ) (x : ℕ) : Type 0 where
+  pub most : (r : ℕ) → getD counts r 0 ≤ getD counts x 0
+  pub lowest : (r : ℕ) → getD counts r 0 ≡ getD counts x 0 → x ≤ r

@@ -1,0 +1,152 @@
+// The waiting relays by their count, as bits: each 64 relays have a column of 80 words, one for each count, and a relay's bit
+// is set in the word of its count alone. So the next relay is the lowest bit of the highest word that is not 0. No relay waits
+// with more than 76 links to placed ones, since there are at most 3,000 links.
+use crate::counts::raised;
+use network::Relay;
+ghost use Prim.Native.Nat.{_+_, _*_, _/_, _%_, _^_, _<_, _≤_};
+ghost use mathlib.Core.Path.{_≡_};
+ghost use lib.Bits.{bitXor};
+ghost use lib.Dec.{eqb};
+ghost use lib.ListN.{length, getD, set, replicate};
+ghost use Rattle.definitions.specs.Outcome.{pick};
+ghost use Rattle.forests.specs.Counts.{raisedCount, StartCounts};
+ghost use Rattle.forests.specs.Buckets.{wordOf, Buckets, Moved, FirstColumn, LowestBit, Leads};
+
+// No relay waits: columns for 1,024 relays.
+pub fn no_bits() -> [u64; 1280]
+    ensures { λ r. ⌜ r ≡ replicate 1280 0 ⌝ }
+{
+    [0; 1280]
+}
+
+// The same for 128 relays.
+pub fn few_bits() -> [u64; 160]
+    ensures { λ r. ⌜ r ≡ replicate 160 0 ⌝ }
+{
+    [0; 160]
+}
+
+// The word of a count in the column of a relay.
+fn word_of(count: u16, r: Relay) -> usize
+    ensures { λ at. ⌜ at ≡ wordOf count (r .0) ⌝ }
+{
+    let column = r.0 as usize / 64;
+    column * 80 + count as usize
+}
+
+// The bit of a relay in its words; none of a placed relay, whose count is 0.
+fn bit_of(count: u16, r: Relay) -> u64
+    ensures { λ bit. ⌜ bit ≡ pick (eqb count 0) 0 (2 ^ (r .0 % 64)) ⌝ }
+{
+    let shift = r.0 % 64;
+    if count == 0 { 0 } else { 1u64 << shift }
+}
+
+// A bit is turned over in the word at `at`; none if `bit` is 0.
+fn turn(at: usize, bit: u64, bits: &mut [u64])
+    requires { ⌜ at < length (now bits) ⌝ }
+    ensures { λ _. ⌜ now (bits .exit) ≡ set (now (bits .entry)) at (bitXor (getD (now (bits .entry)) at 0) bit) ⌝ }
+{
+    let word = bits[at];
+    bits[at] = word ^ bit;
+}
+
+// Relay r begins to wait, with no link to a placed relay.
+fn enter(r: Relay, counts: &mut [u16], bits: &mut [u64])
+    requires { ⌜ (r .0 < length (now counts)) × (getD (now counts) (r .0) 0 ≡ 0) × Buckets (now counts) (now bits) ⌝ }
+    ensures { λ _. ⌜ Moved (r .0) 1 (now (counts .entry)) (now (counts .exit)) (now (bits .exit)) ⌝ }
+{
+    let at = r.0 as usize;
+    counts[at] = 1;
+    turn(word_of(1, r), bit_of(1, r), bits);
+}
+
+// Relays 0 to n − 1 wait for their places.
+pub fn start_counts(n: u16, counts: &mut [u16], bits: &mut [u64])
+    requires { ⌜ (n ≤ length (now counts)) × StartCounts 0 (now counts) × Buckets (now counts) (now bits) ⌝ }
+    ensures { λ _. ⌜ StartCounts n (now (counts .exit)) × Buckets (now (counts .exit)) (now (bits .exit)) ⌝ }
+{
+    let mut r = 0;
+    while r < n {
+        enter(Relay(r), counts, bits);
+        r += 1;
+    }
+}
+
+// Relay r is placed and waits no more. Gives its count before.
+pub fn leave(r: Relay, counts: &mut [u16], bits: &mut [u64]) -> u16
+    requires { ⌜ (r .0 < length (now counts)) × Buckets (now counts) (now bits) ⌝ }
+    ensures { λ count. ⌜ count ≡ getD (now (counts .entry)) (r .0) 0 ⌝ }
+    ensures { λ _. ⌜ Moved (r .0) 0 (now (counts .entry)) (now (counts .exit)) (now (bits .exit)) ⌝ }
+{
+    let at = r.0 as usize;
+    let count = counts[at];
+    counts[at] = 0;
+    turn(word_of(count, r), bit_of(count, r), bits);
+    count
+}
+
+// Relay r has one more link to a placed relay, if it waits. Gives its count before.
+pub fn raise(r: Relay, counts: &mut [u16], bits: &mut [u64]) -> u16
+    requires { ⌜ (r .0 < length (now counts)) × (getD (now counts) (r .0) 0 < 77) × Buckets (now counts) (now bits) ⌝ }
+    ensures { λ count. ⌜ count ≡ getD (now (counts .entry)) (r .0) 0 ⌝ }
+    ensures { λ count. ⌜ Moved (r .0) (raisedCount count) (now (counts .entry)) (now (counts .exit)) (now (bits .exit)) ⌝ }
+{
+    let at = r.0 as usize;
+    let count = counts[at];
+    let bit = bit_of(count, r);
+    let word = word_of(count, r);
+    counts[at] = raised(count);
+    turn(word, bit, bits);
+    turn(word + 1, bit, bits);
+    count
+}
+
+// Of so many columns the first with a bit in the word of this count; their number if there is none.
+fn first_column(columns: usize, count: usize, bits: &[u64]) -> usize
+    requires { ⌜ (count < 80) × (columns ≤ 16) × (columns * 80 ≤ length (now bits)) ⌝ }
+    ensures { λ g. ⌜ FirstColumn columns count (now (bits .entry)) g ⌝ }
+{
+    let mut g = 0;
+    while g < columns {
+        if bits[g * 80 + count] != 0 {
+            return g;
+        }
+        g += 1;
+    }
+    columns
+}
+
+// The relay of the lowest bit of a word in column g.
+fn lowest_of(g: usize, word: u64) -> Relay
+    requires { ⌜ (g < 16) × (0 < word) ⌝ }
+    ensures { λ r. ⌜ LowestBit g word (r .0) ⌝ }
+{
+    let low = u64::trailing_zeros(word) as usize;
+    Relay((g * 64 + low) as u16)
+}
+
+// How many columns n relays have.
+pub fn columns_of(n: u16) -> usize
+    ensures { λ r. ⌜ r ≡ (n + 63) / 64 ⌝ }
+{
+    let size = n as usize;
+    (size + 63) / 64
+}
+
+// The lowest of the waiting relays with the greatest count, where all counts are at most `most`.
+pub fn leading(columns: usize, most: u16, bits: &[u64]) -> Relay
+    requires { ⌜ (most < 80) × (columns ≤ 16) × (columns * 80 ≤ length (now bits)) ⌝ }
+    ensures { λ r. ⌜ Leads columns most (now (bits .entry)) (r .0) ⌝ }
+{
+    let mut count = most as usize;
+    while 0 < count {
+        let g = first_column(columns, count, bits);
+        if g < columns {
+            let word = bits[g * 80 + count];
+            return lowest_of(g, word);
+        }
+        count -= 1;
+    }
+    Relay(0)
+}
