@@ -1,40 +1,36 @@
--- Forest numbers are cleared before the scan: what the scan then gives does not depend on what stood there. Assumes nothing.
-use Prim.Native.Nat.{ℕ, _+_, _≤_, _<_}
+-- What clearing the front of a list leaves; and forest numbers are cleared before the scan: what the scan then gives does
+-- not depend on what stood there. Assumes nothing.
+use Prim.Native.Nat.{ℕ, _<_}
 use mathlib.Core.List.{List, _++_}
-use mathlib.Core.Path.{_≡_, refl, _∙_, ap}
-use native.Mathlib.Decide.{ℕ-discrete}
+use mathlib.Core.Path.{_≡_, _∙_, ap}
 use native.Mathlib.Omega.{arith}
-use lib.ListN.{length, getD, set, drop, length-set}
-use lib.Seq.{getD-set-same, getD-set-other, drop-set-lt}
+use lib.ListN.{length, getD, drop, replicate, length-replicate, getD-replicate, List·getD-append}
+use lib.Seq.{drop-at}
 use Rattle.definitions.specs.Lists.{overwrite}
 use Rattle.definitions.specs.Forests.{forestsOf}
 use Rattle.theory.specs.ForestBound.{forests-length}
-use Rattle.forests.specs.Scan.{Cleared, Scanned}
+use Rattle.forests.specs.Scan.{Scanned}
 
-pub clear-starts : (m : ℕ) (forests : List ℕ) → Cleared 0 m forests forests
-clear-starts m forests = record { long = refl; zeros = λ j h. absurd (omega arith); rest = refl }
-
-pub clear-moves : {m : ℕ} {forests forests′ : List ℕ} (i : ℕ) → i < m → m ≤ length forests → Cleared i m forests forests′
-    → Cleared (i + 1) m forests (set forests′ i 0)
-clear-moves {m} {forests} {forests′} i h room c =
-    record {
-      long = length-set forests′ i 0 ∙ c .long;
-      zeros = λ j p. go j p (ℕ-discrete j i);
-      rest = drop-set-lt m forests′ i 0 h ∙ c .rest;
-    }
-  where
-    go : (j : ℕ) → j < i + 1 → Dec (j ≡ i) → getD (set forests′ i 0) j 0 ≡ 0
-    go j p (yes e) = ap (λ z. getD (set forests′ i 0) z 0) e ∙ getD-set-same forests′ i 0 0 (omega (arith, c .long))
-    go j p (no e) = getD-set-other forests′ i j 0 0 e ∙ c .zeros j (omega arith)
+-- The first m entries are 0, the rest is as it was.
+pub cleared : (m : ℕ) (old : List ℕ) {new : List ℕ} → new ≡ replicate m 0 ++ drop m old
+    → ((j : ℕ) → j < m → getD new j 0 ≡ 0) × (drop m new ≡ drop m old)
+cleared m old e =
+    let long = length-replicate {A = ℕ} m 0 in (
+      λ j h.
+          ap (λ (l : List ℕ). getD l j 0) e
+          ∙ List·getD-append (replicate m 0) (drop m old) 0 j (omega (arith, long))
+          ∙ getD-replicate m j 0 0 h,
+      ap (drop m) e ∙ drop-at (replicate m 0) (drop m old) m long,
+    )
 
 -- All entries that were cleared are written.
-pub scan-cleared : {n : ℕ} {lows highs relays relays′ places places′ forests cleared forests′ : List ℕ}
-    → Cleared (length lows) (length lows) forests cleared → Scanned n lows highs relays relays′ places places′ cleared forests′
-    → Scanned n lows highs relays relays′ places places′ forests forests′
+pub scan-cleared : {n : ℕ} {lows highs relays relays′ places places′ old mid new : List ℕ}
+    → mid ≡ replicate (length lows) 0 ++ drop (length lows) old → Scanned n lows highs relays relays′ places places′ mid new
+    → Scanned n lows highs relays relays′ places places′ old new
 unfolding overwrite
-scan-cleared {n} {lows} {highs} {relays} {relays′} {places} {places′} {forests} {cleared} {forests′} c s =
-    let past : drop (length (forestsOf n lows highs)) cleared ≡ drop (length (forestsOf n lows highs)) forests =
-    rw (forests-length n lows highs) (c .rest) in
+scan-cleared {n} {lows} {highs} {old = old} {mid = mid} e s =
+    let past : drop (length (forestsOf n lows highs)) mid ≡ drop (length (forestsOf n lows highs)) old =
+    rw (forests-length n lows highs) (cleared (length lows) old e .1) in
     record {
       theOrder = s .theOrder;
       thePlaces = s .thePlaces;

@@ -3,7 +3,7 @@ use Prim.Native.Nat.{ℕ, suc, _-_, _*_, _≤_, _<_}
 use mathlib.Core.Bool.{true, false}
 use mathlib.Core.List.{List}
 use mathlib.Core.Path.{_≡_}
-use lib.ListN.{length, getD, set, drop}
+use lib.ListN.{length, getD, set}
 use Rattle.definitions.specs.Outcome.{pick}
 use Rattle.definitions.specs.Lists.{table, overwrite, has, position}
 use Rattle.definitions.specs.Network.{joins, linked, Accepted}
@@ -82,12 +82,6 @@ pub record Scannable (n : ℕ) (lows highs relays places forests : List ℕ) : T
   pub relayRoom : n ≤ length relays
   pub placeRoom : n ≤ length places
   pub forestRoom : length lows ≤ length forests
-
--- Of the first m entries the first i are 0; past them nothing has changed.
-pub record Cleared (i m : ℕ) (forests forests′ : List ℕ) : Type 0 where
-  pub long : length forests′ ≡ length forests
-  pub zeros : (j : ℕ) → j < i → getD forests′ j 0 ≡ 0
-  pub rest : drop m forests′ ≡ drop m forests
 
 -- Arrays with room for the scan, without chains and counts.
 pub record Workspace (n : ℕ) (lows first nexts counts bits : List ℕ) : Type 0 where

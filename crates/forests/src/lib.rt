@@ -14,6 +14,7 @@ ghost use Rattle.forests.specs.Answers.{orderOutcome, splitOutcome, cutO
 
 mod buckets;
 mod chains;
+pub mod clear;
 mod counts;
 pub mod left;
 mod marks;

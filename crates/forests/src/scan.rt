@@ -9,6 +9,7 @@ use crate::chains::for_few_relays;
 use crate::chains::for_relays;
 use crate::chains::link_up;
 use crate::chains::no_nexts;
+use crate::clear::clear;
 use crate::walk::walk;
 use network::Place;
 use network::Relay;
@@ -20,7 +21,7 @@ ghost use Rattle.definitions.specs.Lists.{overwrite};
 ghost use Rattle.definitions.specs.Network.{Accepted};
 ghost use Rattle.definitions.specs.Order.{orderOf, placesOf};
 ghost use Rattle.definitions.specs.Forests.{forestsOf};
-ghost use Rattle.forests.specs.Scan.{Placeable, PlacedOne, Startable, Scannable, Workspace, Cleared, Scanned};
+ghost use Rattle.forests.specs.Scan.{Placeable, PlacedOne, Startable, Scannable, Workspace, Scanned};
 
 // The place of a relay, from the list of places.
 pub fn place_of(places: &[u16], r: Relay) -> Place
@@ -122,18 +123,6 @@ fn few_numbers() -> [u16; 384]
     [0; 384]
 }
 
-// No link has a number yet.
-fn clear_numbers(m: usize, forests: &mut [u16])
-    requires { ⌜ m ≤ length (now forests) ⌝ }
-    ensures { λ _. ⌜ Cleared m m (now (forests .entry)) (now (forests .exit)) ⌝ }
-{
-    let mut i = 0;
-    while i < m {
-        forests[i] = 0;
-        i += 1;
-    }
-}
-
 // The scan in arrays that are lent to it.
 fn scan_in(
     n: u16,
@@ -154,7 +143,7 @@ fn scan_in(
 {
     link_up(lows, highs, first, nexts);
     start_counts(n, counts, bits);
-    clear_numbers(lows.len(), forests);
+    clear(forests, lows.len());
     place_all(
         n,
         lows,

@@ -5,7 +5,7 @@ use mathlib.Core.List.{List, [], _∷_, _++_, map, append-nil}
 use mathlib.Core.Path.{_≡_, refl, _∙_, ap}
 use native.Mathlib.Nat.{zero-add}
 use native.Mathlib.Omega.{arith}
-use lib.ListN.{length, drop, getD, replicate, length-replicate, List·getD-append}
+use lib.ListN.{length, drop, getD, replicate, length-replicate}
 use lib.Seq.{drop-length}
 use Rattle.definitions.specs.Outcome.{pick, refused, done}
 use Rattle.definitions.specs.Lists.{overwrite, zeroed, joinAll}
@@ -18,6 +18,7 @@ use Rattle.lists.specs.Overwritten.{getD-overwrite}
 use Rattle.theory.specs.Places.{relay-placed}
 use Rattle.forests.specs.Scan.{Scannable, Scanned}
 use Rattle.forests.specs.Left.{LeftInput}
+use Rattle.forests.proofs.ClearLaws.{cleared}
 use Rattle.routes.specs.Side.{leftIn}
 use Rattle.routes.specs.Writing.{Written, written}
 use Rattle.routes.specs.Between.{joinedIn, betweenIn}
@@ -148,12 +149,6 @@ unfolding zeroed
 clear-whole old mid last e clear =
     clear ∙ rw (drop-length mid) (append-nil (replicate (length mid) 0)) ∙ ap (λ (x : ℕ). replicate x 0) e
 
-clear-front : (count : ℕ) (old new : List ℕ) → new ≡ replicate count 0 ++ drop count old → (j : ℕ) → j < count → getD new j 0 ≡ 0
-clear-front count old new clear j less =
-    ap (λ (l : List ℕ). getD l j 0) clear
-    ∙ List·getD-append (replicate count 0) (drop count old) 0 j (omega (arith, length-replicate {A = ℕ} count 0))
-    ∙ zeros-entry count j
-
 -- What preparing asks, after the front of scratch is cleared.
 pub prepare-asks : (n : ℕ) (lows highs : List ℕ) (k from to : ℕ) (counts relays scratch scratch′ order places numbers a b : List ℕ)
     → Routable n lows highs k from to counts relays scratch → Workspace n lows order places numbers a b
@@ -161,5 +156,5 @@ pub prepare-asks : (n : ℕ) (lows highs : List ℕ) (k from to : ℕ) (counts r
     → Scannable n lows highs order places numbers × ((k * n ≤ length scratch′) × ((j : ℕ) → j < k * n → getD scratch′ j 0 ≡ 0))
 prepare-asks n lows highs k from to counts relays scratch scratch′ order places numbers a b asked lent clear long = (
   record { accepted = asked .accepted; relayRoom = lent .relayRoom; placeRoom = lent .placeRoom; forestRoom = lent .linkRoom },
-  (omega (arith, asked .scratchRoom), clear-front (k * n) scratch scratch′ clear),
+  (omega (arith, asked .scratchRoom), cleared (k * n) scratch clear .0),
 )

@@ -2,6 +2,7 @@
 // is said in specs/Answers.antt.
 use between::between;
 use between::joined;
+use forests::clear::clear;
 use forests::left::left_table;
 use forests::scan::is_small;
 use forests::scan::place_of;
@@ -18,10 +19,9 @@ use zeros::few_relays;
 use zeros::no_links;
 use zeros::no_paths;
 use zeros::no_relays;
-ghost use mathlib.Core.List.{_++_};
 ghost use mathlib.Core.Path.{_≡_};
 ghost use Prim.Native.Nat.{ℕ, _*_, _≤_, _<_};
-ghost use lib.ListN.{length, drop, getD, replicate};
+ghost use lib.ListN.{length, getD};
 ghost use Rattle.definitions.specs.Lists.{zeroed};
 ghost use Rattle.definitions.specs.Route.{routeAnswer, countsAfter, routeRelaysAfter, scratchAfter};
 ghost use Rattle.forests.specs.Scan.{Scannable};
@@ -39,18 +39,6 @@ mod zeros;
 pub enum RouteAnswer {
     Written(usize),
     Refused(Refusal),
-}
-
-// Zeros for the first `count` entries.
-fn clear(list: &mut [u16], count: usize)
-    requires { ⌜ count ≤ length (now list) ⌝ }
-    ensures { λ _. ⌜ now (list .exit) ≡ replicate count 0 ++ drop count (now (list .entry)) ⌝ }
-{
-    let mut i = 0;
-    while i < count {
-        list[i] = 0;
-        i += 1;
-    }
 }
 
 // The order, the places and the left table of an accepted table.

@@ -1,6 +1,7 @@
 -- Chains and counts are made in the arrays, the numbers are cleared, and all relays are placed. Assumes nothing.
 use native.Mathlib.Omega.{arith}
-use Rattle.forests.proofs.ClearLaws.{scan-cleared}
+use lib.ListN.{length}
+use Rattle.forests.proofs.ClearLaws.{cleared, scan-cleared}
 use Rattle.forests.proofs.ScanLaws.{chain-ready}
 use borrow.Author.Needs.{needs}
 use Rattle.forests.proofs.scan.scan_in.Statement.{statement}
@@ -14,13 +15,13 @@ link-up-requires c κs =
 start-counts-requires : tie.Need-start-counts-requires
 start-counts-requires c κs = search needs
 
-clear-numbers-requires : tie.Need-clear-numbers-requires
-clear-numbers-requires c κs = search needs
+clear-requires : tie.Need-clear-requires
+clear-requires c κs = search needs
 
 place-all-requires : tie.Need-place-all-requires
 place-all-requires c κs =
-    let cleared = c .before .before .before .before .before .before .before .before .before in
-    let started = cleared .before .before .before .before .before .before in
+    let emptied = c .before .before .before .before .before .before .before .before .before in
+    let started = emptied .before .before .before .before .before .before in
     let chained = started .before .before .before .before .before .before .before in
     let s = chained .before .before .before .before .before .before .before .before .before .before .before .before in
     let p = s .pre .0 in
@@ -31,7 +32,7 @@ place-all-requires c κs =
             accepted = p .accepted;
             relayRoom = p .relayRoom;
             placeRoom = p .placeRoom;
-            forestRoom = omega (arith, p .forestRoom, cleared .clear-numbers .ensures .long);
+            forestRoom = omega (arith, p .forestRoom, emptied .clear .kept .0);
           };
       heads = omega (arith, w .heads);
       few = omega (arith, w .few);
@@ -39,7 +40,7 @@ place-all-requires c κs =
       chained = chained .link-up .ensures;
       startCounts = started .start-counts .ensures .0;
       sorted = started .start-counts .ensures .1;
-      zeros = cleared .clear-numbers .ensures .zeros;
+      zeros = cleared (length (s .args .lows .now)) (s .args .forests .now) (emptied .clear .ensures) .0;
     }
 
 same-length : tie.Need-same-length
@@ -66,8 +67,8 @@ same-length-7 c = search needs
 returns : tie.Need-returns
 returns c =
     let placed = c .before .before .before .before .before .before .before .before .before .before in
-    let cleared = placed .before .before .before .before .before .before .before .before .before .before in
-    scan-cleared (cleared .clear-numbers .ensures) (placed .place-all .ensures)
+    let emptied = placed .before .before .before .before .before .before .before .before .before .before in
+    scan-cleared (emptied .clear .ensures) (placed .place-all .ensures)
 
 pub scan-in-spec : {M : Type 1} → statement M
 scan-in-spec =
@@ -75,7 +76,7 @@ scan-in-spec =
     (tie.spec
     link-up-requires
     start-counts-requires
-    clear-numbers-requires
+    clear-requires
     place-all-requires
     same-length
     same-length-2

@@ -1,12 +1,12 @@
--- `clear` meets its contract. The loop's invariant: what is left to do gives what the whole gives. Assumes nothing.
+-- `clear` meets its contract. After i turns the first i entries are 0 and the rest is as it was. Assumes nothing.
 use borrow.Author.Fill.{fill-none, fill-more}
 use lib.ListN.{length, drop, set, replicate, length-set}
 use native.Mathlib.Omega.{arith}
 use mathlib.Core.Path.{_≡_, refl, _∙_, ap}
 use mathlib.Core.List.{List, _++_}
 use Prim.Native.Nat.{_-_, _≤_, ℕ}
-use Rattle.routes.proofs.clear.Statement.{statement}
-use Rattle.routes.proofs.clear.Tie as tie
+use Rattle.forests.proofs.clear.clear.Statement.{statement}
+use Rattle.forests.proofs.clear.clear.Tie as tie
 
 abbrev Inv-loop : tie.InvT-loop
 Inv-loop list₀ count i₀ list i = (length list ≡ length list₀) × (i ≤ count) × (list ≡ replicate i 0 ++ drop i list₀)
