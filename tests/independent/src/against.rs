@@ -1,5 +1,6 @@
 //! The proved library against the second version: the same answers and lists from both, and what must hold of them.
 
+use crate::boundaries::boundaries;
 use crate::facts::{disjoint, kept, parts};
 use crate::flow::{self, greatest};
 use crate::generate::{Network, any, damage, scratch};
@@ -11,8 +12,11 @@ use crate::tally::Tally;
 use crate::wishes::{any_wish, line, wish};
 use crate::{forests, plan, text};
 
-/// A length for a lent list of which `exact` entries are needed: exact, one short, none, a little or far too long.
-fn length(random: &mut Random, exact: usize) -> usize {
+/// Draws a length for a lent list of which so many entries are needed.
+pub type Lengths = fn(&mut Random, usize) -> usize;
+
+/// Exact, one short, none, a little or far too long.
+pub fn any_length(random: &mut Random, exact: usize) -> usize {
     match random.below(12) {
         0 => exact.saturating_sub(1),
         1 => 0,
@@ -24,12 +28,19 @@ fn length(random: &mut Random, exact: usize) -> usize {
     }
 }
 
+/// The same, but seldom too short.
+fn mostly_enough(random: &mut Random, exact: usize) -> usize {
+    let short = random.once_in(3);
+    let length = any_length(random, exact);
+    if short { length } else { length.max(exact) }
+}
+
 fn one<T: Into<u64>>(outcome: Result<T, Refusal>) -> Report {
     Report::of(outcome.map(|value| [value.into(), 0]))
 }
 
-fn two_lists(random: &mut Random, first: usize, second: usize) -> (Vec<u16>, Vec<u16>) {
-    let (first, second) = (length(random, first), length(random, second));
+fn two_lists(random: &mut Random, lengths: Lengths, exact: usize) -> (Vec<u16>, Vec<u16>) {
+    let (first, second) = (lengths(random, exact), lengths(random, exact));
     (random.numbers(first), random.numbers(second))
 }
 
@@ -45,9 +56,9 @@ fn tables(random: &mut Random, tally: &mut Tally, net: &Network) {
     tally.same("pair", reference.code, library::pair(a, b), reference, &(a, b));
 }
 
-fn written(random: &mut Random, tally: &mut Tally, net: &Network) {
+fn written(random: &mut Random, tally: &mut Tally, net: &Network, lengths: Lengths) {
     let Network { n, lows, highs } = net;
-    let size = length(random, text::text(*n, lows, highs).len());
+    let size = lengths(random, text::text(*n, lows, highs).len());
     let mut ours = random.bytes(size);
     let mut theirs = ours.clone();
     let reference = Report::of(text::write(*n, lows, highs, &mut ours).map(|length| [length as u64, 0]));
@@ -55,8 +66,8 @@ fn written(random: &mut Random, tally: &mut Tally, net: &Network) {
     tally.same("write", reference.code, (report, theirs), (reference, ours), net);
 }
 
-pub fn read(random: &mut Random, tally: &mut Tally, input: &[u8], links: usize) {
-    let (mut lows, mut highs) = two_lists(random, links, links);
+pub fn read(random: &mut Random, tally: &mut Tally, input: &[u8], links: usize, lengths: Lengths) {
+    let (mut lows, mut highs) = two_lists(random, lengths, links);
     let (mut library_lows, mut library_highs) = (lows.clone(), highs.clone());
     let reference = Report::of(text::read(input, &mut lows, &mut highs).map(|(n, m)| [n.into(), m.into()]));
     let report = library::read(input, &mut library_lows, &mut library_highs);
@@ -78,22 +89,22 @@ pub fn planned(random: &mut Random, tally: &mut Tally, input: &[u8]) -> String {
     reference
 }
 
-fn ordered(random: &mut Random, tally: &mut Tally, net: &Network) {
+fn ordered(random: &mut Random, tally: &mut Tally, net: &Network, lengths: Lengths) {
     let Network { n, lows, highs } = net;
-    let (mut relays, mut places) = two_lists(random, usize::from(*n), usize::from(*n));
+    let (mut relays, mut places) = two_lists(random, lengths, usize::from(*n));
     let (mut library_relays, mut library_places) = (relays.clone(), places.clone());
     let reference = Report::of(forests::order(*n, lows, highs, &mut relays, &mut places).map(|()| [0, 0]));
     let report = library::order(*n, lows, highs, &mut library_relays, &mut library_places);
     tally.same("order", reference.code, (report, library_relays, library_places), (reference, relays, places), net);
 
-    let size = length(random, lows.len());
+    let size = lengths(random, lows.len());
     let mut ours = random.numbers(size);
     let mut theirs = ours.clone();
     let reference = one(forests::split(*n, lows, highs, &mut ours));
     let report = library::split(*n, lows, highs, &mut theirs);
     tally.same("split", reference.code, (report, theirs), (reference, ours), net);
 
-    let size = length(random, lows.len());
+    let size = lengths(random, lows.len());
     let mut ours = random.numbers(size);
     let mut theirs = ours.clone();
     let k = random.below(40) as u16;
@@ -102,17 +113,14 @@ fn ordered(random: &mut Random, tally: &mut Tally, net: &Network) {
     tally.same("cut", reference.code, (report, theirs), (reference, ours), &(net, k));
 }
 
-fn routed(random: &mut Random, tally: &mut Tally, net: &Network, wish: Wish) {
+fn routed(random: &mut Random, tally: &mut Tally, net: &Network, wish: Wish, lengths: Lengths) {
     let Network { n, lows, highs } = net;
     let (k, size) = (usize::from(wish.k.min(40)), usize::from(*n));
-    let lent = |random: &mut Random, exact: usize| {
-        let short = random.once_in(3);
-        let length = length(random, exact);
-        random.numbers(if short { length } else { length.max(exact) })
+    let mut lent = |exact: usize| {
+        let length = lengths(random, exact);
+        random.numbers(length)
     };
-    let mut counts = lent(random, k);
-    let mut relays = lent(random, (size + 2 * k).saturating_sub(2));
-    let mut scratch = lent(random, k * size);
+    let (mut counts, mut relays, mut scratch) = (lent(k), lent((size + 2 * k).saturating_sub(2)), lent(k * size));
     let mut theirs = (counts.clone(), relays.clone(), scratch.clone());
     let outcome = sweep::route(*n, lows, highs, wish, &mut counts, &mut relays, &mut scratch);
     let report = library::route(*n, lows, highs, wish.k, wish.from, wish.to, &mut theirs.0, &mut theirs.1, &mut theirs.2);
@@ -195,7 +203,7 @@ pub fn input(net: &Network, wish: Wish) -> (Vec<u8>, usize) {
 fn texts(random: &mut Random, tally: &mut Tally, net: &Network, wish: Wish) {
     let (input, line) = input(net, wish);
     let links = net.lows.len();
-    read(random, tally, &input[line..], links);
+    read(random, tally, &input[line..], links, any_length);
     planned(random, tally, &input);
     for _ in 0..3 {
         let mut bad = input.clone();
@@ -203,7 +211,7 @@ fn texts(random: &mut Random, tally: &mut Tally, net: &Network, wish: Wish) {
             scratch(random, &mut bad);
         }
         planned(random, tally, &bad);
-        read(random, tally, bad.get(line..).unwrap_or_default(), links);
+        read(random, tally, bad.get(line..).unwrap_or_default(), links, any_length);
     }
     if input.len() <= 165 {
         for at in 0..=input.len() {
@@ -220,7 +228,7 @@ fn texts(random: &mut Random, tally: &mut Tally, net: &Network, wish: Wish) {
             }
             for variant in variants {
                 planned(random, tally, &variant);
-                read(random, tally, variant.get(line..).unwrap_or_default(), links);
+                read(random, tally, variant.get(line..).unwrap_or_default(), links, any_length);
             }
         }
     }
@@ -229,23 +237,32 @@ fn texts(random: &mut Random, tally: &mut Tally, net: &Network, wish: Wish) {
 /// A table through every operation, with some wishes if it is accepted; then it gives the forest of each link.
 pub fn operations(random: &mut Random, tally: &mut Tally, net: &Network, wishes: usize) -> Option<Vec<u16>> {
     tables(random, tally, net);
-    written(random, tally, net);
-    ordered(random, tally, net);
+    written(random, tally, net, any_length);
+    ordered(random, tally, net, any_length);
     if table::check(net.n, &net.lows, &net.highs).is_err() {
-        routed(random, tally, net, Wish { k: 2, from: 1, to: 0 });
+        routed(random, tally, net, Wish { k: 2, from: 1, to: 0 }, mostly_enough);
         return None;
     }
     certified(random, tally, net);
     let numbers = forests::numbers(net.n, &net.lows, &net.highs);
     for _ in 0..wishes {
         let wish = wish(random, net, &numbers);
-        routed(random, tally, net, wish);
+        routed(random, tally, net, wish, mostly_enough);
         planned(random, tally, &input(net, wish).0);
     }
     Some(numbers)
 }
 
-/// One network from a seed, with its texts, through every operation.
+/// A table, with its texts, through every operation.
+fn whole(random: &mut Random, tally: &mut Tally, net: &Network) {
+    let wish = match operations(random, tally, net, 4) {
+        None => any_wish(random, net),
+        Some(numbers) => wish(random, net, &numbers),
+    };
+    texts(random, tally, net, wish);
+}
+
+/// One network from a seed.
 pub fn case(seed: u64, tally: &mut Tally) {
     let random = &mut Random::new(seed);
     let mut net = any(random, 1000);
@@ -254,9 +271,33 @@ pub fn case(seed: u64, tally: &mut Tally) {
             damage(random, &mut net);
         }
     }
-    let wish = match operations(random, tally, &net, 4) {
-        None => any_wish(random, &net),
-        Some(numbers) => wish(random, &net, &numbers),
-    };
-    texts(random, tally, &net, wish);
+    whole(random, tally, &net);
+}
+
+/// The networks at the boundaries from a seed: each with lists of exact length and a wish that is met, then as any other, and then
+/// with its highest pair of relays linked twice. Gives how many there are.
+pub fn boundary_cases(seed: u64, tally: &mut Tally) -> usize {
+    let random = &mut Random::new(seed);
+    let exact: Lengths = |_, exact| exact;
+    let nets = boundaries(random);
+    for net in &nets {
+        let (n, lows, highs, m) = (net.n, &net.lows, &net.highs, net.lows.len());
+        let numbers = forests::numbers(n, lows, highs);
+        let link = (0..m).max_by_key(|&link| numbers[link]).expect("a link");
+        let wish = Wish { k: numbers[link].min(32), from: highs[link], to: lows[link] };
+        let (input, line) = input(net, wish);
+        written(random, tally, net, exact);
+        read(random, tally, &input[line..], m, exact);
+        ordered(random, tally, net, exact);
+        routed(random, tally, net, wish, exact);
+        planned(random, tally, &input);
+        whole(random, tally, net);
+
+        let highest = (0..m).max_by_key(|&link| (highs[link], lows[link])).expect("a link");
+        let other = (highest + random.within(1, m - 1)) % m;
+        let mut twice = net.clone();
+        (twice.lows[other], twice.highs[other]) = (lows[highest], highs[highest]);
+        whole(random, tally, &twice);
+    }
+    nets.len()
 }

@@ -1,5 +1,6 @@
 //! Document 01's examples, P1 to P12 and the others, and the plain program against the fast one and the flow program.
 
+use crate::boundaries::boundaries;
 use crate::forests::{cut, order, split};
 use crate::generate::{Network, any};
 use crate::plan::plan;
@@ -87,10 +88,18 @@ fn longest_text() {
 }
 
 #[test]
+fn highest_forest() {
+    let nets = boundaries(&mut Random::new(1));
+    let highest = nets.iter().filter_map(|net| order_and_forests(net).1.into_iter().max());
+    assert_eq!(highest.filter(|&forest| forest == 76).count(), 17);
+}
+
+#[test]
 fn two_ways_agree() {
     let mut random = Random::new(1);
-    for _ in 0..300 {
-        let net = any(&mut random, 200);
+    let mut nets = boundaries(&mut random);
+    nets.extend((0..300).map(|_| any(&mut random, 200)));
+    for net in nets {
         let (n, lows, highs) = (net.n, &net.lows[..], &net.highs[..]);
         assert_eq!(check(n, lows, highs), Ok(()));
         assert_eq!(swift::check(n, lows, highs), Ok(()));
@@ -99,7 +108,7 @@ fn two_ways_agree() {
         let mut swift_forests = vec![0; lows.len()];
         swift::scan(n, lows, highs, &mut swift_relays, &mut swift_places, &mut swift_forests);
         assert_eq!((&relays, &forests), (&swift_relays, &swift_forests));
-        swift::scan_by::<swift::Blocks>(n, lows, highs, &mut swift_relays, &mut swift_places, &mut swift_forests);
+        swift::scan_by::<swift::Buckets>(n, lows, highs, &mut swift_relays, &mut swift_places, &mut swift_forests);
         assert_eq!((relays, forests), (swift_relays, swift_forests));
         let (mut one, mut two) = ([7; 50_000], [7; 50_000]);
         assert_eq!(write(n, lows, highs, &mut one), swift_text::write(n, lows, highs, &mut two));

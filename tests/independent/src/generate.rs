@@ -15,13 +15,18 @@ pub struct Network {
 pub const KINDS: [&str; 14] =
     ["empty", "full", "ring", "path", "tree", "grid", "star", "wheel", "band", "clique", "bipartite", "cube", "random", "parts"];
 
-type Links = Vec<(usize, usize)>;
+pub(crate) type Links = Vec<(usize, usize)>;
 
-fn random_links(random: &mut Random, n: usize, m: usize) -> Links {
+/// All pairs of n relays.
+pub(crate) fn full(n: usize) -> impl Iterator<Item = (usize, usize)> {
+    (0..n).flat_map(|b| (0..b).map(move |a| (a, b)))
+}
+
+pub(crate) fn random_links(random: &mut Random, n: usize, m: usize) -> Links {
     let pairs = n * (n - 1) / 2;
     let mut seen = HashSet::new();
     if 2 * m > pairs {
-        let mut all: Links = (0..n).flat_map(|b| (0..b).map(move |a| (a, b))).collect();
+        let mut all: Links = full(n).collect();
         random.shuffle(&mut all);
         all.truncate(m);
         return all;
@@ -38,14 +43,13 @@ fn random_links(random: &mut Random, n: usize, m: usize) -> Links {
 }
 
 /// A tree hung onto the relays 0 to `done` − 1.
-fn tree_from(random: &mut Random, done: usize, n: usize) -> Links {
+pub(crate) fn tree_from(random: &mut Random, done: usize, n: usize) -> Links {
     let reach = random.within(1, n);
     (done.max(1)..n).map(|b| (random.within(b.saturating_sub(reach), b - 1), b)).collect()
 }
 
 /// The links of one network of a kind with at most `n` relays, and how many relays it has.
 fn links(random: &mut Random, kind: &str, n: usize) -> (usize, Links) {
-    let full = |n: usize| (0..n).flat_map(move |b| (0..b).map(move |a| (a, b)));
     match kind {
         "empty" => (n, vec![]),
         "full" => (n.min(77), full(n.min(77)).collect()),
@@ -119,6 +123,13 @@ fn links(random: &mut Random, kind: &str, n: usize) -> (usize, Links) {
     }
 }
 
+/// The table of these links, with the relays numbered anew.
+pub(crate) fn table(links: Links, names: &[usize]) -> Network {
+    let ends = |(a, b): (usize, usize)| (names[a].min(names[b]) as u16, names[a].max(names[b]) as u16);
+    let (lows, highs) = links.into_iter().map(ends).unzip();
+    Network { n: names.len() as u16, lows, highs }
+}
+
 /// A network of a kind with at most `most` relays, which are numbered anew at random in most runs.
 pub fn network(random: &mut Random, kind: &str, most: usize) -> Network {
     let (n, mut links) = links(random, kind, most);
@@ -132,13 +143,7 @@ pub fn network(random: &mut Random, kind: &str, most: usize) -> Network {
         links.truncate(links.len() - dropped / 4);
     }
     links.truncate(3000);
-    let (mut lows, mut highs) = (vec![], vec![]);
-    for (a, b) in links {
-        let (a, b) = (names[a] as u16, names[b] as u16);
-        lows.push(a.min(b));
-        highs.push(a.max(b));
-    }
-    Network { n: n as u16, lows, highs }
+    table(links, &names)
 }
 
 /// A network of any kind; small ones more often than large ones.

@@ -3,6 +3,7 @@
 
 #[cfg(feature = "library")]
 pub mod against;
+pub mod boundaries;
 pub mod facts;
 pub mod flow;
 pub mod forests;

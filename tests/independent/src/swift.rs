@@ -41,7 +41,8 @@ pub fn link(n: u16, seen: &mut [u64], index: usize, a: u16, b: u16) -> Result<()
     Ok(())
 }
 
-/// Who is placed next: a key for each relay, the count of placed neighbours first and then the lower relay number; 0 once placed.
+/// Who is placed next: the waiting relay with the greatest key, which is its count of placed neighbours first and then the lower
+/// relay number.
 pub trait Keys {
     fn new(n: usize) -> Self;
     /// Takes the relay with the greatest key out.
@@ -50,11 +51,7 @@ pub trait Keys {
     fn raise(&mut self, relay: usize) -> u16;
 }
 
-fn start_keys(n: usize) -> [u32; 1024] {
-    std::array::from_fn(|relay| if relay < n { 1024 + (1023 - relay as u32) } else { 0 })
-}
-
-/// One array of keys, gone through for each place.
+/// One array of keys, 0 once placed, gone through for each place.
 pub struct Plain {
     keys: [u32; 1024],
     n: usize,
@@ -62,7 +59,7 @@ pub struct Plain {
 
 impl Keys for Plain {
     fn new(n: usize) -> Plain {
-        Plain { keys: start_keys(n), n }
+        Plain { keys: std::array::from_fn(|relay| if relay < n { 1024 + (1023 - relay as u32) } else { 0 }), n }
     }
 
     fn take(&mut self) -> usize {
@@ -82,39 +79,47 @@ impl Keys for Plain {
     }
 }
 
-/// Two levels: the greatest key of each block of 32 relays beside the keys.
-pub struct Blocks {
-    keys: [[u32; 32]; 32],
-    tops: [u32; 32],
+/// The waiting relays by their count, as bits: each 64 relays have a column with a word for each count, and a relay's bit is set in
+/// the word of its count until it is placed. No relay waits with more than 76 placed neighbours, since 77 take 3,003 links.
+pub struct Buckets {
+    columns: Vec<[u64; 80]>,
+    counts: [u8; 1000],
+    /// No relay waits with a greater count.
+    most: usize,
 }
 
-fn top(keys: &[u32; 32]) -> u32 {
-    keys.iter().copied().fold(0, u32::max)
-}
-
-impl Keys for Blocks {
-    fn new(n: usize) -> Blocks {
-        let all = start_keys(n);
-        let keys = std::array::from_fn(|block| std::array::from_fn(|at| all[32 * block + at]));
-        Blocks { keys, tops: std::array::from_fn(|block| top(&keys[block])) }
+impl Keys for Buckets {
+    fn new(n: usize) -> Buckets {
+        let mut columns = vec![[0; 80]; n.div_ceil(64)];
+        for (index, column) in columns.iter_mut().enumerate() {
+            column[0] = u64::MAX >> (64 - (n - 64 * index).min(64));
+        }
+        Buckets { columns, counts: [0; 1000], most: 0 }
     }
 
     fn take(&mut self) -> usize {
-        let relay = 1023 - (top(&self.tops) & 1023) as usize;
-        self.keys[relay / 32][relay % 32] = 0;
-        self.tops[relay / 32] = top(&self.keys[relay / 32]);
-        relay
+        loop {
+            let words = self.columns.iter_mut().map(|column| &mut column[self.most]);
+            if let Some((index, word)) = words.enumerate().find(|(_, word)| **word != 0) {
+                let bit = word.trailing_zeros();
+                *word &= *word - 1;
+                return 64 * index + bit as usize;
+            }
+            self.most -= 1;
+        }
     }
 
     fn raise(&mut self, relay: usize) -> u16 {
-        let key = &mut self.keys[relay / 32][relay % 32];
-        if *key == 0 {
+        let (column, bit) = (&mut self.columns[relay / 64], 1 << (relay % 64));
+        let count = usize::from(self.counts[relay]);
+        if column[count] & bit == 0 {
             return 0;
         }
-        *key += 1024;
-        let top = &mut self.tops[relay / 32];
-        *top = (*top).max(*key);
-        ((*key >> 10) - 1) as u16
+        column[count] ^= bit;
+        column[count + 1] |= bit;
+        self.counts[relay] += 1;
+        self.most = self.most.max(count + 1);
+        count as u16 + 1
     }
 }
 

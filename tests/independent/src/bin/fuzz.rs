@@ -2,7 +2,7 @@
 //! library with the second version on each: Read and the planner on texts, every operation on tables.
 //! fuzz [SECONDS [SEED]]: 60 seconds and seed 1 if not given. The same seed tries the same inputs in the same order.
 
-use independent::against::{input, operations, planned, read};
+use independent::against::{any_length, input, operations, planned, read};
 use independent::generate::{Network, alter, any, damage, mend, scratch};
 use independent::manner::{self, Lefts, Manner};
 use independent::random::Random;
@@ -88,7 +88,7 @@ impl Fuzz {
         let lines = text.iter().filter(|&&byte| byte == b'\n').count();
         let links = if self.random.once_in(3) { lines.saturating_sub(3) } else { 3000 };
         let behind = text.iter().position(|&byte| byte == b'\n').map_or(0, |at| at + 1);
-        read(&mut self.random, &mut self.tally, &text[behind..], links);
+        read(&mut self.random, &mut self.tally, &text[behind..], links, any_length);
         self.tried[0] += 1;
         let manner = manner::printed(&text, &sheet);
         let class = manner.class();

@@ -127,8 +127,8 @@ impl Bench {
         row("order", &mut || run(library::order(*n, lows, highs, &mut a, &mut b)), &mut || {
             run(swift::order_by::<swift::Plain>(*n, lows, highs, &mut c, &mut d));
         });
-        row("order, two levels", &mut || run(library::order(*n, lows, highs, &mut a, &mut b)), &mut || {
-            run(swift::order_by::<swift::Blocks>(*n, lows, highs, &mut c, &mut d));
+        row("order, by count", &mut || run(library::order(*n, lows, highs, &mut a, &mut b)), &mut || {
+            run(swift::order_by::<swift::Buckets>(*n, lows, highs, &mut c, &mut d));
         });
         row("split", &mut || run(library::split(*n, lows, highs, &mut a)), &mut || run(swift::split(*n, lows, highs, &mut c)));
         row("cut, k 2", &mut || run(library::cut(*n, lows, highs, 2, &mut a)), &mut || {

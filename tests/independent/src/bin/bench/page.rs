@@ -40,14 +40,14 @@ pub fn page(bench: &Bench, machine: &str) -> String {
          The run was made on {machine}.\n\
          Each time is the least of {batches} batches, in microseconds. Every operation but `read` and `plan` includes the table check.\n\
          The flow program finds and writes its k routes; it checks nothing. A route joins the two ends of the widest stretch of places in\n\
-         one tree of forest k. `order, two levels` sets the library's order beside a plain scan that keeps the greatest key of each block\n\
-         of 32 relays. `plan` is the whole planner, from the bytes of a wish and a network to the bytes of the sheet.\n\
+         one tree of forest k. `order, by count` sets the library's order beside a plain scan that keeps the waiting relays by their count,\n\
+         as bits, as the library does. `plan` is the whole planner, from the bytes of a wish and a network to the bytes of the sheet.\n\
          Networks: `random` has three links a relay, `band` links each relay to the next three, `core` is a full network of 70 with a tree on it.\n\n\
          ![Time by size of the network](speed.svg)\n\n## Goals\n\n| goal | | worst |\n|---|---|---|\n",
     );
     for what in ["order", "split", "cut"] {
         let (row, ratio) =
-            worst(rows, |row| row.what.starts_with(what) && row.what != "order, two levels", |row| row.library / row.plain);
+            worst(rows, |row| row.what.starts_with(what) && row.what != "order, by count", |row| row.library / row.plain);
         let shown = format!("{ratio:.2} times ({} {})", row.kind, row.n);
         goal(&mut page, &format!("`{what}` at most 1.5 times the plain version"), ratio <= 1.5, &shown);
     }
