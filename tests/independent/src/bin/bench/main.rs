@@ -1,24 +1,16 @@
 //! Times the proved library beside the plain Rust version and the flow program: the same networks, side by side in one run.
 //! bench FOLDER [BATCHES] writes FOLDER/SPEED.md and FOLDER/speed.svg; each time is the least of BATCHES, 25 if not given.
+//! bench --count is the run of it in which callgrind counts the instructions.
 
+mod counts;
 mod page;
 mod plot;
+mod works;
 
-use independent::flow;
-use independent::forests::{earlier, places};
 use independent::generate::Network;
-use independent::library;
-use independent::random::Random;
-use independent::sweep::Wish;
-use independent::{against, swift, swift_text, text};
-use std::collections::HashSet;
-use std::hint::black_box;
 use std::time::Instant;
-
-/// Keeps a result from being optimised away.
-fn run<T>(result: T) {
-    black_box(result);
-}
+use std::vec::IntoIter;
+use works::Measure;
 
 fn once(work: &mut dyn FnMut(), calls: u32) -> f64 {
     let start = Instant::now();
@@ -40,179 +32,72 @@ fn beside(batches: usize, works: &mut [&mut dyn FnMut()]) -> Vec<f64> {
     best
 }
 
-fn table(n: usize, links: impl IntoIterator<Item = (usize, usize)>, random: &mut Random) -> Network {
-    let mut links: Vec<(usize, usize)> = links.into_iter().collect::<HashSet<_>>().into_iter().collect();
-    links.sort();
-    random.shuffle(&mut links);
-    links.truncate(3000);
-    let lows = links.iter().map(|link| link.0.min(link.1) as u16).collect();
-    let highs = links.iter().map(|link| link.0.max(link.1) as u16).collect();
-    Network { n: n as u16, lows, highs }
-}
-
-/// The networks timed: random ones with three links a relay, bands of width 3, and a tree that hangs on a full core of 70.
-fn network(kind: &str, n: usize) -> Network {
-    let random = &mut Random::new(n as u64);
-    let mut links = vec![];
-    match kind {
-        "random" => {
-            let most = (3 * n).min(n * (n - 1) / 2);
-            let mut seen = HashSet::new();
-            while seen.len() < most {
-                let (a, b) = (random.below(n), random.below(n));
-                if a < b {
-                    seen.insert((a, b));
-                }
-            }
-            links.extend(seen);
-        }
-        "band" => {
-            for a in 0..n {
-                links.extend((a + 1..n.min(a + 4)).map(|b| (a, b)));
-            }
-        }
-        _ => {
-            for b in 1..n {
-                let core = if b < 70 { 0 } else { b };
-                links.extend((core..b).map(|a| (a, b)));
-                links.push((random.below(b), b));
-            }
-        }
-    }
-    table(n, links, random)
-}
-
-/// One operation on one network: the times of the library and of what it is held against.
-struct Row {
-    kind: &'static str,
-    n: usize,
-    m: usize,
-    what: String,
+/// What one call takes: microseconds, or thousands of instructions.
+struct Cost {
     library: f64,
     plain: f64,
     flow: Option<f64>,
 }
 
-/// The rows so far; each time is the least of so many batches.
+impl Cost {
+    fn of(costs: Vec<f64>) -> Cost {
+        Cost { library: costs[0], plain: costs[1], flow: costs.get(2).copied() }
+    }
+
+    /// The library's cost over the plain program's.
+    fn to_plain(&self) -> f64 {
+        self.library / self.plain
+    }
+
+    /// The library's cost over the flow program's, where that has a part in it.
+    fn to_flow(&self) -> Option<f64> {
+        self.flow.map(|flow| self.library / flow)
+    }
+}
+
+/// One operation on one network: the costs of the library and of what it is held against.
+struct Row {
+    kind: &'static str,
+    n: usize,
+    m: usize,
+    what: String,
+    time: Cost,
+    count: Option<Cost>,
+}
+
+/// The rows so far; each time is the least of so many batches. The counts are those of the works to come.
 struct Bench {
     batches: usize,
+    counts: Option<IntoIter<f64>>,
     rows: Vec<Row>,
 }
 
-impl Bench {
-    /// Times the library, the plain program and, where it has a part in it, the flow program.
+impl Measure for Bench {
     fn row(&mut self, kind: &'static str, net: &Network, what: &str, works: &mut [&mut dyn FnMut()]) {
-        let times = beside(self.batches, works);
-        let (n, m) = (usize::from(net.n), net.lows.len());
-        let (library, plain, flow) = (times[0], times[1], times.get(2).copied());
-        self.rows.push(Row { kind, n, m, what: what.into(), library, plain, flow });
-    }
-
-    fn operations(&mut self, kind: &'static str, net: &Network) {
-        let Network { n, lows, highs } = net;
-        let written = text::text(*n, lows, highs).into_bytes();
-        let (mut a, mut b) = (vec![0u16; 3000], vec![0u16; 3000]);
-        let (mut c, mut d) = (vec![0u16; 3000], vec![0u16; 3000]);
-        let (mut one, mut two) = (vec![0u8; written.len()], vec![0u8; written.len()]);
-        let mut row = |what: &str, library: &mut dyn FnMut(), plain: &mut dyn FnMut()| {
-            self.row(kind, net, what, &mut [library, plain]);
-        };
-        row("check", &mut || run(library::check(*n, lows, highs)), &mut || run(swift::check(*n, lows, highs)));
-        row("read", &mut || run(library::read(&written, &mut a, &mut b)), &mut || {
-            run(swift_text::read(&written, &mut c, &mut d));
-        });
-        row("write", &mut || run(library::write(*n, lows, highs, &mut one)), &mut || {
-            run(swift_text::write(*n, lows, highs, &mut two));
-        });
-        row("order", &mut || run(library::order(*n, lows, highs, &mut a, &mut b)), &mut || {
-            run(swift::order_by::<swift::Plain>(*n, lows, highs, &mut c, &mut d));
-        });
-        row("order, by count", &mut || run(library::order(*n, lows, highs, &mut a, &mut b)), &mut || {
-            run(swift::order_by::<swift::Buckets>(*n, lows, highs, &mut c, &mut d));
-        });
-        row("split", &mut || run(library::split(*n, lows, highs, &mut a)), &mut || run(swift::split(*n, lows, highs, &mut c)));
-        row("cut, k 2", &mut || run(library::cut(*n, lows, highs, 2, &mut a)), &mut || {
-            run(swift::cut(*n, lows, highs, 2, &mut c))
-        });
-    }
-
-    fn planned(&mut self, kind: &'static str, net: &Network, wish: Wish) {
-        let (input, _) = against::input(net, wish);
-        let mut output = [0; library::SHEET];
-        let length = library::plan(&input, &mut output);
-        assert_eq!(&output[..length], swift_text::plan(&input));
-        self.row(
-            kind,
-            net,
-            "plan, k 2",
-            &mut [&mut || run(library::plan(&input, &mut output)), &mut || run(swift_text::plan(&input))],
-        );
-    }
-
-    fn routes(&mut self, kind: &'static str, net: &Network) {
-        let Network { n, lows, highs } = net;
-        let size = usize::from(*n);
-        for k in [1, 2, 3, 4, 8, 16, 32] {
-            let Some((from, to)) = ends(net, k) else { continue };
-            let wish = Wish { k, from, to };
-            let room = || (vec![0; usize::from(k)], vec![0; size - 2 + 2 * usize::from(k)]);
-            let ((mut counts, mut relays), (mut others, mut other_relays)) = (room(), room());
-            let mut scratch = vec![0; usize::from(k) * size];
-            assert_eq!(library::route(*n, lows, highs, k, from, to, &mut counts, &mut relays, &mut scratch).code, 0);
-            assert!(flow::route(*n, lows, highs, wish, &mut others, &mut other_relays).is_some());
-            self.row(
-                kind,
-                net,
-                &format!("route, k {k}"),
-                &mut [
-                    &mut || run(library::route(*n, lows, highs, k, from, to, &mut counts, &mut relays, &mut scratch)),
-                    &mut || run((swift::check(*n, lows, highs), swift::routes(*n, lows, highs, wish))),
-                    &mut || run(flow::route(*n, lows, highs, wish, &mut others, &mut other_relays)),
-                ],
-            );
-            if k == 2 {
-                self.planned(kind, net, wish);
-            }
-        }
+        let time = Cost::of(beside(self.batches, works));
+        let count = self.counts.as_mut().map(|counts| Cost::of(counts.take(works.len()).collect()));
+        self.rows.push(Row { kind, n: usize::from(net.n), m: net.lows.len(), what: what.into(), time, count });
     }
 }
-
-/// The widest stretch of places in one tree of forest k, as its later and its earlier relay.
-fn ends(net: &Network, k: u16) -> Option<(u16, u16)> {
-    let Network { n, lows, highs } = net;
-    let (mut relays, mut unused, mut forests) = ([0; 1000], [0; 1000], [0; 3000]);
-    swift::scan(*n, lows, highs, &mut relays, &mut unused, &mut forests);
-    let relays = &relays[..usize::from(*n)];
-    let earlier = earlier(*n, lows, highs, &places(relays));
-    let (mut widest, mut low) = ((0, 0), 1);
-    for (v, neighbours) in earlier.iter().enumerate().skip(2) {
-        if neighbours.len() < usize::from(k) {
-            low = v;
-        } else if v - low > widest.1 - widest.0 {
-            widest = (low, v);
-        }
-    }
-    if widest.1 == 0 { None } else { Some((relays[widest.1 - 1], relays[widest.0 - 1])) }
-}
-
-const KINDS: [&str; 3] = ["random", "band", "core"];
-const LARGEST: usize = 1000;
-const SIZES: [usize; 6] = [10, 30, 100, 300, 600, LARGEST];
 
 fn main() {
     let mut words = std::env::args().skip(1);
     let folder = words.next().expect("bench FOLDER [BATCHES]");
-    let batches = words.next().map_or(25, |word| word.parse().expect("BATCHES is a number"));
-    let machine = page::machine();
-    let mut bench = Bench { batches, rows: vec![] };
-    for kind in KINDS {
-        for n in SIZES {
-            let net = network(kind, n);
-            bench.operations(kind, &net);
-            bench.routes(kind, &net);
-            eprintln!("{kind} {n}");
-        }
+    if folder == "--count" {
+        return works::each(&mut counts::Count);
     }
+    let batches = words.next().map_or(25, |word| word.parse().expect("BATCHES is a number"));
+    std::fs::create_dir_all(&folder).expect("FOLDER is there or can be made");
+    let machine = page::machine();
+    eprintln!("counting instructions");
+    let counts = counts::counts().map(Vec::into_iter);
+    if counts.is_none() {
+        eprintln!("there is no valgrind: the page goes without the instructions");
+    }
+    eprintln!("timing");
+    let mut bench = Bench { batches, counts, rows: vec![] };
+    works::each(&mut bench);
+    assert!(bench.counts.as_ref().is_none_or(|counts| counts.len() == 0), "more counts than works");
     let page = page::page(&bench, &machine);
     let goals = page.lines().filter(|line| line.contains("| met |") || line.contains("| missed |"));
     goals.for_each(|line| println!("{line}"));

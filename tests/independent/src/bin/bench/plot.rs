@@ -1,6 +1,7 @@
 //! The plot of the times.
 
-use super::{Row, SIZES};
+use super::Row;
+use super::works::SIZES;
 use std::fmt::Write;
 
 /// Time over n, both by powers of ten, for the random networks: the library as lines, what it is held against dashed.
@@ -39,8 +40,8 @@ pub fn plot(rows: &[Row]) -> String {
     };
     for (what, colour) in COLOURS {
         let of: Vec<&Row> = rows.iter().filter(|row| row.kind == "random" && row.what == what).collect();
-        line(of.iter().map(|row| (x(row.n), y(row.library))).collect(), colour, "");
-        let other = |row: &Row| row.flow.unwrap_or(row.plain);
+        line(of.iter().map(|row| (x(row.n), y(row.time.library))).collect(), colour, "");
+        let other = |row: &Row| row.time.flow.unwrap_or(row.time.plain);
         line(of.iter().map(|row| (x(row.n), y(other(row)))).collect(), colour, " stroke-dasharray=\"5 4\"");
     }
     for (index, (what, colour)) in COLOURS.into_iter().enumerate() {
