@@ -85,7 +85,7 @@ pub fn page(bench: &Bench, machine: &str) -> String {
     let mut page = format!(
         "# How fast it is\n\n\
          Written by `tests/bench`: the proved library beside an ordinary Rust program for the same operation (`tests/independent/src/swift.rs`,\n\
-         the same scan, and `swift_text.rs`) and beside a flow program (Dinic on split relays, `flow.rs`), on the same networks in one run.\n\
+         a scan over one array of keys, and `swift_text.rs`) and beside a flow program (Dinic on split relays, `flow.rs`), on the same networks in one run.\n\
          The run was made on {machine}.\n\
          Each time is the least of {batches} batches, in microseconds. Every operation but `read` and `plan` includes the table check.\n\
          The flow program finds and writes its k routes; it checks nothing. A route joins the two ends of the widest stretch of places in\n\
