@@ -19,11 +19,11 @@ use Rattle.forests.proofs.CountLaws.{raised-none, raised-some}
 
 -- Each relay has a bit of its own for each count.
 slot-same : (c r d q : ℕ) → c < 80 → d < 80 → slotOf c r ≡ slotOf d q → (c ≡ d) × (r ≡ q)
-unfolding slotOf
+unfolding slotOf wordOf
 slot-same c r d q a b e = omega arith
 
 slot-word : (c r : ℕ) → slotOf c r / 64 ≡ wordOf c r
-unfolding slotOf wordOf
+unfolding slotOf
 slot-word c r = omega arith
 
 slot-bit : (c r : ℕ) → slotOf c r % 64 ≡ r % 64

@@ -30,7 +30,7 @@ none-more count bits g below here h less = go (ℕ-discrete h g)
 module _ (bits : List ℕ) where
   -- The bit of a relay stands in its column's word.
   in-word : (count r : ℕ) → marked bits (slotOf count r) ≡ bitOf (getD bits (r / 64 * 80 + count) 0) (r % 64)
-  unfolding marked slotOf
+  unfolding marked slotOf wordOf
   in-word count r =
       let word : ((r / 64 * 80 + count) * 64 + r % 64) / 64 ≡ r / 64 * 80 + count = omega arith in
       let bit : ((r / 64 * 80 + count) * 64 + r % 64) % 64 ≡ r % 64 = omega arith in

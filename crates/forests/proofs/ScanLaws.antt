@@ -168,7 +168,7 @@ counts-few {n} {lows} {highs} {counts} k ok within at j h touch =
           arith,
           count-waiting at y below p,
           weight-linked n lows highs k y link,
-          weight-few n lows highs ok (suc k) y within below later,
+          weight-few n lows highs ok (suc k) y below later,
         ))
 
 module _ {n : ℕ} {lows highs first nexts counts bits relays places forests : List ℕ}

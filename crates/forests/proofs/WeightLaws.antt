@@ -61,11 +61,11 @@ module _ (n : ℕ) (lows highs : List ℕ) where
       ∙ rising-count test order j (omega (arith, order-length n lows highs))
       ∙ ap (count test) (sym (placed-front (linked lows highs) 0 (table (λ x. x) 0 n) n j (omega arith)))
 
-pub weight-bound : (n : ℕ) (lows highs : List ℕ) → Accepted n lows highs → (k r : ℕ) → k ≤ n → r < n
+pub weight-bound : (n : ℕ) (lows highs : List ℕ) → Accepted n lows highs → (k r : ℕ) → r < n
     → has (placed n lows highs k) r ≡ false
     → weight (linked lows highs) (placed n lows highs k) r * suc (weight (linked lows highs) (placed n lows highs k) r)
     ≤ 2 * length lows
-weight-bound n lows highs ok k r few below waits = by-cases (decLt 0 c) some none
+weight-bound n lows highs ok k r below waits = by-cases (decLt 0 c) some none
   where
     c : ℕ
     c = weight (linked lows highs) (placed n lows highs k) r
@@ -84,11 +84,11 @@ weight-bound n lows highs ok k r few below waits = by-cases (decLt 0 c) some non
     none light = let nothing : c ≡ 0 = omega arith in rw nothing (omega arith)
 
 -- 77 × 78 is more than twice 3,000.
-pub weight-few : (n : ℕ) (lows highs : List ℕ) → Accepted n lows highs → (k r : ℕ) → k ≤ n → r < n
+pub weight-few : (n : ℕ) (lows highs : List ℕ) → Accepted n lows highs → (k r : ℕ) → r < n
     → has (placed n lows highs k) r ≡ false → weight (linked lows highs) (placed n lows highs k) r ≤ 76
-weight-few n lows highs ok k r few below waits =
+weight-few n lows highs ok k r below waits =
     let c = weight (linked lows highs) (placed n lows highs k) r in
     let light : ¬ (77 ≤ c) = λ heavy.
     let product : 77 * 78 ≤ c * suc c = mul-le-mul {n₁ = 77} {m₁ = 78} heavy (omega arith) in
-    omega (arith, product, weight-bound n lows highs ok k r few below waits, accepted n lows highs ok .short) in
+    omega (arith, product, weight-bound n lows highs ok k r below waits, accepted n lows highs ok .short) in
     omega arith

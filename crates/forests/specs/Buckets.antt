@@ -14,7 +14,7 @@ unfoldable pub wordOf : ℕ → ℕ → ℕ
 wordOf count r = r / 64 * 80 + count
 
 unfoldable pub slotOf : ℕ → ℕ → ℕ
-slotOf count r = (r / 64 * 80 + count) * 64 + r % 64
+slotOf count r = wordOf count r * 64 + r % 64
 
 -- A relay's bit is set in the word of its count alone, and counts are below 78.
 pub record Buckets (counts bits : List ℕ) : Type 0 where

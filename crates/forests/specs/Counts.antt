@@ -21,7 +21,8 @@ pub record StartCounts (n : ℕ) (counts : List ℕ) : Type 0 where
   pub waiting : (r : ℕ) → r < n → getD counts r 0 ≡ 1
   pub rest : (r : ℕ) → n ≤ r → getD counts r 0 ≡ 0
 
--- x is the lowest of the relays with the greatest count.
+-- x is the lowest of the relays with the greatest count: document 01's "unplaced relay with the most links to placed ones, of
+-- equals the lowest relay number".
 pub record Heaviest (counts : List ℕ) (x : ℕ) : Type 0 where
   pub most : (r : ℕ) → getD counts r 0 ≤ getD counts x 0
   pub lowest : (r : ℕ) → getD counts r 0 ≡ getD counts x 0 → x ≤ r

@@ -4,6 +4,7 @@ use crate::boundaries::boundaries;
 use crate::facts::{disjoint, kept, parts};
 use crate::flow::{self, greatest};
 use crate::generate::{Network, any, damage, scratch};
+use crate::lengths::{Lengths, any_length, mostly_enough};
 use crate::library::{self, Report, SHEET};
 use crate::random::Random;
 use crate::sweep::{self, Wish};
@@ -11,29 +12,6 @@ use crate::table::{self, Refusal};
 use crate::tally::Tally;
 use crate::wishes::{any_wish, line, wish};
 use crate::{forests, plan, text};
-
-/// Draws a length for a lent list of which so many entries are needed.
-pub type Lengths = fn(&mut Random, usize) -> usize;
-
-/// Exact, one short, none, a little or far too long.
-pub fn any_length(random: &mut Random, exact: usize) -> usize {
-    match random.below(12) {
-        0 => exact.saturating_sub(1),
-        1 => 0,
-        2 => random.below(exact + 1),
-        3 => exact + 5000,
-        4 | 5 => exact + 1,
-        6 => exact + random.below(100),
-        _ => exact,
-    }
-}
-
-/// The same, but seldom too short.
-fn mostly_enough(random: &mut Random, exact: usize) -> usize {
-    let short = random.once_in(3);
-    let length = any_length(random, exact);
-    if short { length } else { length.max(exact) }
-}
 
 fn one<T: Into<u64>>(outcome: Result<T, Refusal>) -> Report {
     Report::of(outcome.map(|value| [value.into(), 0]))

@@ -8,6 +8,7 @@ pub mod facts;
 pub mod flow;
 pub mod forests;
 pub mod generate;
+pub mod lengths;
 #[cfg(feature = "library")]
 pub mod library;
 pub mod manner;

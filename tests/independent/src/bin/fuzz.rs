@@ -2,8 +2,9 @@
 //! library with the second version on each: Read and the planner on texts, every operation on tables.
 //! fuzz [SECONDS [SEED]]: 60 seconds and seed 1 if not given. The same seed tries the same inputs in the same order.
 
-use independent::against::{any_length, input, operations, planned, read};
+use independent::against::{input, operations, planned, read};
 use independent::generate::{Network, alter, any, damage, mend, scratch};
+use independent::lengths::any_length;
 use independent::manner::{self, Lefts, Manner};
 use independent::random::Random;
 use independent::tally::Tally;
