@@ -1,5 +1,6 @@
-//! Document 01 in plain Rust, by a second hand: nothing here was taken from the proved code or its definitions.
-//! The slow modules follow the paper's words; `swift` and `swift_text` have the same results by the methods an ordinary program would use.
+//! Document 01 in plain Rust, by a second hand. The slow modules, which the library is compared with, follow the paper's words, and
+//! nothing in them was taken from the proved code or its definitions; `swift` and `swift_text`, which it is timed beside, have the same
+//! results by the methods an ordinary program would use, and of them `swift::Buckets` is built as the library is.
 
 #[cfg(feature = "library")]
 pub mod against;
