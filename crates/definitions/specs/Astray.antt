@@ -1,19 +1,23 @@
 -- Document 01, 'Where planners have gone astray': for each mistake a network on which it gives another answer.
 -- The networks were found by search; the mistakes that are edits of a definition stand in must-fail/. Assumes nothing.
-use Prim.Native.Nat.{ℕ, zero, suc, _<_, _≤_}
-use mathlib.Core.Bool.{true}
+use Prim.Native.Nat.{ℕ, zero, suc, _<_}
+use mathlib.Core.Bool.{Bool, true, false, _||_}
 use mathlib.Core.List.{List, [], _∷_}
-use mathlib.Core.Logic.{inl, inr}
+use mathlib.Core.Logic.{_⊎_, inl, inr}
 use mathlib.Core.Path.{_≡_, refl}
 use native.Mathlib.Omega.{arith}
+use lib.Dec.{eqb}
+use lib.ListN.{length}
+use borrow.Author.Tests.{eqb-true}
 use Rattle.definitions.specs.Outcome.{refused}
+use Rattle.definitions.specs.Lists.{has}
 use Rattle.definitions.specs.Route.{routeAnswer, routesOf}
 use Rattle.definitions.specs.Text.{Network}
-use Rattle.definitions.specs.Demand.{RouteHolds}
+use Rattle.definitions.specs.Demand.{uses, RouteHolds, Apart}
 use Rattle.definitions.specs.Networks.{square, mesh, lent}
 use Rattle.definitions.specs.Opened.{opened}
 
-abbrev routes : Network → ℕ → ℕ → ℕ → List (List ℕ)
+abbrev routes : (w : Network) (from to k : ℕ) → List (List ℕ)
 routes w from to k = routesOf (w .relays) (w .lows) (w .highs) k from to
 
 -- "Walking each forest's own tree path. In the mesh 4 2 0 1 and 4 3 2 1 share relay 2."
@@ -26,10 +30,45 @@ not-tree-paths = refl
 abbrev squareRoute : List ℕ → Type 0
 squareRoute = RouteHolds (square .lows) (square .highs) (1 ∷ 1 ∷ 1 ∷ 1 ∷ []) 0 2
 
+not-both : false ≡ true → ⊥
+not-both e = let z : _≡_ {A = ℕ} 0 1 = cc in omega arith
+
+-- A relay of three is one of them.
+one-of : (a b c r : ℕ) → has (a ∷ b ∷ c ∷ []) r ≡ true → (a ≡ r) ⊎ ((b ≡ r) ⊎ (c ≡ r))
+unfolding has
+one-of a b c r = go (eqb a r) (eqb b r) (eqb c r) refl refl refl
+  where
+    go : (p q s : Bool) → eqb a r ≡ p → eqb b r ≡ q → eqb c r ≡ s → (p || (q || (s || false))) ≡ true
+        → (a ≡ r) ⊎ ((b ≡ r) ⊎ (c ≡ r))
+    go true q s ea eb ec h = inl (eqb-true a r ea)
+    go false true s ea eb ec h = inr (inl (eqb-true b r eb))
+    go false false true ea eb ec h = inr (inr (eqb-true c r ec))
+    go false false false ea eb ec h = absurd (not-both h)
+
+square-relays : (r : ℕ) → has (0 ∷ 1 ∷ 2 ∷ []) r ≡ true → has (0 ∷ 3 ∷ 2 ∷ []) r ≡ true → (r ≡ 0) ⊎ (r ≡ 2)
+square-relays r h l = go (one-of 0 1 2 r h) (one-of 0 3 2 r l)
+  where
+    go : (0 ≡ r) ⊎ ((1 ≡ r) ⊎ (2 ≡ r)) → (0 ≡ r) ⊎ ((3 ≡ r) ⊎ (2 ≡ r)) → (r ≡ 0) ⊎ (r ≡ 2)
+    go (inl e) other = inl (omega arith)
+    go (inr (inr e)) other = inr (omega arith)
+    go (inr (inl e)) (inl d) = absurd (omega arith)
+    go (inr (inl e)) (inr (inl d)) = absurd (omega arith)
+    go (inr (inl e)) (inr (inr d)) = absurd (omega arith)
+
+square-links : (i : ℕ) → i < length (square .lows) → uses (square .lows) (square .highs) i (0 ∷ 1 ∷ 2 ∷ []) ≡ true
+    → uses (square .lows) (square .highs) i (0 ∷ 3 ∷ 2 ∷ []) ≡ true → ⊥
+unfolding opened
+square-links zero h one other = not-both other
+square-links (suc zero) h one other = not-both other
+square-links (suc (suc zero)) h one other = not-both one
+square-links (suc (suc (suc zero))) h one other = not-both one
+square-links (suc (suc (suc (suc i)))) h one other = omega arith
+
 pub thirteen-with-routes :
     (routeAnswer 4 (square .lows) (square .highs) 2 0 2 (lent 2) (lent 6) (lent 8) ≡ refused 13 0)
     × squareRoute (0 ∷ 1 ∷ 2 ∷ [])
     × squareRoute (0 ∷ 3 ∷ 2 ∷ [])
+    × Apart (square .lows) (square .highs) 0 2 (0 ∷ 1 ∷ 2 ∷ []) (0 ∷ 3 ∷ 2 ∷ [])
 unfolding opened
 thirteen-with-routes = (
   refl,
@@ -47,6 +86,7 @@ thirteen-with-routes = (
     along = ((3, omega arith, refl, refl), ((2, omega arith, refl, refl), tt));
     noRepeat = (refl, (refl, (refl, tt)));
   },
+  record { relays = square-relays; links = square-links },
 )
 
 -- "Closing an A-path and a B-path of different indices where they meet (document 002, figure 4)." Here the routes would

@@ -8,9 +8,9 @@ use mathlib.Core.Path.{_≡_}
 use lib.Dec.{eqb}
 use lib.ListN.{length, getD, take, drop}
 use Rattle.definitions.specs.Outcome.{Answer, refused, done}
-use Rattle.definitions.specs.Lists.{table, has, count, total}
+use Rattle.definitions.specs.Lists.{has, count, total}
 use Rattle.definitions.specs.Network.{joins, linked, Accepted}
-use Rattle.definitions.specs.Order.{orderAnswer, relaysAfter, placesAfter}
+use Rattle.definitions.specs.Order.{allRelays, orderAnswer, relaysAfter, placesAfter}
 use Rattle.definitions.specs.Forests.{splitAnswer, forestsAfter, cutAnswer, marksAfter}
 use Rattle.definitions.specs.Route.{tooShort, routeAnswer, countsAfter, routeRelaysAfter}
 
@@ -21,58 +21,58 @@ pub data Joined (live : ℕ → Type 0) (link : ℕ → ℕ → Type 0) : ℕ �
   onward : {a b c : ℕ} → live a → link a b → Joined live link b c → Joined live link a c
 
 -- A link of the table, of those that the property picks by their index, joins a and b.
-abbrev pub LinkOf : List ℕ → List ℕ → (ℕ → Type 0) → ℕ → ℕ → Type 0
+abbrev pub LinkOf : (lows highs : List ℕ) (picked : ℕ → Type 0) (a b : ℕ) → Type 0
 LinkOf lows highs picked a b = (i : ℕ) × (i < length lows) × (joins lows highs a b i ≡ true) × picked i
 
 -- "All the links are those of the table."
-abbrev pub AnyLink : ℕ → Type 0
+abbrev pub AnyLink : (i : ℕ) → Type 0
 AnyLink i = Unit {0}
 
 -- "A link is kept if Cut marks it 1."
-abbrev pub Kept : List ℕ → ℕ → Type 0
+abbrev pub Kept : (marks : List ℕ) (i : ℕ) → Type 0
 Kept marks i = getD marks i 0 ≡ 1
 
 -- "forest i holds the links that Split gives the number i"
-abbrev pub InForest : List ℕ → ℕ → ℕ → Type 0
+abbrev pub InForest : (forests : List ℕ) (f i : ℕ) → Type 0
 InForest forests f i = getD forests i 0 ≡ f
 
 -- "Any of its relays may be found dead, none or all of them; the others are live."
-abbrev pub Live : ℕ → (ℕ → Bool) → ℕ → Type 0
+abbrev pub Live : (n : ℕ) (dead : ℕ → Bool) (r : ℕ) → Type 0
 Live n dead r = (r < n) × (dead r ≡ false)
 
 -- How many of the n relays are dead.
-abbrev pub deadCount : ℕ → (ℕ → Bool) → ℕ
-deadCount n dead = count dead (table (λ r. r) 0 n)
+abbrev pub deadCount : (n : ℕ) (dead : ℕ → Bool) → ℕ
+deadCount n dead = count dead (allRelays n)
 
 -- "Two relays are in one tree of forest i if they are equal or joined by links of forest i alone."
-abbrev pub OneTree : List ℕ → List ℕ → List ℕ → ℕ → ℕ → ℕ → Type 0
+abbrev pub OneTree : (lows highs forests : List ℕ) (f a b : ℕ) → Type 0
 OneTree lows highs forests f a b = Joined (λ _. Unit {0}) (LinkOf lows highs (InForest forests f)) a b
 
 -- "its links join each of its relays to the next"
-abbrev pub AlongFrom : (ℕ → ℕ → Type 0) → ℕ → List ℕ → Type 0
+abbrev pub AlongFrom : (link : ℕ → ℕ → Type 0) (a : ℕ) (rest : List ℕ) → Type 0
 AlongFrom link a [] = Unit {0}
 AlongFrom link a (b ∷ rest) = link a b × AlongFrom link b rest
 
-abbrev pub Along : (ℕ → ℕ → Type 0) → List ℕ → Type 0
+abbrev pub Along : (link : ℕ → ℕ → Type 0) (route : List ℕ) → Type 0
 Along link [] = Unit {0}
 Along link (a ∷ rest) = AlongFrom link a rest
 
 -- Link i of the table joins some relay of the route, from a on, to the next.
-unfoldable pub usesFrom : List ℕ → List ℕ → ℕ → ℕ → List ℕ → Bool
+unfoldable pub usesFrom : (lows highs : List ℕ) (i a : ℕ) (rest : List ℕ) → Bool
 usesFrom lows highs i a [] = false
 usesFrom lows highs i a (b ∷ rest) = joins lows highs a b i || usesFrom lows highs i b rest
 
-unfoldable pub uses : List ℕ → List ℕ → ℕ → List ℕ → Bool
+unfoldable pub uses : (lows highs : List ℕ) (i : ℕ) (route : List ℕ) → Bool
 uses lows highs i [] = false
 uses lows highs i (a ∷ rest) = usesFrom lows highs i a rest
 
 -- No relay stands twice.
-abbrev pub NoRepeat : List ℕ → Type 0
+abbrev pub NoRepeat : (route : List ℕ) → Type 0
 NoRepeat [] = Unit {0}
 NoRepeat (r ∷ rest) = (has rest r ≡ false) × NoRepeat rest
 
 -- "A route is as Route's two lists give it": the relay list cut up by the counts.
-unfoldable pub cutUp : List ℕ → List ℕ → List (List ℕ)
+unfoldable pub cutUp : (counts relays : List ℕ) → List (List ℕ)
 cutUp [] relays = []
 cutUp (size ∷ counts) relays = take size relays ∷ cutUp counts (drop size relays)
 

@@ -11,64 +11,65 @@ use Rattle.definitions.specs.Network.{linked, tableCheck}
 use Rattle.definitions.specs.Order.{orderOf, placeOf, relayAt}
 
 -- "a relay's earlier neighbours [are] those with a lower place, in rising place": of the relay at place v, as places.
-unfoldable pub earlier : (ℕ → ℕ → Bool) → List ℕ → ℕ → List ℕ
+unfoldable pub earlier : (linked : ℕ → ℕ → Bool) (order : List ℕ) (v : ℕ) → List ℕ
 earlier linked order zero = []
 earlier linked order (suc v) =
     pick (ltb v (length order)) (rising (λ u. linked (relayAt order u) (relayAt order (suc v))) v) []
 
 -- "left(i, v) is that neighbour of v": the i-th earlier neighbour, i from 1; 0 if there is none.
-unfoldable pub left : (ℕ → ℕ → Bool) → List ℕ → ℕ → ℕ → ℕ
+unfoldable pub left : (linked : ℕ → ℕ → Bool) (order : List ℕ) (i v : ℕ) → ℕ
 left linked order zero v = 0
 left linked order (suc i) v = getD (earlier linked order v) i 0
 
 -- "The link to the i-th of them belongs to forest i": the forest of a link between places u and v, u the earlier.
-unfoldable pub forestBetween : (ℕ → ℕ → Bool) → List ℕ → ℕ → ℕ → ℕ
+unfoldable pub forestBetween : (linked : ℕ → ℕ → Bool) (order : List ℕ) (u v : ℕ) → ℕ
 forestBetween linked order u v = position (earlier linked order v) u
 
 -- The forest of link i of the table.
-unfoldable pub forestOf : (ℕ → ℕ → Bool) → List ℕ → List ℕ → List ℕ → ℕ → ℕ
+unfoldable pub forestOf : (linked : ℕ → ℕ → Bool) (order lows highs : List ℕ) (i : ℕ) → ℕ
 forestOf linked order lows highs i =
     let p = placeOf order (getD lows i 0) in
     let q = placeOf order (getD highs i 0) in
     forestBetween linked order (min p q) (max p q)
 
 -- The forest number of each link, in the order of the table.
-unfoldable pub forestsOf : ℕ → List ℕ → List ℕ → List ℕ
+unfoldable pub forestsOf : (n : ℕ) (lows highs : List ℕ) → List ℕ
 forestsOf n lows highs = table (forestOf (linked lows highs) (orderOf n lows highs) lows highs) 0 (length lows)
 
 -- The first place of the tree of forest i that v is in: in forest i each place has at most one link to an earlier one,
 -- left(i, v), so following these leads there. At most `steps` of them.
-unfoldable pub rootWithin : (ℕ → ℕ → ℕ) → ℕ → ℕ → ℕ → ℕ
+unfoldable pub rootWithin : (left : ℕ → ℕ → ℕ) (i steps v : ℕ) → ℕ
 rootWithin left i zero v = v
 rootWithin left i (suc steps) v = pick (eqb (left i v) 0) v (rootWithin left i steps (left i v))
 
 -- "Two relays are in one tree of forest i if they are equal or joined by links of forest i alone": as a test on places.
-unfoldable pub oneTree : (ℕ → ℕ → ℕ) → ℕ → ℕ → ℕ → Bool
+-- v steps suffice from v: each leads to a lower place, and none leads on from 0.
+unfoldable pub oneTree : (left : ℕ → ℕ → ℕ) (i u v : ℕ) → Bool
 oneTree left i u v = eqb (rootWithin left i u u) (rootWithin left i v v)
 
 -- "Split. Table check, then 12, the list of forest numbers shorter than m. The answer is the highest forest used, 0
 -- without links."
-unfoldable pub splitAnswer : ℕ → List ℕ → List ℕ → List ℕ → Answer
+unfoldable pub splitAnswer : (n : ℕ) (lows highs forests : List ℕ) → Answer
 splitAnswer n lows highs forests =
     andThen (tableCheck n lows highs) λ _.
     refuseIf (ltb (length forests) (length lows)) 12 0
     (done (greatest (forestsOf n lows highs) ∷ []))
 
 -- The list of forest numbers afterwards.
-unfoldable pub forestsAfter : ℕ → List ℕ → List ℕ → List ℕ → List ℕ
+unfoldable pub forestsAfter : (n : ℕ) (lows highs forests : List ℕ) → List ℕ
 forestsAfter n lows highs forests =
     ifDone (splitAnswer n lows highs forests) (overwrite (forestsOf n lows highs) forests) forests
 
 -- "Cutting down to k keeps the links of forests 1 to k": the mark of a link of this forest, 1 kept, 0 dropped.
-unfoldable pub markOf : ℕ → ℕ → ℕ
-markOf k forest = pick (leb forest k) 1 0
+unfoldable pub markOf : (k forest : ℕ) → ℕ
+markOf k forest = pick (outside 1 k forest) 0 1
 
 -- The mark of each link, in the order of the table.
-unfoldable pub marksOf : ℕ → List ℕ → List ℕ → ℕ → List ℕ
+unfoldable pub marksOf : (n : ℕ) (lows highs : List ℕ) (k : ℕ) → List ℕ
 marksOf n lows highs k = map (markOf k) (forestsOf n lows highs)
 
 -- "Cut. Table check; 9, k outside 1 to 32; 12, the list of marks shorter than m. The answer is the count of ones."
-unfoldable pub cutAnswer : ℕ → List ℕ → List ℕ → ℕ → List ℕ → Answer
+unfoldable pub cutAnswer : (n : ℕ) (lows highs : List ℕ) (k : ℕ) (marks : List ℕ) → Answer
 cutAnswer n lows highs k marks =
     andThen (tableCheck n lows highs) λ _.
     refuseIf (outside 1 32 k) 9 0
@@ -76,6 +77,6 @@ cutAnswer n lows highs k marks =
     (done (total (marksOf n lows highs k) ∷ [])))
 
 -- The list of marks afterwards.
-unfoldable pub marksAfter : ℕ → List ℕ → List ℕ → ℕ → List ℕ → List ℕ
+unfoldable pub marksAfter : (n : ℕ) (lows highs : List ℕ) (k : ℕ) (marks : List ℕ) → List ℕ
 marksAfter n lows highs k marks =
     ifDone (cutAnswer n lows highs k marks) (overwrite (marksOf n lows highs k) marks) marks

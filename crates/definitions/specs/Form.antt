@@ -27,63 +27,63 @@ pub data Scan : Type 0 where
   reads : List ℕ → ℕ → Scan
 
 -- The byte at an offset; past the end 0, which departs from every form: "the length, if it ends early".
-unfoldable pub byteAt : List ℕ → ℕ → ℕ
+unfoldable pub byteAt : (text : List ℕ) (p : ℕ) → ℕ
 byteAt text p = getD text p 0
 
-unfoldable pub scanWord : List ℕ → List ℕ → ℕ → Scan
+unfoldable pub scanWord : (text letters : List ℕ) (p : ℕ) → Scan
 scanWord text [] p = reads [] p
 scanWord text (b ∷ rest) p = pick (eqb (byteAt text p) b) (scanWord text rest (p + 1)) (departs p)
 
 -- Later digits, 0 to 9, at most `more` of them, behind the number x.
-unfoldable pub scanDigits : List ℕ → ℕ → ℕ → ℕ → Scan
+unfoldable pub scanDigits : (text : List ℕ) (x p more : ℕ) → Scan
 scanDigits text x p zero = reads (x ∷ []) p
 scanDigits text x p (suc more) =
     pick (outside 48 57 (byteAt text p)) (reads (x ∷ []) p)
     (scanDigits text (x * 10 + (byteAt text p - 48)) (p + 1) more)
 
 -- "A number is one to four digits, with no zero in front except in `0` itself."
-unfoldable pub scanNumber : List ℕ → ℕ → Scan
+unfoldable pub scanNumber : (text : List ℕ) (p : ℕ) → Scan
 scanNumber text p =
     pick (eqb (byteAt text p) 48) (reads (0 ∷ []) (p + 1))
     (pick (outside 49 57 (byteAt text p)) (departs p)
     (scanDigits text (byteAt text p - 48) (p + 1) 3))
 
-unfoldable pub scanItem : List ℕ → Item → ℕ → Scan
+unfoldable pub scanItem : (text : List ℕ) (item : Item) (p : ℕ) → Scan
 scanItem text (word w) p = scanWord text w p
 scanItem text numeral p = scanNumber text p
 
 -- The numbers of both, where the second reads on from the first.
-unfoldable pub withFront : List ℕ → Scan → Scan
+unfoldable pub withFront : (front : List ℕ) (second : Scan) → Scan
 withFront front (departs p) = departs p
 withFront front (reads values p) = reads (front ++ values) p
 
-unfoldable pub following : Scan → (ℕ → Scan) → Scan
+unfoldable pub following : (first : Scan) (next : ℕ → Scan) → Scan
 following (departs p) next = departs p
 following (reads values p) next = withFront values (next p)
 
 -- A form, from an offset on.
-unfoldable pub scanForm : List ℕ → List Item → ℕ → Scan
+unfoldable pub scanForm : (text : List ℕ) (form : List Item) (p : ℕ) → Scan
 scanForm text [] p = reads [] p
 scanForm text (item ∷ items) p = following (scanItem text item p) (scanForm text items)
 
 -- The refusal `number` at the byte that departs; else the next step, with what was read and the offset behind it.
-unfoldable pub onScan : {A : Type 0} → ℕ → Scan → (List ℕ → ℕ → Outcome A) → Outcome A
+unfoldable pub onScan : {A : Type 0} (number : ℕ) (scan : Scan) (next : List ℕ → ℕ → Outcome A) → Outcome A
 onScan number (departs p) next = refused number p
 onScan number (reads values p) next = next values p
 
 -- A number in base ten, at most `fuel` + 1 digits of it.
-unfoldable pub decimalWithin : ℕ → ℕ → List ℕ
+unfoldable pub decimalWithin : (fuel x : ℕ) → List ℕ
 decimalWithin zero x = (48 + x % 10) ∷ []
 decimalWithin (suc fuel) x =
     let tens = decimalWithin fuel (x / 10) in
     pick (ltb x 10) ((48 + x) ∷ []) (tens ++ ((48 + x % 10) ∷ []))
 
--- "reads numbers in base ten", "with as many digits as it takes".
-unfoldable pub decimal : ℕ → List ℕ
+-- Numbers are in base ten, "with as many digits as it takes": a number above 0 has no more digits than it counts.
+unfoldable pub decimal : (x : ℕ) → List ℕ
 decimal x = decimalWithin x x
 
 -- A form written with its numbers.
-unfoldable pub writeForm : List Item → List ℕ → List ℕ
+unfoldable pub writeForm : (form : List Item) (values : List ℕ) → List ℕ
 writeForm [] values = []
 writeForm (word w ∷ items) values = w ++ writeForm items values
 writeForm (numeral ∷ items) [] = []

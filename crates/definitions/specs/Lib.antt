@@ -9,9 +9,11 @@ pub mod Route
 pub mod Form
 pub mod Text
 pub mod Plan
+pub mod Lease
 pub mod Demand
+pub mod SheetPromise
 pub mod Networks
 pub mod Opened
-pub mod Marked
-pub mod Others
+pub mod PExamples
+pub mod OtherExamples
 pub mod Astray

@@ -10,35 +10,35 @@ use Rattle.definitions.specs.Outcome.{pick, Outcome, done, Answer, refus
 use Rattle.definitions.specs.Lists.{outside, someBelow}
 
 -- The first pair number of the links whose high relay is b.
-unfoldable pub rowStart : ℕ → ℕ
+unfoldable pub rowStart : (b : ℕ) → ℕ
 rowStart b = b * (b - 1) / 2
 
 -- "The pair number of a link A B is B × (B − 1) / 2 + A."
-unfoldable pub pairNumber : ℕ → ℕ → ℕ
+unfoldable pub pairNumber : (a b : ℕ) → ℕ
 pairNumber a b = rowStart b + a
 
 -- "5: a relay number of 1,000 or more. 6: A not below B. The answer is the pair number."
-unfoldable pub pairAnswer : ℕ → ℕ → Answer
+unfoldable pub pairAnswer : (a b : ℕ) → Answer
 pairAnswer a b =
     refuseIf (leb 1000 a || leb 1000 b) 5 0
     (refuseIf (leb b a) 6 0
     (done (pairNumber a b ∷ [])))
 
 -- "held as its low and its high relay number": link i of the table is the pair a b.
-unfoldable pub isPair : List ℕ → List ℕ → ℕ → ℕ → ℕ → Bool
+unfoldable pub isPair : (lows highs : List ℕ) (a b i : ℕ) → Bool
 isPair lows highs a b i = eqb (getD lows i 0) a && eqb (getD highs i 0) b
 
 -- Link i of the table joins a and b, whichever is the lower.
-unfoldable pub joins : List ℕ → List ℕ → ℕ → ℕ → ℕ → Bool
+unfoldable pub joins : (lows highs : List ℕ) (a b i : ℕ) → Bool
 joins lows highs a b i = isPair lows highs a b i || isPair lows highs b a i
 
 -- Some link of the table joins a and b.
-unfoldable pub linked : List ℕ → List ℕ → ℕ → ℕ → Bool
+unfoldable pub linked : (lows highs : List ℕ) (a b : ℕ) → Bool
 linked lows highs a b = someBelow (joins lows highs a b) (length lows)
 
 -- What is wrong with a link a b that comes after the first i links of the table, or 0:
 -- "5, A or B not below n; 6, A not below B; 7, a pair that an earlier line has".
-unfoldable pub linkFault : ℕ → List ℕ → List ℕ → ℕ → ℕ → ℕ → ℕ
+unfoldable pub linkFault : (n : ℕ) (lows highs : List ℕ) (i a b : ℕ) → ℕ
 linkFault n lows highs i a b =
     pick (leb n a || leb n b) 5
     (pick (leb b a) 6
@@ -46,19 +46,19 @@ linkFault n lows highs i a b =
     0))
 
 -- "then link by link 5, 6, 7", for `count` links from link i on; the place is the link's index.
-unfoldable pub linksCheck : ℕ → List ℕ → List ℕ → ℕ → ℕ → Answer
+unfoldable pub linksCheck : (n : ℕ) (lows highs : List ℕ) (i count : ℕ) → Answer
 linksCheck n lows highs i zero = done []
 linksCheck n lows highs i (suc count) =
     let fault = linkFault n lows highs i (getD lows i 0) (getD highs i 0) in
     refuseIf (ltb 0 fault) fault i (linksCheck n lows highs (i + 1) count)
 
 -- "Table check: 3; then 4, lists of unequal length (m is their length) or over 3,000; then link by link 5, 6, 7."
-unfoldable pub tableCheck : ℕ → List ℕ → List ℕ → Answer
+unfoldable pub tableCheck : (n : ℕ) (lows highs : List ℕ) → Answer
 tableCheck n lows highs =
     refuseIf (outside 1 1000 n) 3 0
     (refuseIf (not (eqb (length lows) (length highs)) || ltb 3000 (length lows)) 4 0
     (linksCheck n lows highs 0 (length lows)))
 
 -- "An accepted network is one that passes the table check."
-abbrev pub Accepted : ℕ → List ℕ → List ℕ → Type 0
+abbrev pub Accepted : (n : ℕ) (lows highs : List ℕ) → Type 0
 Accepted n lows highs = tableCheck n lows highs ≡ done []

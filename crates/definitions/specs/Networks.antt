@@ -1,7 +1,7 @@
 -- The networks of document 01, and what an example is: an outcome and lent lists that come out as they are due.
 -- Assumes nothing.
 use Prim.Native.Nat.{ℕ}
-use mathlib.Core.List.{List, [], _∷_}
+use mathlib.Core.List.{List, [], _∷_, map}
 use mathlib.Core.Path.{_≡_}
 use lib.ListN.{replicate}
 use Rattle.definitions.specs.Outcome.{Answer}
@@ -20,10 +20,9 @@ pub record Example : Type 0 where
   pub found : Result
   pub due : Result
 
--- Each example of a list comes out as it is due.
-abbrev pub AllHold : List Example → Type 0
-AllHold [] = Unit {0}
-AllHold (e ∷ examples) = (e .found ≡ e .due) × AllHold examples
+-- Each example of a list comes out as it is due: the list of what is found is the list of what is due.
+abbrev pub AllHold : (examples : List Example) → Type 0
+AllHold examples = map (λ e. e .found) examples ≡ map (λ e. e .due) examples
 
 -- "Square: links 0 1, 1 2, 2 3, 0 3."
 abbrev pub square : Network
@@ -44,21 +43,21 @@ mesh =
     }
 
 -- So many relays and no link.
-abbrev pub bare : ℕ → Network
+abbrev pub bare : (n : ℕ) → Network
 bare n = record { relays = n; lows = []; highs = [] }
 
--- A lent list of so many entries 7, which no operation writes by chance.
-abbrev pub lent : ℕ → List ℕ
+-- A lent list of so many entries 7: no example has a 7 among what is written, so what stays 7 was not written.
+abbrev pub lent : (size : ℕ) → List ℕ
 lent size = replicate size 7
 
-abbrev pub checkOf : Network → Result
+abbrev pub checkOf : (w : Network) → Result
 checkOf w = record { answer = tableCheck (w .relays) (w .lows) (w .highs); lists = [] }
 
-abbrev pub pairOf : ℕ → ℕ → Result
+abbrev pub pairOf : (a b : ℕ) → Result
 pairOf a b = record { answer = pairAnswer a b; lists = [] }
 
 -- Order with two lists of this length.
-abbrev pub orderWith : ℕ → Network → Result
+abbrev pub orderWith : (size : ℕ) (w : Network) → Result
 orderWith size w =
     record {
       answer = orderAnswer (w .relays) (w .lows) (w .highs) (lent size) (lent size);
@@ -69,7 +68,7 @@ orderWith size w =
     }
 
 -- Split with a list of this length.
-abbrev pub splitWith : ℕ → Network → Result
+abbrev pub splitWith : (size : ℕ) (w : Network) → Result
 splitWith size w =
     record {
       answer = splitAnswer (w .relays) (w .lows) (w .highs) (lent size);
@@ -77,7 +76,7 @@ splitWith size w =
     }
 
 -- Cut to k with a list of this length.
-abbrev pub cutWith : ℕ → Network → ℕ → Result
+abbrev pub cutWith : (size : ℕ) (w : Network) (k : ℕ) → Result
 cutWith size w k =
     record {
       answer = cutAnswer (w .relays) (w .lows) (w .highs) k (lent size);
@@ -85,7 +84,7 @@ cutWith size w k =
     }
 
 -- Route with lists of these lengths: counts, relays, scratch.
-abbrev pub routeWith : ℕ → ℕ → ℕ → Network → ℕ → ℕ → ℕ → Result
+abbrev pub routeWith : (c r x : ℕ) (w : Network) (from to k : ℕ) → Result
 routeWith c r x w from to k =
     record {
       answer = routeAnswer (w .relays) (w .lows) (w .highs) k from to (lent c) (lent r) (lent x);

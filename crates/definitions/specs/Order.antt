@@ -1,5 +1,5 @@
 -- Document 01, 'The order': a maximal adjacency ordering (document 002, section 2) with its ties fixed.
--- Over any test `linked`, any rising list of candidate relays and any first relay; the base takes all relays and relay 0.
+-- Over any test `linked`, any rising list of candidate relays and any first relay; `orderOf` takes all relays and `firstRelay`.
 use Prim.Native.Nat.{ℕ, zero, suc, _+_, pred}
 use mathlib.Core.Bool.{Bool, _||_, not}
 use mathlib.Core.List.{List, [], _∷_, _++_}
@@ -10,68 +10,77 @@ use Rattle.definitions.specs.Lists.{table, overwrite, keep, has, count, 
 use Rattle.definitions.specs.Network.{linked, tableCheck}
 
 -- "the most links to placed ones": how many placed relays are linked to r.
-unfoldable pub weight : (ℕ → ℕ → Bool) → List ℕ → ℕ → ℕ
+unfoldable pub weight : (linked : ℕ → ℕ → Bool) (placed : List ℕ) (r : ℕ) → ℕ
 weight linked placed r = count (λ p. linked p r) placed
 
 -- The first of the relays with the greatest weight among `best` and the rest: "of equals the lowest relay number".
-unfoldable pub heaviest : (ℕ → ℕ) → ℕ → List ℕ → ℕ
+unfoldable pub heaviest : (weightOf : ℕ → ℕ) (best : ℕ) (rest : List ℕ) → ℕ
 heaviest weightOf best [] = best
 heaviest weightOf best (r ∷ rest) = heaviest weightOf (pick (ltb (weightOf best) (weightOf r)) r best) rest
 
 -- The candidates that have no place yet.
-unfoldable pub unplaced : List ℕ → List ℕ → List ℕ
+unfoldable pub unplaced : (placed candidates : List ℕ) → List ℕ
 unplaced placed candidates = keep (λ r. not (has placed r)) candidates
 
 -- The heaviest of a list; 0 of an empty one.
-unfoldable pub heaviestOf : (ℕ → ℕ) → List ℕ → ℕ
+unfoldable pub heaviestOf : (weightOf : ℕ → ℕ) (relays : List ℕ) → ℕ
 heaviestOf weightOf [] = 0
 heaviestOf weightOf (r ∷ rest) = heaviest weightOf r rest
 
--- "Relay 0 is first. Next comes always the unplaced relay with the most links to placed ones, of equals the lowest relay number."
-unfoldable pub nextRelay : (ℕ → ℕ → Bool) → ℕ → List ℕ → List ℕ → ℕ
+-- The first relay where none is placed. "Next comes always the unplaced relay with the most links to placed ones, of equals the
+-- lowest relay number."
+unfoldable pub nextRelay : (linked : ℕ → ℕ → Bool) (first : ℕ) (candidates placed : List ℕ) → ℕ
 nextRelay linked first candidates [] = first
 nextRelay linked first candidates (p ∷ placed) =
     heaviestOf (weight linked (p ∷ placed)) (unplaced (p ∷ placed) candidates)
 
 -- The placed relays with the next one behind them.
-unfoldable pub placeNext : (ℕ → ℕ → Bool) → ℕ → List ℕ → List ℕ → List ℕ
+unfoldable pub placeNext : (linked : ℕ → ℕ → Bool) (first : ℕ) (candidates placed : List ℕ) → List ℕ
 placeNext linked first candidates placed = placed ++ (nextRelay linked first candidates placed ∷ [])
 
 -- The first `steps` relays of the order.
-unfoldable pub placedAfter : (ℕ → ℕ → Bool) → ℕ → List ℕ → ℕ → List ℕ
+unfoldable pub placedAfter : (linked : ℕ → ℕ → Bool) (first : ℕ) (candidates : List ℕ) (steps : ℕ) → List ℕ
 placedAfter linked first candidates zero = []
 placedAfter linked first candidates (suc steps) =
     placeNext linked first candidates (placedAfter linked first candidates steps)
 
+-- All the relays of a network, "0 to n − 1".
+unfoldable pub allRelays : (n : ℕ) → List ℕ
+allRelays n = table (λ r. r) 0 n
+
+-- "Relay 0 is first."
+unfoldable pub firstRelay : (n : ℕ) (lows highs : List ℕ) → ℕ
+firstRelay n lows highs = 0
+
 -- "This goes on over unconnected parts too": all the relays, in their order.
-unfoldable pub orderOf : ℕ → List ℕ → List ℕ → List ℕ
-orderOf n lows highs = placedAfter (linked lows highs) 0 (table (λ r. r) 0 n) n
+unfoldable pub orderOf : (n : ℕ) (lows highs : List ℕ) → List ℕ
+orderOf n lows highs = placedAfter (linked lows highs) (firstRelay n lows highs) (allRelays n) n
 
 -- "A relay's place is 1 to n" (a term of document 01); 0 for no relay of the order.
-unfoldable pub placeOf : List ℕ → ℕ → ℕ
+unfoldable pub placeOf : (order : List ℕ) (r : ℕ) → ℕ
 placeOf order r = position order r
 
 -- The relay at a place of the order.
-unfoldable pub relayAt : List ℕ → ℕ → ℕ
+unfoldable pub relayAt : (order : List ℕ) (v : ℕ) → ℕ
 relayAt order v = getD order (pred v) 0
 
 -- "Order. Table check, then 12, either list (relay at each place, place of each relay) shorter than n."
-unfoldable pub orderAnswer : ℕ → List ℕ → List ℕ → List ℕ → List ℕ → Answer
+unfoldable pub orderAnswer : (n : ℕ) (lows highs relays places : List ℕ) → Answer
 orderAnswer n lows highs relays places =
     andThen (tableCheck n lows highs) λ _.
     refuseIf (ltb (length relays) n || ltb (length places) n) 12 0
     (done [])
 
 -- The list of relays afterwards: the relay at each place.
-unfoldable pub relaysAfter : ℕ → List ℕ → List ℕ → List ℕ → List ℕ → List ℕ
+unfoldable pub relaysAfter : (n : ℕ) (lows highs relays places : List ℕ) → List ℕ
 relaysAfter n lows highs relays places =
     ifDone (orderAnswer n lows highs relays places) (overwrite (orderOf n lows highs) relays) relays
 
 -- The place of each relay, from relay 0 on.
-unfoldable pub placesOf : ℕ → List ℕ → List ℕ
+unfoldable pub placesOf : (n : ℕ) (order : List ℕ) → List ℕ
 placesOf n order = table (placeOf order) 0 n
 
 -- The list of places afterwards.
-unfoldable pub placesAfter : ℕ → List ℕ → List ℕ → List ℕ → List ℕ → List ℕ
+unfoldable pub placesAfter : (n : ℕ) (lows highs relays places : List ℕ) → List ℕ
 placesAfter n lows highs relays places =
     ifDone (orderAnswer n lows highs relays places) (overwrite (placesOf n (orderOf n lows highs)) places) places

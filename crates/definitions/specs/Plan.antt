@@ -33,12 +33,20 @@ pub record Sheet : Type 0 where
   pub routes : List (List ℕ)
   pub kept : ℕ
 
--- The program's own lists are zeros, and long enough for every network: 12 and 8 never come up.
-unfoldable pub room : ℕ → List ℕ
+-- One of the program's own lists: zeros.
+unfoldable pub room : (size : ℕ) → List ℕ
 room size = replicate size 0
 
+-- The bytes of its input that the program takes in at most: a longer input is answered from these alone.
+unfoldable pub inputRoom : ℕ
+inputRoom = 45062
+
+-- The bytes that it has for its output.
+unfoldable pub outputRoom : ℕ
+outputRoom = 4608
+
 -- "It reads, cuts and routes, and the first refusal met is the one printed."
-unfoldable pub sheetFor : ℕ → ℕ → ℕ → Network → Outcome Sheet
+unfoldable pub sheetFor : (from to k : ℕ) (network : Network) → Outcome Sheet
 sheetFor from to k network =
     let n = network .relays in
     let lows = network .lows in
@@ -48,32 +56,32 @@ sheetFor from to k network =
     done (record { from = from; to = to; k = k; routes = routesOf n lows highs k from to; kept = getD kept 0 0 })
 
 -- "1: that line departs from its form, at the byte. Offsets for 2 count from the first byte after that line."
-unfoldable pub planned : List ℕ → Outcome Sheet
+unfoldable pub planned : (input : List ℕ) → Outcome Sheet
 planned input =
     onScan 1 (scanForm input wishForm 0) λ wish p.
     andThen (readNetwork (drop p input) 3000 3000) (sheetFor (getD wish 0 0) (getD wish 1 0) (getD wish 2 0))
 
 -- The relays of a route, each behind a space.
-unfoldable pub spaced : List ℕ → List ℕ
+unfoldable pub spaced : (route : List ℕ) → List ℕ
 spaced [] = []
 spaced (r ∷ route) = bytes " " ++ (decimal r ++ spaced route)
 
 -- "each `route` lists relay numbers"
-unfoldable pub routeLines : List (List ℕ) → List ℕ
+unfoldable pub routeLines : (routes : List (List ℕ)) → List ℕ
 routeLines [] = []
 routeLines (route ∷ routes) = bytes "(route" ++ (spaced route ++ (bytes ")\n" ++ routeLines routes))
 
 -- "`from`, `to` and `k` repeat the wish, each `route` lists relay numbers, `kept` is the count from the cut."
-unfoldable pub sheetText : Sheet → List ℕ
+unfoldable pub sheetText : (sheet : Sheet) → List ℕ
 sheetText sheet =
     writeForm sheetForm (sheet .from ∷ sheet .to ∷ sheet .k ∷ []) ++
     (routeLines (sheet .routes) ++ (writeForm keptForm (sheet .kept ∷ []) ++ writeForm endForm []))
 
--- "A refusal prints only `(refused NUMBER PLACE)`, PLACE with as many digits as it takes."
-unfoldable pub printed : Outcome Sheet → List ℕ
-printed (refused number place) = writeForm refusedForm (number ∷ place ∷ [])
-printed (done sheet) = sheetText sheet
+-- "A refusal prints only `(refused NUMBER PLACE)`, PLACE with as many digits as it takes." Else the text of what is done.
+unfoldable pub printed : {A : Type 0} (textOf : A → List ℕ) (outcome : Outcome A) → List ℕ
+printed textOf (refused number place) = writeForm refusedForm (number ∷ place ∷ [])
+printed textOf (done value) = textOf value
 
 -- What the program writes for what it reads.
-unfoldable pub planText : List ℕ → List ℕ
-planText input = printed (planned input)
+unfoldable pub planText : (input : List ℕ) → List ℕ
+planText input = printed sheetText (planned input)

@@ -13,34 +13,34 @@ use Rattle.definitions.specs.Forests.{left, oneTree}
 use Rattle.definitions.specs.Sweep.{sweepRoutes}
 
 -- left(i, v) of a table.
-unfoldable pub leftOf : ℕ → List ℕ → List ℕ → ℕ → ℕ → ℕ
+unfoldable pub leftOf : (n : ℕ) (lows highs : List ℕ) (i v : ℕ) → ℕ
 leftOf n lows highs = left (linked lows highs) (orderOf n lows highs)
 
 -- The routes between two places, from the relay at `p` on. "Routes start at the relay named as `from`: if that is t,
 -- each route is turned round."
-unfoldable pub routesBetween : (ℕ → ℕ → ℕ) → ℕ → ℕ → ℕ → List (List ℕ)
+unfoldable pub routesBetween : (left : ℕ → ℕ → ℕ) (k p q : ℕ) → List (List ℕ)
 routesBetween left k p q = pick (ltb q p) (sweepRoutes left k p q) (map reverse (sweepRoutes left k q p))
 
 -- The k routes of Route, each a list of relay numbers.
-unfoldable pub routesOf : ℕ → List ℕ → List ℕ → ℕ → ℕ → ℕ → List (List ℕ)
+unfoldable pub routesOf : (n : ℕ) (lows highs : List ℕ) (k from to : ℕ) → List (List ℕ)
 routesOf n lows highs k from to =
     let order = orderOf n lows highs in
     map (map (relayAt order)) (routesBetween (leftOf n lows highs) k (placeOf order from) (placeOf order to))
 
 -- `from` and `to` are in one tree of forest k.
-unfoldable pub endsInOneTree : ℕ → List ℕ → List ℕ → ℕ → ℕ → ℕ → Bool
+unfoldable pub endsInOneTree : (n : ℕ) (lows highs : List ℕ) (k from to : ℕ) → Bool
 endsInOneTree n lows highs k from to =
     let order = orderOf n lows highs in
     oneTree (leftOf n lows highs) k (placeOf order from) (placeOf order to)
 
 -- "12, count list shorter than k, relay list shorter than n − 2 + 2k, or scratch shorter than k × n"
-unfoldable pub tooShort : ℕ → ℕ → List ℕ → List ℕ → List ℕ → Bool
+unfoldable pub tooShort : (n k : ℕ) (counts relays scratch : List ℕ) → Bool
 tooShort n k counts relays scratch =
     ltb (length counts) k || (ltb (length relays) (n - 2 + 2 * k) || ltb (length scratch) (k * n))
 
 -- "Route. Table check; 9; 10, `from` or `to` not below n; 11, both equal; 12; 13, not in one tree of forest k. The
 -- answer is the count of relays written."
-unfoldable pub routeAnswer : ℕ → List ℕ → List ℕ → ℕ → ℕ → ℕ → List ℕ → List ℕ → List ℕ → Answer
+unfoldable pub routeAnswer : (n : ℕ) (lows highs : List ℕ) (k from to : ℕ) (counts relays scratch : List ℕ) → Answer
 routeAnswer n lows highs k from to counts relays scratch =
     andThen (tableCheck n lows highs) λ _.
     refuseIf (outside 1 32 k) 9 0
@@ -51,25 +51,25 @@ routeAnswer n lows highs k from to counts relays scratch =
     (done (length (joinAll (routesOf n lows highs k from to)) ∷ []))))))
 
 -- The list of counts afterwards: "a second list holds how many relays each has".
-unfoldable pub countsAfter : ℕ → List ℕ → List ℕ → ℕ → ℕ → ℕ → List ℕ → List ℕ → List ℕ → List ℕ
+unfoldable pub countsAfter : (n : ℕ) (lows highs : List ℕ) (k from to : ℕ) (counts relays scratch : List ℕ) → List ℕ
 countsAfter n lows highs k from to counts relays scratch =
     ifDone (routeAnswer n lows highs k from to counts relays scratch)
     (overwrite (map length (routesOf n lows highs k from to)) counts)
     counts
 
 -- The list of relays afterwards: "The list holds route 1, then 2, up to k, as relay numbers".
-unfoldable pub routeRelaysAfter : ℕ → List ℕ → List ℕ → ℕ → ℕ → ℕ → List ℕ → List ℕ → List ℕ → List ℕ
+unfoldable pub routeRelaysAfter : (n : ℕ) (lows highs : List ℕ) (k from to : ℕ) (counts relays scratch : List ℕ) → List ℕ
 routeRelaysAfter n lows highs k from to counts relays scratch =
     ifDone (routeAnswer n lows highs k from to counts relays scratch)
     (overwrite (joinAll (routesOf n lows highs k from to)) relays)
     relays
 
 -- Scratch has been used: after a success and after 13.
-unfoldable pub scratchUsed : Answer → Bool
+unfoldable pub scratchUsed : (answer : Answer) → Bool
 scratchUsed (refused number place) = eqb number 13
 scratchUsed (done values) = true
 
 -- "After 13 and after success scratch is all zeros." Any other refusal leaves it.
-unfoldable pub scratchAfter : ℕ → List ℕ → List ℕ → ℕ → ℕ → ℕ → List ℕ → List ℕ → List ℕ → List ℕ
+unfoldable pub scratchAfter : (n : ℕ) (lows highs : List ℕ) (k from to : ℕ) (counts relays scratch : List ℕ) → List ℕ
 scratchAfter n lows highs k from to counts relays scratch =
     pick (scratchUsed (routeAnswer n lows highs k from to counts relays scratch)) (zeroed scratch) scratch

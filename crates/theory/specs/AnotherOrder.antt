@@ -70,14 +70,14 @@ part-numbered (suc (suc (suc (suc (suc (suc (suc i))))))) h = absurd (omega arit
 
 pub part-marked : MarkedIn order lows highs 1 marks
 unfolding opened
-part-marked zero h p = refl
-part-marked (suc zero) h p = refl
-part-marked (suc (suc zero)) h p = refl
-part-marked (suc (suc (suc zero))) h p = refl
-part-marked (suc (suc (suc (suc zero)))) h p = refl
-part-marked (suc (suc (suc (suc (suc zero))))) h p = absurd (false≢true (p .1))
-part-marked (suc (suc (suc (suc (suc (suc zero)))))) h p = absurd (false≢true (p .1))
-part-marked (suc (suc (suc (suc (suc (suc (suc i))))))) h p = absurd (omega arith)
+part-marked zero h = refl
+part-marked (suc zero) h = refl
+part-marked (suc (suc zero)) h = refl
+part-marked (suc (suc (suc zero))) h = refl
+part-marked (suc (suc (suc (suc zero)))) h = refl
+part-marked (suc (suc (suc (suc (suc zero))))) h = refl
+part-marked (suc (suc (suc (suc (suc (suc zero)))))) h = refl
+part-marked (suc (suc (suc (suc (suc (suc (suc i))))))) h = absurd (omega arith)
 
 -- Relays 1 and 3 are in one tree of forest 2, by the test on their places.
 pub part-one-tree : OneTree lows highs forests 2 1 3

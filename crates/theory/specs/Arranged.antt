@@ -6,15 +6,15 @@ use mathlib.Core.List.{List}
 use mathlib.Core.Path.{_≡_}
 use native.Mathlib.Omega.{arith}
 use lib.ListN.{length, getD}
-use Rattle.definitions.specs.Lists.{table, has}
+use Rattle.definitions.specs.Lists.{has}
 use Rattle.definitions.specs.Network.{joins, linked, Accepted}
-use Rattle.definitions.specs.Order.{placedAfter, orderOf}
+use Rattle.definitions.specs.Order.{placedAfter, allRelays, firstRelay, orderOf}
 use Rattle.definitions.specs.Forests.{left}
 use Rattle.definitions.specs.Demand.{NoRepeat}
-use Rattle.lists.specs.Distinct.{range-no-repeat}
 use Rattle.theory.specs.LeftLaws.{LeftLaws}
 use Rattle.theory.specs.Accepted.{ProperTable, accepted}
-use Rattle.theory.specs.Ordering.{placed-length, placed-no-repeat, placed-maximal, all-long, zero-first}
+use Rattle.theory.specs.Ordering.{placed-length, placed-no-repeat, placed-maximal}
+use Rattle.theory.specs.AllRelays.{all-long, all-once, first-of-all}
 use Rattle.theory.specs.Left.{laws-of-left}
 use Rattle.theory.specs.Links.{one-link}
 use Rattle.theory.specs.ForestNumbers.{Placed, LinkForest, link-forest}
@@ -59,5 +59,5 @@ arranged-placed n lows highs proper first candidates unique firstIn steps few =
 pub base-arranged : (n : ℕ) (lows highs : List ℕ) → Accepted n lows highs → Arranged (orderOf n lows highs) lows highs
 unfolding orderOf
 base-arranged n lows highs ok =
-    arranged-placed n lows highs (accepted n lows highs ok) 0 (table (λ r. r) 0 n) (range-no-repeat 0 n) (zero-first n lows highs) n
-    (omega (arith, all-long n lows highs))
+    arranged-placed n lows highs (accepted n lows highs ok) (firstRelay n lows highs) (allRelays n) (all-once n)
+    (first-of-all n lows highs) n (omega (arith, all-long n))

@@ -8,19 +8,19 @@ use mathlib.Core.Path.{_≡_, sym, _∙_, ap, subst, subst₂}
 use native.Mathlib.Decide.{decLe}
 use native.Mathlib.Omega.{arith}
 use lib.ListN.{length, getD}
-use Rattle.definitions.specs.Lists.{table, has, count}
+use Rattle.definitions.specs.Lists.{has, count}
 use Rattle.definitions.specs.Network.{Accepted}
-use Rattle.definitions.specs.Order.{orderOf, placeOf, relayAt}
+use Rattle.definitions.specs.Order.{allRelays, orderOf, placeOf, relayAt}
 use Rattle.definitions.specs.Route.{routesBetween}
 use Rattle.definitions.specs.Demand.{Joined, alone, onward, LinkOf, AnyLink, Kept, Live, deadCount}
-use Rattle.lists.specs.Members.{range-has}
 use Rattle.lists.specs.Pigeonhole.{count-within, pigeonhole, firstPassing, free-list}
 use Rattle.lists.specs.Chains.{joined-map, joined-replace, route-joined}
 use Rattle.theory.specs.LeftLaws.{LeftLaws}
 use Rattle.theory.specs.Trees.{Alive, TreeLink, alive-lower, alive-left}
+use Rattle.theory.specs.AllRelays.{all-has}
 use Rattle.theory.specs.Ordering.{order-no-repeat, order-has, order-below}
 use Rattle.theory.specs.ForestNumbers.{linkForest, Placed, joined-placed}
-use Rattle.theory.specs.Arranged.{leftIn, Arranged, base-arranged}
+use Rattle.theory.specs.Arranged.{leftIn, Arranged, arranged-forest, base-arranged}
 use Rattle.theory.specs.Columns.{MarkedIn, Marked, kept-forest}
 use Rattle.theory.specs.TableLinks.{place-link}
 use Rattle.theory.specs.RelayTrees.{AliveBetween}
@@ -90,8 +90,9 @@ module _ (order lows highs : List ℕ) (arranged : Arranged order lows highs) (k
       let q : ℕ = placeOf order b in
       let placed : Placed order lows highs (l .0) = joined-placed order lows highs a b (l .0) (la .0) (lb .0) (l .2) in
       let link : TreeLink left f p q = place-link order lows highs arranged (l .0) a b (l .1) placed (l .2) in
+      let some = arranged-forest order lows highs arranged (l .0) (l .1) placed .forest in
       by-cases (decLe f k)
-      (λ kept. onward la (l .0, l .1, l .2, kept-forest order lows highs k marks marked (l .0) (l .1) placed kept) (alone lb))
+      (λ kept. onward la (l .0, l .1, l .2, kept-forest order lows highs k marks marked (l .0) (l .1) some kept) (alone lb))
       (λ dropped.
       let alive : AliveBetween left k p q =
       alive-lower left (arranged .laws) k f (min p q) (max p q) one (omega arith) (link-alive left (arranged .laws) f p q link) in
@@ -116,14 +117,14 @@ module _ (n : ℕ) (lows highs : List ℕ) (ok : Accepted n lows highs) (k : ℕ
   few-placed =
       omega (
         arith,
-        count-within dead (table (λ r. r) 0 n) (orderOf n lows highs) (order-no-repeat n lows highs)
-            (λ r h. range-has 0 n r (omega arith) (omega (arith, order-below n lows highs r h))),
+        count-within dead (allRelays n) (orderOf n lows highs) (order-no-repeat n lows highs)
+            (λ r h. all-has n r (order-below n lows highs r h)),
       )
 
   pub survives : (a b : ℕ) → Joined (Live n dead) (LinkOf lows highs (Kept marks)) a b ↔ Joined (Live n dead) (LinkOf lows highs AnyLink) a b
   survives a b =
       let general =
-      survives-in (orderOf n lows highs) lows highs (base-arranged n lows highs ok) k one marks (λ i h p. marked i h) dead few-placed
+      survives-in (orderOf n lows highs) lows highs (base-arranged n lows highs ok) k one marks marked dead few-placed
       AnyLink (λ i h p. tt) a b in
       (λ chain. back (general .0 (there chain)), λ chain. back (general .1 (there chain)))
     where

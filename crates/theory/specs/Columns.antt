@@ -1,50 +1,42 @@
 -- The forest number and the mark of each link: over any order, and as Split and Cut write them for an accepted network.
 use Prim.Native.Nat.{ℕ, _≤_, _<_}
-use mathlib.Core.Bool.{false}
 use mathlib.Core.List.{List}
 use mathlib.Core.Path.{_≡_, _∙_, ap}
 use native.Mathlib.Omega.{arith}
-use borrow.Author.Tests.{le-leb, le-ltb}
+use borrow.Author.Tests.{le-ltb}
 use lib.ListN.{length, getD, length-map}
 use Rattle.definitions.specs.Outcome.{refuseIf, andThen, ifDone}
-use Rattle.definitions.specs.Lists.{outside}
 use Rattle.definitions.specs.Network.{Accepted}
 use Rattle.definitions.specs.Order.{orderOf}
 use Rattle.definitions.specs.Forests.{forestsOf, forestsAfter, markOf, marksOf, cutAnswer, marksAfter}
 use Rattle.definitions.specs.Demand.{Kept}
 use Rattle.lists.specs.Maps.{getD-map}
 use Rattle.lists.specs.Overwritten.{getD-overwrite}
-use Rattle.theory.specs.ForestNumbers.{linkForest, Placed}
+use Rattle.lists.specs.Ranges.{inside}
+use Rattle.theory.specs.ForestNumbers.{linkForest}
 use Rattle.theory.specs.ForestBound.{forests-length, forests-at, forests-after}
 
 -- A list with the forest number of each link, in any order: 0 for a link that has an end without a place.
-abbrev pub NumberedIn : List ℕ → List ℕ → List ℕ → List ℕ → Type 0
+abbrev pub NumberedIn : (order lows highs forests : List ℕ) → Type 0
 NumberedIn order lows highs forests = (i : ℕ) → i < length lows → getD forests i 0 ≡ linkForest order lows highs i
 
--- A list with the mark of each link that has both ends in the order, by its forest number.
-abbrev pub MarkedIn : List ℕ → List ℕ → List ℕ → ℕ → List ℕ → Type 0
-MarkedIn order lows highs k marks =
-    (i : ℕ) → i < length lows → Placed order lows highs i → getD marks i 0 ≡ markOf k (linkForest order lows highs i)
+-- A list with the mark of each link, by its forest number: 0 for a link that has an end without a place.
+abbrev pub MarkedIn : (order lows highs : List ℕ) (k : ℕ) (marks : List ℕ) → Type 0
+MarkedIn order lows highs k marks = (i : ℕ) → i < length lows → getD marks i 0 ≡ markOf k (linkForest order lows highs i)
 
 -- "A link is kept if Cut marks it 1", and it does so for the links of forests 1 to k.
 pub kept-forest : (order lows highs : List ℕ) (k : ℕ) (marks : List ℕ) → MarkedIn order lows highs k marks
-    → (i : ℕ) → i < length lows → Placed order lows highs i → linkForest order lows highs i ≤ k → Kept marks i
+    → (i : ℕ) → i < length lows → 1 ≤ linkForest order lows highs i → linkForest order lows highs i ≤ k → Kept marks i
 unfolding markOf
-kept-forest order lows highs k marks marked i h placed few =
-    marked i h placed ∙ (rw (le-leb (linkForest order lows highs i) k few))
+kept-forest order lows highs k marks marked i h some few =
+    marked i h ∙ (rw (inside 1 k (linkForest order lows highs i) some few))
 
--- The base: every link has both ends in the order.
-abbrev pub Numbered : ℕ → List ℕ → List ℕ → List ℕ → Type 0
+-- The same in the order as it is defined.
+abbrev pub Numbered : (n : ℕ) (lows highs forests : List ℕ) → Type 0
 Numbered n lows highs forests = NumberedIn (orderOf n lows highs) lows highs forests
 
-abbrev pub Marked : ℕ → List ℕ → List ℕ → ℕ → List ℕ → Type 0
-Marked n lows highs k marks =
-    (i : ℕ) → i < length lows → getD marks i 0 ≡ markOf k (linkForest (orderOf n lows highs) lows highs i)
-
--- Within the range of Cut, k passes its check.
-pub k-inside : (k : ℕ) → 1 ≤ k → k ≤ 32 → outside 1 32 k ≡ false
-unfolding outside
-k-inside k one most = rw (le-ltb k 1 one, le-ltb 32 k most)
+abbrev pub Marked : (n : ℕ) (lows highs : List ℕ) (k : ℕ) (marks : List ℕ) → Type 0
+Marked n lows highs k marks = MarkedIn (orderOf n lows highs) lows highs k marks
 
 module _ (n : ℕ) (lows highs : List ℕ) where
   mark-entry : (k i : ℕ) → i < length lows → getD (marksOf n lows highs k) i 0 ≡ markOf k (linkForest (orderOf n lows highs) lows highs i)
@@ -68,5 +60,5 @@ module _ (n : ℕ) (lows highs : List ℕ) where
       → Marked n lows highs k (marksAfter n lows highs k marks)
   unfolding marksAfter cutAnswer andThen refuseIf ifDone
   cut-marks ok k one most marks room i h =
-      rw (ok, k-inside k one most, le-ltb (length marks) (length lows) room)
+      rw (ok, inside 1 32 k one most, le-ltb (length marks) (length lows) room)
       (getD-overwrite (marksOf n lows highs k) marks i 0 (omega (arith, length-marks k)) ∙ mark-entry k i h)

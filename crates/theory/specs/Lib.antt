@@ -1,6 +1,7 @@
 -- The theorems about the definitions, a module a subject.
 pub mod LeftLaws
 pub mod Heaviest
+pub mod AllRelays
 pub mod Ordering
 pub mod Accepted
 pub mod Places

@@ -12,13 +12,14 @@ use lib.Seq.{take-all, take-append-le, getD-at, getD-take}
 use Rattle.definitions.specs.Lists.{table, has, count}
 use Rattle.definitions.specs.Demand.{NoRepeat}
 use Rattle.definitions.specs.Network.{linked as linkedIn}
-use Rattle.definitions.specs.Order.{weight, unplaced, heaviestOf, nextRelay, placeNext, placedAfter, orderOf}
+use Rattle.definitions.specs.Order.{weight, unplaced, heaviestOf, nextRelay, placeNext, placedAfter, allRelays, firstRelay, orderOf}
 use Rattle.lists.specs.Tests.{and-both}
 use Rattle.lists.specs.Members.{has-at, has-keep, index-of, range-bounds, range-has}
 use Rattle.lists.specs.Distinct.{no-repeat-snoc, distinct, range-no-repeat}
 use Rattle.lists.specs.Counting.{count-has, count-not, count-once, count-present, length-keep, covers}
 use Rattle.lists.specs.Ascending.{Ascending, ascending-keep}
 use Rattle.lists.specs.Tables.{length-table}
+use Rattle.theory.specs.AllRelays.{all-long, all-once, all-has, all-below, first-of-all}
 use Rattle.theory.specs.Heaviest.{Chosen, heaviestOf-chosen, chosen-has, chosen-most, chosen-lowest}
 
 -- What has no place yet: a candidate that is not placed.
@@ -230,38 +231,30 @@ module _
         )
         most
 
--- The base: all relays from 0 on, relay 0 first.
+-- The order as it is defined: all the relays, `firstRelay` first.
 module _ (n : ℕ) (lows highs : List ℕ) where
   pub order-length : length (orderOf n lows highs) ≡ n
   unfolding orderOf
-  order-length = placed-length (linkedIn lows highs) 0 (table (λ r. r) 0 n) n
-
-  pub all-long : length (table (λ r. r) 0 n) ≡ n
-  all-long = length-table (λ (r : ℕ). r) 0 n
-
-  pub zero-first : 0 < length (table (λ r. r) 0 n) → has (table (λ r. r) 0 n) 0 ≡ true
-  zero-first h = range-has 0 n 0 (omega arith) (omega (arith, all-long))
+  order-length = placed-length (linkedIn lows highs) (firstRelay n lows highs) (allRelays n) n
 
   pub order-no-repeat : NoRepeat (orderOf n lows highs)
   unfolding orderOf
   order-no-repeat =
-      placed-no-repeat (linkedIn lows highs) 0 (table (λ r. r) 0 n) (range-no-repeat 0 n) zero-first n (omega (arith, all-long))
+      placed-no-repeat (linkedIn lows highs) (firstRelay n lows highs) (allRelays n) (all-once n) (first-of-all n lows highs) n (omega (arith, all-long n))
 
   pub order-below : (r : ℕ) → has (orderOf n lows highs) r ≡ true → r < n
   unfolding orderOf
   order-below r h =
-      let all = table (λ r. r) 0 n in
       let candidate =
-      placed-candidates (linkedIn lows highs) 0 all (range-no-repeat 0 n) zero-first n (omega (arith, all-long)) r h in
-      omega (arith, range-bounds 0 n r candidate)
+      placed-candidates (linkedIn lows highs) (firstRelay n lows highs) (allRelays n) (all-once n) (first-of-all n lows highs) n (omega (arith, all-long n)) r h in
+      all-below n r candidate
 
   pub order-has : (r : ℕ) → r < n → has (orderOf n lows highs) r ≡ true
   unfolding orderOf
   order-has r h =
-      let all = table (λ r. r) 0 n in
       let placed =
-      placed-all (linkedIn lows highs) 0 all (range-no-repeat 0 n) zero-first r (range-has 0 n r (omega arith) (omega arith)) in
-      rw all-long at placed
+      placed-all (linkedIn lows highs) (firstRelay n lows highs) (allRelays n) (all-once n) (first-of-all n lows highs) r (all-has n r h) in
+      rw (all-long n) at placed
 
   pub order-once : (r : ℕ) → r < n → count (eqb r) (orderOf n lows highs) ≡ 1
   order-once r h =
@@ -278,4 +271,4 @@ module _ (n : ℕ) (lows highs : List ℕ) where
       ≤ count (λ p. linkedIn lows highs p (getD (orderOf n lows highs) v 0)) (take v (orderOf n lows highs))
   unfolding orderOf
   order-maximal v w h k =
-      placed-maximal (linkedIn lows highs) 0 (table (λ r. r) 0 n) (range-no-repeat 0 n) zero-first n v w (omega (arith, all-long)) h k
+      placed-maximal (linkedIn lows highs) (firstRelay n lows highs) (allRelays n) (all-once n) (first-of-all n lows highs) n v w (omega (arith, all-long n)) h k

@@ -168,7 +168,7 @@ pub routes-hold : (n : ℕ) (lows highs : List ℕ) → Accepted n lows highs �
 unfolding routesOf leftOf
 routes-hold n lows highs ok k one marks marked from to hf ht differ alive =
     let r =
-    routes-in (orderOf n lows highs) lows highs (base-arranged n lows highs ok) k marks (λ i h p. marked i h) one from to
+    routes-in (orderOf n lows highs) lows highs (base-arranged n lows highs ok) k marks marked one from to
     (order-has n lows highs from hf) (order-has n lows highs to ht) differ alive in
     record {
       number = r .number;

@@ -17,7 +17,8 @@ use Rattle.definitions.specs.Demand.{OneTree, cutUp, RouteHolds, Apart, RoutesH
 use Rattle.lists.specs.Outcomes.{if-done}
 use Rattle.lists.specs.Overwritten.{take-overwrite}
 use Rattle.lists.specs.Cuts.{cut-up, total-lengths}
-use Rattle.theory.specs.Columns.{Numbered, Marked, k-inside}
+use Rattle.lists.specs.Ranges.{inside}
+use Rattle.theory.specs.Columns.{Numbered, Marked}
 use Rattle.theory.specs.RelayTrees.{one-tree-alive, one-tree-test}
 use Rattle.theory.specs.RelayRoutes.{RelayRoutes, routes-hold}
 
@@ -30,7 +31,7 @@ module _ (n : ℕ) (lows highs : List ℕ) (ok : Accepted n lows highs) (k : ℕ
       ≡ refuseIf (not b) 13 0 (done (length (joinAll (routesOf n lows highs k from to)) ∷ []))
   unfolding routeAnswer andThen refuseIf
   answer-by-test b e =
-      rw (ok, k-inside k one most, lt-leb n from hf, lt-leb n to ht, ne-eqb from to differ, room, e)
+      rw (ok, inside 1 32 k one most, lt-leb n from hf, lt-leb n to ht, ne-eqb from to differ, room, e)
 
   answer-done : endsInOneTree n lows highs k from to ≡ true
       → routeAnswer n lows highs k from to counts relays scratch ≡ done (length (joinAll (routesOf n lows highs k from to)) ∷ [])

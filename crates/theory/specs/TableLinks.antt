@@ -86,4 +86,5 @@ module _ (order lows highs : List ℕ) (arranged : Arranged order lows highs) wh
       → TreeLink (leftIn order lows highs) f u v → LinkOf lows highs (Kept marks) (relayAt order u) (relayAt order v)
   kept-link k marks marked f u v few l =
       let r = table-link f u v l in
-      (r .0, r .1, r .2, kept-forest order lows highs k marks marked (r .0) (r .1) (r .3 .0) (omega (arith, r .3 .1)))
+      let some = arranged-forest order lows highs arranged (r .0) (r .1) (r .3 .0) .forest in
+      (r .0, r .1, r .2, kept-forest order lows highs k marks marked (r .0) (r .1) some (omega (arith, r .3 .1)))

@@ -27,7 +27,7 @@ use Rattle.definitions.specs.Networks.{
 use Rattle.definitions.specs.Opened.{opened}
 
 -- Read a text into two lists of this length.
-abbrev readWith : ℕ → String → Result
+abbrev readWith : (size : ℕ) (text : String) → Result
 readWith size text =
     record {
       answer = readAnswer (bytes text) (lent size) (lent size);
@@ -35,7 +35,7 @@ readWith size text =
     }
 
 -- Write a network's text into a buffer of this length.
-abbrev writeWith : ℕ → Network → Result
+abbrev writeWith : (size : ℕ) (w : Network) → Result
 writeWith size w =
     record {
       answer = writeAnswer (w .relays) (w .lows) (w .highs) (lent size);
@@ -43,24 +43,25 @@ writeWith size w =
     }
 
 -- What the program prints.
-abbrev printsFor : String → Result
+abbrev printsFor : (input : String) → Result
 printsFor input = record { answer = done []; lists = planText (bytes input) ∷ [] }
 
-abbrev prints : String → Result
+abbrev prints : (output : String) → Result
 prints output = record { answer = done []; lists = bytes output ∷ [] }
 
 -- A refusal that leaves these lists.
-abbrev refusedAt : ℕ → ℕ → List (List ℕ) → Result
+abbrev refusedAt : (number place : ℕ) (lists : List (List ℕ)) → Result
 refusedAt number place lists = record { answer = refused number place; lists = lists }
 
-abbrev zeros : ℕ → List ℕ
+abbrev zeros : (size : ℕ) → List ℕ
 zeros size = replicate size 0
 
-abbrev loop : ℕ → ℕ → Network
-loop a b = record { relays = 4; lows = a ∷ []; highs = b ∷ [] }
+-- Four relays and one link.
+abbrev oneLink : (a b : ℕ) → Network
+oneLink a b = record { relays = 4; lows = a ∷ []; highs = b ∷ [] }
 
-abbrev pub others : List Example
-others =
+abbrev pub otherExamples : List Example
+otherExamples =
     -- "n 0 and 1,001 give 3, 1,000 passes; m 3,001 gives 4; k 0 and 33 give 9"
     record { found = checkOf (bare 0); due = refusedAt 3 0 [] }
     ∷ record { found = checkOf (bare 1001); due = refusedAt 3 0 [] }
@@ -76,8 +77,8 @@ others =
     ∷ record { found = orderWith 4 mesh; due = refusedAt 12 0 (lent 4 ∷ lent 4 ∷ []) }
     ∷ record { found = splitWith 6 mesh; due = refusedAt 12 0 (lent 6 ∷ []) }
     -- "`(link 7 7)` among four relays gives 5, `(link 2 2)` 6"
-    ∷ record { found = checkOf (loop 7 7); due = refusedAt 5 0 [] }
-    ∷ record { found = checkOf (loop 2 2); due = refusedAt 6 0 [] }
+    ∷ record { found = checkOf (oneLink 7 7); due = refusedAt 5 0 [] }
+    ∷ record { found = checkOf (oneLink 2 2); due = refusedAt 6 0 [] }
     ∷ record {
       found = readWith 1 "(net (relays 4) (links 1))\n(link 7 7)\n(end)\n";
       due = refusedAt 5 0 (zeros 1 ∷ zeros 1 ∷ []);
@@ -144,99 +145,9 @@ others =
     }
     ∷ []
 
-pub others-hold : AllHold others
+pub other-examples-hold : AllHold otherExamples
 unfolding opened
-others-hold = (
-  refl,
-  (
-    refl,
-    (
-      refl,
-      (
-        refl,
-        (
-          refl,
-          (
-            refl,
-            (
-              refl,
-              (
-                refl,
-                (
-                  refl,
-                  (
-                    refl,
-                    (
-                      refl,
-                      (
-                        refl,
-                        (
-                          refl,
-                          (
-                            refl,
-                            (
-                              refl,
-                              (
-                                refl,
-                                (
-                                  refl,
-                                  (
-                                    refl,
-                                    (
-                                      refl,
-                                      (
-                                        refl,
-                                        (
-                                          refl,
-                                          (
-                                            refl,
-                                            (
-                                              refl,
-                                              (
-                                                refl,
-                                                (
-                                                  refl,
-                                                  (
-                                                    refl,
-                                                    (
-                                                      refl,
-                                                      (
-                                                        refl,
-                                                        (
-                                                          refl,
-                                                          (
-                                                            refl,
-                                                            (refl, (refl, (refl, (refl, tt)))),
-                                                          ),
-                                                        ),
-                                                      ),
-                                                    ),
-                                                  ),
-                                                ),
-                                              ),
-                                            ),
-                                          ),
-                                        ),
-                                      ),
-                                    ),
-                                  ),
-                                ),
-                              ),
-                            ),
-                          ),
-                        ),
-                      ),
-                    ),
-                  ),
-                ),
-              ),
-            ),
-          ),
-        ),
-      ),
-    ),
-  ),
-)
+other-examples-hold = refl
 
 -- "The longest accepted text has 45,039 bytes": the longest header, 3,000 of the longest link lines, and the end.
 pub longest-text :

@@ -2,9 +2,9 @@
 -- Assumes nothing.
 use Prim.Native.Nat.{ℕ}
 use mathlib.Core.List.{List, [], _∷_, _++_}
-use mathlib.Core.Path.{_≡_, refl}
+use mathlib.Core.Path.{refl}
 use lib.ListN.{replicate}
-use Rattle.definitions.specs.Outcome.{Outcome, refused, done}
+use Rattle.definitions.specs.Outcome.{refused, done}
 use Rattle.definitions.specs.Networks.{
   Result,
   Example,
@@ -23,7 +23,7 @@ use Rattle.definitions.specs.Networks.{
 use Rattle.definitions.specs.Opened.{opened}
 
 -- The result of Route with lists of lengths 40, 80 and 200: so many relays, the counts, the relays; scratch zeroed.
-abbrev routed : ℕ → List ℕ → List ℕ → List ℕ → List ℕ → Result
+abbrev routed : (written : ℕ) (counts counts′ relays relays′ : List ℕ) → Result
 routed written counts counts′ relays relays′ =
     record { answer = done (written ∷ []); lists = (counts ++ counts′) ∷ (relays ++ relays′) ∷ replicate 200 0 ∷ [] }
 
@@ -31,8 +31,8 @@ routed written counts counts′ relays relays′ =
 abbrev apart : Result
 apart = record { answer = refused 13 0; lists = lent 40 ∷ lent 80 ∷ replicate 200 0 ∷ [] }
 
-abbrev pub marked : List Example
-marked =
+abbrev pub pExamples : List Example
+pExamples =
     -- P1 square: order 0 1 2 3; forests by link 1 1 2 1.
     record {
       found = orderWith 4 square;
@@ -97,30 +97,6 @@ marked =
     ∷ record { found = pairOf 998 999; due = record { answer = done (499499 ∷ []); lists = [] } }
     ∷ []
 
-pub marked-hold : AllHold marked
+pub p-examples-hold : AllHold pExamples
 unfolding opened
-marked-hold = (
-  refl,
-  (
-    refl,
-    (
-      refl,
-      (
-        refl,
-        (
-          refl,
-          (
-            refl,
-            (
-              refl,
-              (
-                refl,
-                (refl, (refl, (refl, (refl, (refl, (refl, (refl, (refl, tt)))))))),
-              ),
-            ),
-          ),
-        ),
-      ),
-    ),
-  ),
-)
+p-examples-hold = refl
