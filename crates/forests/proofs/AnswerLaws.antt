@@ -37,14 +37,6 @@ pub link-room : (n : ℕ) (lows highs list : List ℕ) → Accepted n lows highs
 link-room n lows highs list ok e =
     omega (arith, accepted n lows highs ok .short, ap length e ∙ length-replicate {A = ℕ} 3000 0)
 
-pub mark-small : (k forest : ℕ) → markOf k forest ≤ 1
-unfolding markOf
-mark-small k forest = go (leb forest k)
-  where
-    go : (b : Bool) → pick b 1 0 ≤ 1
-    go true = omega arith
-    go false = omega arith
-
 -- After a refusal of the table check the refusal stands, and no list changes.
 pub refusal-stands : (refusal : Refusal) (check : Answer) (next : List ℕ → Answer) → check ≡ refusalOf refusal
     → refusalOf refusal ≡ andThen check next

@@ -8,7 +8,7 @@ use native.Mathlib.Omega.{arith}
 use lib.ListN.{getD}
 use Rattle.definitions.specs.Lists.{has, count}
 use Rattle.definitions.specs.Network.{linked}
-use Rattle.definitions.specs.Order.{weight, placedAfter}
+use Rattle.definitions.specs.Order.{weight, placedAfter, firstRelay}
 use Rattle.forests.specs.Counts.{Heaviest}
 use Rattle.forests.specs.Scan.{placed, following, CountsAt}
 use Rattle.forests.proofs.OrderLaws.{following-new, following-is, following-first}
@@ -54,9 +54,10 @@ module _ {n : ℕ} {lows highs : List ℕ} {k : ℕ} {counts : List ℕ} (at : C
         let other = count-waiting y p w in
         (omega (arith, h .most y, own, other), λ e. h .lowest y (omega (arith, own, other, e))))
 
+-- Where no relay is placed, all counts are 1, and the lowest relay number comes first.
 first : {n : ℕ} {lows highs counts : List ℕ} {x : ℕ} → CountsAt n lows highs 0 counts → 0 < n → Heaviest counts x
     → following n lows highs 0 ≡ x
-unfolding placedAfter weight count has
+unfolding placedAfter weight count has firstRelay
 first {n} {lows} {highs} {counts} {x} at within h =
     let own : getD counts x 0 ≡ 1 = at .count x (below at within h) in
     let zeroth : getD counts 0 0 ≡ 1 = at .count 0 within in

@@ -9,12 +9,11 @@ use lib.ListN.{length, getD, take}
 use lib.Seq.{ext-getD}
 use Rattle.definitions.specs.Lists.{table, overwrite, has, position}
 use Rattle.definitions.specs.Network.{joins, linked, Accepted}
-use Rattle.definitions.specs.Order.{weight, orderOf, placeOf, relayAt, placesOf}
+use Rattle.definitions.specs.Order.{weight, allRelays, firstRelay, orderOf, placeOf, relayAt, placesOf}
 use Rattle.definitions.specs.Forests.{forestBetween, forestOf, forestsOf}
 use Rattle.lists.specs.Tables.{length-table, getD-table, length-overwrite}
 use Rattle.lists.specs.Overwritten.{getD-overwrite, getD-overwrite-past}
-use Rattle.lists.specs.Members.{range-has}
-use Rattle.lists.specs.Distinct.{range-no-repeat}
+use Rattle.theory.specs.AllRelays.{all-long, all-once, first-of-all}
 use Rattle.theory.specs.Ordering.{placed-front, placed-at, later-unplaced, order-length, order-has, order-below}
 use Rattle.theory.specs.Left.{forest-weight}
 use Rattle.theory.specs.Links.{joined-linked}
@@ -60,19 +59,19 @@ module _ (n : ℕ) (lows highs : List ℕ) where
   unfolding orderOf relayAt
   given {start} {forests} f i zero v h some less within e = absurd (omega arith)
   given {start} {forests} f i (suc u) v h some less within e =
-      let all = table (λ r. r) 0 n in
+      let head = firstRelay n lows highs in
+      let all = allRelays n in
       let order = placed n lows highs n in
       let y = getD order (pred v) 0 in
-      let first : 0 < length all → has all 0 ≡ true = λ p. range-has 0 n 0 (omega arith) (omega arith) in
       let waits : has (placed n lows highs u) y ≡ false =
-      later-unplaced (linked lows highs) 0 all (range-no-repeat 0 n) first n u (pred v)
-      (omega (arith, length-table (λ (r : ℕ). r) 0 n)) (omega arith) (omega arith) in
+      later-unplaced (linked lows highs) head all (all-once n) (first-of-all n lows highs) n u (pred v)
+      (omega (arith, all-long n)) (omega arith) (omega arith) in
       let joined : joins lows highs (following n lows highs u) y i ≡ true =
-      ap (λ x. joins lows highs x y i) (sym (placed-at (linked lows highs) 0 all n u (omega arith))) ∙ e in
+      ap (λ x. joins lows highs x y i) (sym (placed-at (linked lows highs) head all n u (omega arith))) ∙ e in
       let count : weight (linked lows highs) (placed n lows highs (suc u)) y ≡ weight (linked lows highs) (placed n lows highs u) y + 1 =
       weight-linked n lows highs u y (joined-linked lows highs (following n lows highs u) y i h joined) in
       let front : weight (linked lows highs) (placed n lows highs u) y ≡ weight (linked lows highs) (take u order) y =
-      ap (λ l. weight (linked lows highs) l y) (placed-front (linked lows highs) 0 all n u (omega arith)) in
+      ap (λ l. weight (linked lows highs) l y) (placed-front (linked lows highs) head all n u (omega arith)) in
       let number : forestBetween (linked lows highs) order (suc u) v ≡ suc (weight (linked lows highs) (take u order) y) =
       forest-weight (linked lows highs) order u v less (omega (arith, placed-long n lows highs n))
       (joined-linked lows highs (getD order u 0) y i h e) in

@@ -9,35 +9,27 @@ use borrow.Author.Tests.{eq-eqb, ne-eqb}
 use lib.Dec.{eqb}
 use lib.ListN.{length, getD}
 use Rattle.definitions.specs.Outcome.{pick}
-use Rattle.definitions.specs.Lists.{table, has, count, position}
+use Rattle.definitions.specs.Lists.{has, count, position}
 use Rattle.definitions.specs.Network.{linked}
-use Rattle.definitions.specs.Order.{weight, nextRelay, placeNext, placedAfter}
+use Rattle.definitions.specs.Order.{weight, nextRelay, placeNext, placedAfter, allRelays, firstRelay}
 use Rattle.definitions.specs.Demand.{NoRepeat}
-use Rattle.lists.specs.Tables.{length-table}
-use Rattle.lists.specs.Members.{has-at, has-append, range-bounds, range-has}
+use Rattle.lists.specs.Members.{has-at, has-append}
 use Rattle.lists.specs.Counting.{count-append}
-use Rattle.lists.specs.Distinct.{range-no-repeat}
-use Rattle.lists.specs.Ascending.{ascending-range}
 use Rattle.lists.specs.Positions.{position-which, position-at}
+use Rattle.theory.specs.AllRelays.{all-long, all-once, all-has, all-below, all-ascending, first-of-all}
 use Rattle.theory.specs.Ordering.{placed-length, placed-at, next-is, next-new, placed-no-repeat}
 use Rattle.forests.specs.Scan.{placed, following}
 
 module _ (n : ℕ) (lows highs : List ℕ) where
-  all-long : length (table (λ r. r) 0 n) ≡ n
-  all-long = length-table (λ (r : ℕ). r) 0 n
-
-  zero-first : 0 < length (table (λ r. r) 0 n) → has (table (λ r. r) 0 n) 0 ≡ true
-  zero-first h = range-has 0 n 0 (omega arith) (omega (arith, all-long))
-
   pub placed-long : (k : ℕ) → length (placed n lows highs k) ≡ k
-  placed-long = placed-length (linked lows highs) 0 (table (λ r. r) 0 n)
+  placed-long = placed-length (linked lows highs) (firstRelay n lows highs) (allRelays n)
 
   -- The relay that follows is one of the n, and not placed yet.
   pub following-new : (k : ℕ) → k < n
       → (following n lows highs k < n) × (has (placed n lows highs k) (following n lows highs k) ≡ false)
   following-new k h =
-      let f = next-new (linked lows highs) 0 (table (λ r. r) 0 n) (range-no-repeat 0 n) zero-first k (omega (arith, all-long)) in
-      (omega (arith, range-bounds 0 n (following n lows highs k) (f .0)), f .1)
+      let f = next-new (linked lows highs) (firstRelay n lows highs) (allRelays n) (all-once n) (first-of-all n lows highs) k (omega (arith, all-long n)) in
+      (all-below n (following n lows highs k) (f .0), f .1)
 
   -- After k relays comes the one that no unplaced relay is heavier than, and of equals the lowest.
   pub following-is : (k b : ℕ) → 0 < k → k < n → b < n → has (placed n lows highs k) b ≡ false
@@ -46,11 +38,11 @@ module _ (n : ℕ) (lows highs : List ℕ) where
       × (weight (linked lows highs) (placed n lows highs k) y ≡ weight (linked lows highs) (placed n lows highs k) b → b ≤ y))
       → following n lows highs k ≡ b
   following-is k b some few below new top =
-      next-is (linked lows highs) 0 (table (λ r. r) 0 n) (range-no-repeat 0 n) zero-first (ascending-range 0 n) k some
-      (omega (arith, all-long)) b (range-has 0 n b (omega arith) (omega arith)) new
-      (λ y c. top y (omega (arith, range-bounds 0 n y c)))
+      next-is (linked lows highs) (firstRelay n lows highs) (allRelays n) (all-once n) (first-of-all n lows highs) (all-ascending n) k some
+      (omega (arith, all-long n)) b (all-has n b below) new
+      (λ y c. top y (all-below n y c))
 
-  pub following-first : following n lows highs 0 ≡ 0
+  pub following-first : following n lows highs 0 ≡ firstRelay n lows highs
   unfolding placedAfter nextRelay
   following-first = refl
 
@@ -102,10 +94,10 @@ module _ (n : ℕ) (lows highs : List ℕ) where
   weight-apart k r e = weight-suc k r ∙ rw e (omega arith)
 
   unique : (k : ℕ) → k ≤ n → NoRepeat (placed n lows highs k)
-  unique k h = placed-no-repeat (linked lows highs) 0 (table (λ r. r) 0 n) (range-no-repeat 0 n) zero-first k (omega (arith, all-long))
+  unique k h = placed-no-repeat (linked lows highs) (firstRelay n lows highs) (allRelays n) (all-once n) (first-of-all n lows highs) k (omega (arith, all-long n))
 
   at-index : (k j : ℕ) → j < k → getD (placed n lows highs k) j 0 ≡ following n lows highs j
-  at-index k j = placed-at (linked lows highs) 0 (table (λ r. r) 0 n) k j
+  at-index k j = placed-at (linked lows highs) (firstRelay n lows highs) (allRelays n) k j
 
   -- What was placed at step j is still there.
   pub placed-earlier : (j k : ℕ) → j < k → has (placed n lows highs k) (following n lows highs j) ≡ true

@@ -9,9 +9,9 @@ use native.Mathlib.Decide.{decLt}
 use native.Mathlib.Nat.{mul-le-mul}
 use native.Mathlib.Omega.{arith}
 use lib.ListN.{length, getD, take, drop, take-append-drop}
-use Rattle.definitions.specs.Lists.{table, has, count}
+use Rattle.definitions.specs.Lists.{has, count}
 use Rattle.definitions.specs.Network.{linked, Accepted}
-use Rattle.definitions.specs.Order.{weight, orderOf, relayAt}
+use Rattle.definitions.specs.Order.{weight, allRelays, firstRelay, orderOf, relayAt}
 use Rattle.definitions.specs.Forests.{earlier}
 use Rattle.lists.specs.Members.{index-of}
 use Rattle.lists.specs.Counting.{count-append}
@@ -32,7 +32,7 @@ module _ (n : ℕ) (lows highs : List ℕ) where
       let test : ℕ → Bool = λ p. linked lows highs p r in
       let order = placed n lows highs j in
       let front : count test (placed n lows highs k) ≡ count test (take k order) =
-      ap (count test) (placed-front (linked lows highs) 0 (table (λ x. x) 0 n) j k le) in
+      ap (count test) (placed-front (linked lows highs) (firstRelay n lows highs) (allRelays n) j k le) in
       let whole : count test (take k order ++ drop k order) ≡ count test order = ap (count test) (take-append-drop k order) in
       omega (arith, front, whole, count-append test (take k order) (drop k order))
 
@@ -44,7 +44,7 @@ module _ (n : ℕ) (lows highs : List ℕ) where
       let w = index-of (orderOf n lows highs) r (order-has n lows highs r below) in
       let within : w .0 < n = omega (arith, w .1, order-length n lows highs) in
       let isNext : following n lows highs (w .0) ≡ r =
-      sym (placed-at (linked lows highs) 0 (table (λ x. x) 0 n) n (w .0) within) ∙ w .2 in
+      sym (placed-at (linked lows highs) (firstRelay n lows highs) (allRelays n) n (w .0) within) ∙ w .2 in
       let late : ¬ (w .0 < k) = λ early.
       true≢false (sym (placed-earlier n lows highs (w .0) k early) ∙ ap (has (placed n lows highs k)) isNext ∙ waits) in
       (w .0, omega arith, within, w .2)
@@ -59,7 +59,7 @@ module _ (n : ℕ) (lows highs : List ℕ) where
       let test : ℕ → Bool = λ p. linked lows highs p (getD order j 0) in
       ap length (earlier-in (linked lows highs) order (suc j) (omega arith) (omega (arith, order-length n lows highs)))
       ∙ rising-count test order j (omega (arith, order-length n lows highs))
-      ∙ ap (count test) (sym (placed-front (linked lows highs) 0 (table (λ x. x) 0 n) n j (omega arith)))
+      ∙ ap (count test) (sym (placed-front (linked lows highs) (firstRelay n lows highs) (allRelays n) n j (omega arith)))
 
 pub weight-bound : (n : ℕ) (lows highs : List ℕ) → Accepted n lows highs → (k r : ℕ) → r < n
     → has (placed n lows highs k) r ≡ false

@@ -7,7 +7,7 @@ use lib.ListN.{length, getD, set}
 use Rattle.definitions.specs.Outcome.{pick}
 use Rattle.definitions.specs.Lists.{table, overwrite, has, position}
 use Rattle.definitions.specs.Network.{joins, linked, Accepted}
-use Rattle.definitions.specs.Order.{weight, nextRelay, placedAfter, orderOf, placesOf}
+use Rattle.definitions.specs.Order.{weight, nextRelay, placedAfter, allRelays, firstRelay, orderOf, placesOf}
 use Rattle.definitions.specs.Forests.{forestsOf}
 use Rattle.forests.specs.Chains.{ChainedFrom}
 use Rattle.forests.specs.Counts.{StartCounts}
@@ -15,11 +15,11 @@ use Rattle.forests.specs.Buckets.{Buckets}
 use Rattle.forests.specs.Walk.{Walkable, Walked}
 
 -- The first k relays of the order, and the one that comes after them.
-abbrev pub placed : ℕ → List ℕ → List ℕ → ℕ → List ℕ
-placed n lows highs k = placedAfter (linked lows highs) 0 (table (λ r. r) 0 n) k
+abbrev pub placed : (n : ℕ) (lows highs : List ℕ) (k : ℕ) → List ℕ
+placed n lows highs k = placedAfter (linked lows highs) (firstRelay n lows highs) (allRelays n) k
 
-abbrev pub following : ℕ → List ℕ → List ℕ → ℕ → ℕ
-following n lows highs k = nextRelay (linked lows highs) 0 (table (λ r. r) 0 n) (placed n lows highs k)
+abbrev pub following : (n : ℕ) (lows highs : List ℕ) (k : ℕ) → ℕ
+following n lows highs k = nextRelay (linked lows highs) (firstRelay n lows highs) (allRelays n) (placed n lows highs k)
 
 -- The counts when k relays are placed.
 pub record CountsAt (n : ℕ) (lows highs : List ℕ) (k : ℕ) (counts : List ℕ) : Type 0 where

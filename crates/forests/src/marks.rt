@@ -26,10 +26,13 @@ pub fn highest(count: usize, forests: &[u16]) -> u16
     best
 }
 
-// 1 for a link of the first k forests, which is kept, 0 for another.
+// 1 for a link of forests 1 to k, which is kept, 0 for another.
 fn mark(k: u16, forest: u16) -> u16
     ensures { λ r. ⌜ r ≡ markOf k forest ⌝ }
 {
+    if forest < 1 {
+        return 0;
+    }
     if forest <= k { 1 } else { 0 }
 }
 

@@ -1,5 +1,6 @@
 -- What each answer of the operations stands for in document 01: the number and place of a refusal, or the values.
 -- Assumes nothing.
+use Prim.Native.Nat.{ℕ}
 use mathlib.Core.List.{[], _∷_}
 use Rattle.definitions.specs.Outcome.{Outcome, refused, done, Answer}
 use Rattle.network.specs.declared.Refusal.{Refusal}
@@ -23,21 +24,41 @@ use Rattle.network.specs.declared.Pair.the-variants.{Number}
 use Rattle.network.specs.declared.Check.{Check}
 use Rattle.network.specs.declared.Check.the-variants.{Accepted}
 
--- The refusals 1 to 13. 1 and 2 have a byte offset for their place, 5 to 7 a link index, the others 0.
+-- The number of a refusal, as document 01 counts them.
+abbrev pub refusalNumber : Refusal → ℕ
+refusalNumber (Wish place) = 1
+refusalNumber (Form place) = 2
+refusalNumber RelayCount = 3
+refusalNumber LinkCount = 4
+refusalNumber (RelayRange link) = 5
+refusalNumber (NotBelow link) = 6
+refusalNumber (Repeated link) = 7
+refusalNumber TableRoom = 8
+refusalNumber RouteCount = 9
+refusalNumber EndRange = 10
+refusalNumber SameEnds = 11
+refusalNumber Room = 12
+refusalNumber NotOneTree = 13
+
+-- Its place in the input: a byte offset for 1 and 2, a link index for 5 to 7, otherwise 0.
+abbrev pub refusalPlace : Refusal → ℕ
+refusalPlace (Wish place) = place
+refusalPlace (Form place) = place
+refusalPlace RelayCount = 0
+refusalPlace LinkCount = 0
+refusalPlace (RelayRange link) = link
+refusalPlace (NotBelow link) = link
+refusalPlace (Repeated link) = link
+refusalPlace TableRoom = 0
+refusalPlace RouteCount = 0
+refusalPlace EndRange = 0
+refusalPlace SameEnds = 0
+refusalPlace Room = 0
+refusalPlace NotOneTree = 0
+
+-- "Every refusal gives its number and a place in the input."
 abbrev pub refusalOf : {A : Type 0} → Refusal → Outcome A
-refusalOf (Wish place) = refused 1 place
-refusalOf (Form place) = refused 2 place
-refusalOf RelayCount = refused 3 0
-refusalOf LinkCount = refused 4 0
-refusalOf (RelayRange link) = refused 5 link
-refusalOf (NotBelow link) = refused 6 link
-refusalOf (Repeated link) = refused 7 link
-refusalOf TableRoom = refused 8 0
-refusalOf RouteCount = refused 9 0
-refusalOf EndRange = refused 10 0
-refusalOf SameEnds = refused 11 0
-refusalOf Room = refused 12 0
-refusalOf NotOneTree = refused 13 0
+refusalOf refusal = refused (refusalNumber refusal) (refusalPlace refusal)
 
 -- The pair number, or a refusal.
 abbrev pub pairOutcome : Pair → Answer

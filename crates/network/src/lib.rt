@@ -7,8 +7,7 @@ ghost use lib.Dec.{eqb, leb};
 ghost use lib.ListN.{length, replicate};
 ghost use Rattle.definitions.specs.Outcome.{pick};
 ghost use Rattle.definitions.specs.Network.{rowStart, pairNumber, pairAnswer, linksCheck, tableCheck};
-ghost use Rattle.network.specs.Answers.{pairOutcome, checkOutcome};
-ghost use Rattle.network.specs.Refusals.{numberOf, placeOf};
+ghost use Rattle.network.specs.Answers.{refusalNumber, refusalPlace, pairOutcome, checkOutcome};
 ghost use Rattle.network.specs.Seen.{faultOf, RoomFor, LinkChecked, Seen};
 
 // A relay number, never a place in the order.
@@ -56,7 +55,7 @@ pub enum LinkCheck {
 
 // The number of a refusal, as document 01 counts them.
 pub fn refusal_number(refusal: Refusal) -> u16
-    ensures { λ r. ⌜ r ≡ numberOf refusal ⌝ }
+    ensures { λ r. ⌜ r ≡ refusalNumber refusal ⌝ }
 {
     match refusal {
         Refusal::Wish(_) => 1,
@@ -77,7 +76,7 @@ pub fn refusal_number(refusal: Refusal) -> u16
 
 // The place of a refusal in the input.
 pub fn refusal_place(refusal: Refusal) -> usize
-    ensures { λ r. ⌜ r ≡ placeOf refusal ⌝ }
+    ensures { λ r. ⌜ r ≡ refusalPlace refusal ⌝ }
 {
     match refusal {
         Refusal::Wish(place) => place,

@@ -5,8 +5,7 @@ use mathlib.Core.List.{List, [], _∷_}
 use mathlib.Core.Path.{_≡_}
 use Rattle.definitions.specs.Outcome.{refused, done, Answer}
 use Rattle.definitions.specs.Lists.{overwrite}
-use Rattle.network.specs.Answers.{refusalOf}
-use Rattle.network.specs.Refusals.{numberOf, placeOf, refusal-is}
+use Rattle.network.specs.Answers.{refusalNumber, refusalPlace, refusalOf}
 use Rattle.network.specs.declared.Refusal.{Refusal}
 
 -- A refusal gives its number and, as the first entry, its place. Success gives 0 and the values. Entries that are not
@@ -18,12 +17,12 @@ reported (done values) = (0, overwrite values (0 ∷ 0 ∷ []))
 -- What is reported of a refusal.
 pub reported-refusal :
     (refusal : Refusal) (number place : ℕ) →
-    number ≡ numberOf refusal →
-    place ≡ placeOf refusal →
+    number ≡ refusalNumber refusal →
+    place ≡ refusalPlace refusal →
     reported (refusalOf refusal) ≡ (number, place ∷ 0 ∷ [])
 unfolding reported
 reported-refusal refusal number place same-number same-place =
-    rw (same-number, same-place, refusal-is {A = List ℕ} refusal)
+    rw (same-number, same-place)
 
 -- Success alone, and success with one value: the entries that are not named are zeros.
 pub reported-none : (outcome : Answer) → outcome ≡ done [] → reported outcome ≡ reported (done (0 ∷ 0 ∷ []))

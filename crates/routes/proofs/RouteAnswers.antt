@@ -14,8 +14,8 @@ use Rattle.definitions.specs.Network.{isPair, linkFault, linksCheck, tableCheck
 use Rattle.definitions.specs.Route.{routesOf, endsInOneTree, tooShort, routeAnswer, countsAfter, routeRelaysAfter, scratchUsed, scratchAfter}
 use Rattle.lists.specs.Tests.{or-false}
 use Rattle.lists.specs.Outcomes.{not-refused, then-done}
-use Rattle.network.specs.Answers.{refusalOf}
-use Rattle.network.specs.Refusals.{numberOf, placeOf, refusal-is, refusal-then}
+use Rattle.network.specs.Answers.{refusalNumber, refusalPlace, refusalOf}
+use Rattle.network.specs.Refusals.{refusal-then}
 use Rattle.network.specs.declared.Refusal.{Refusal}
 use Rattle.routes.specs.Answers.{wishCheck, Answered, answered, treeAnswer, Routable}
 
@@ -116,9 +116,8 @@ module _ (n : ℕ) (lows highs : List ℕ) (k from to : ℕ) (counts relays scra
   refused-by : (refusal : Refusal) (check : Answer) → Early check → refusalOf refusal ≡ check
       → routeAnswer n lows highs k from to counts relays scratch ≡ refusalOf refusal → Promised (refusalOf refusal) counts relays scratch
   refused-by refusal check early same e =
-      let shape : refusalOf refusal ≡ refused (numberOf refusal) (placeOf refusal) = refusal-is {A = List ℕ} refusal in
-      let low : Early (refused (numberOf refusal) (placeOf refusal)) = subst Early (sym same ∙ shape) early in
-      subst (λ (x : Answer). Promised x counts relays scratch) (sym shape) (stopped (numberOf refusal) (placeOf refusal) low (e ∙ shape))
+      let low : Early (refusalOf refusal) = subst Early (sym same) early in
+      stopped (refusalNumber refusal) (refusalPlace refusal) low e
 
   pub table-refused : (refusal : Refusal) → refusalOf refusal ≡ tableCheck n lows highs → Promised (refusalOf refusal) counts relays scratch
   table-refused refusal e =

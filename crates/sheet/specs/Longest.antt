@@ -34,6 +34,7 @@ use Rattle.lists.specs.Outcomes.{then-done}
 use Rattle.lists.specs.RefusedWithin.{RefusedWithin, refuse-within, then-within, within-more}
 use Rattle.lists.specs.Tables.{length-table}
 use Rattle.theory.specs.Accepted.{accepted}
+use Rattle.theory.specs.Columns.{mark-small}
 use Rattle.text_theory.specs.Decimal.{length-decimal-at-most}
 use Rattle.text_theory.specs.Forms.{Fits}
 use Rattle.text_theory.specs.Spans.{span, AllBelow, written-span, form-within}
@@ -116,14 +117,9 @@ lines-length (route ∷ routes) h =
     )
 
 marks-total : (k : ℕ) (forests : List ℕ) → total (map (markOf k) forests) ≤ length forests
-unfolding total markOf
+unfolding total
 marks-total k [] = omega arith
-marks-total k (f ∷ forests) = go (leb f k) (marks-total k forests)
-  where
-    go : (b : Bool) → total (map (markOf k) forests) ≤ length forests
-        → pick b 1 0 + total (map (markOf k) forests) ≤ suc (length forests)
-    go true h = omega arith
-    go false h = omega arith
+marks-total k (f ∷ forests) = omega (arith, mark-small k f, marks-total k forests)
 
 kept-few : (n : ℕ) (lows highs : List ℕ) (k : ℕ) → total (marksOf n lows highs k) ≤ length lows
 unfolding marksOf forestsOf
@@ -180,7 +176,7 @@ unfolding planText printed
 plan-length demand input = go (planned input) (planned-within input) (planned-sheet input)
   where
     go : (outcome : Outcome Sheet) → RefusedWithin 13 45039 outcome
-        → ((sheet : Sheet) → outcome ≡ done sheet → PlannedSheet input sheet) → length (printed outcome) ≤ 4608
+        → ((sheet : Sheet) → outcome ≡ done sheet → PlannedSheet input sheet) → length (printed sheetText outcome) ≤ 4608
     go (refused number place) within _ = refused-length number place (within .0) (within .1)
     go (done sheet) _ behind =
         let found = behind sheet refl in

@@ -24,7 +24,8 @@ use Rattle.text_theory.specs.RoundTrip.{written-read}
 use Rattle.text.specs.Put.{Put}
 use Rattle.text.specs.Written.{stored-overwrite}
 use Rattle.network.specs.Answers.{refusalOf}
-use Rattle.network.specs.Refusals.{numberOf, placeOf, refusal-is, refusal-then}
+use Rattle.network.specs.Answers.{refusalNumber, refusalPlace}
+use Rattle.network.specs.Refusals.{refusal-then}
 use Rattle.network.specs.declared.Refusal.{Refusal}
 use Rattle.network.specs.declared.Refusal.the-variants.{Wish}
 use Rattle.sheet.specs.Front.{longer}
@@ -33,13 +34,13 @@ use Rattle.sheet.specs.Planned.{sheetOf}
 use Rattle.sheet.specs.Routes.{length-routes}
 
 -- Two outcomes that are the same are printed alike.
-pub fits-as : (one other : Outcome Sheet) (size : ℕ) → one ≡ other → length (printed one) ≤ size → length (printed other) ≤ size
-fits-as one other size same h = subst (λ (outcome : Outcome Sheet). length (printed outcome) ≤ size) same h
+pub fits-as : (one other : Outcome Sheet) (size : ℕ) → one ≡ other → length (printed sheetText one) ≤ size → length (printed sheetText other) ≤ size
+fits-as one other size same h = subst (λ (outcome : Outcome Sheet). length (printed sheetText outcome) ≤ size) same h
 
 pub put-as : (one other : Outcome Sheet) (before after : List ℕ) (next : ℕ) → one ≡ other
-    → Put before 0 (printed other) after next → Put before 0 (printed one) after next
+    → Put before 0 (printed sheetText other) after next → Put before 0 (printed sheetText one) after next
 put-as one other before after next same put =
-    subst (λ (outcome : Outcome Sheet). Put before 0 (printed outcome) after next) (sym same) put
+    subst (λ (outcome : Outcome Sheet). Put before 0 (printed sheetText outcome) after next) (sym same) put
 
 -- A network by its parts.
 abbrev pub networkOf : ℕ → List ℕ → List ℕ → Network
@@ -134,7 +135,7 @@ module _
 pub record Routed (from to k n : ℕ) (lows highs : List ℕ) (kept : ℕ) (counts relays : List ℕ) : Type 0 where
   pub sizes : k ≤ length counts
   pub within : total (take k counts) ≤ length relays
-  pub lines : printed (routeStage from to k (networkOf n lows highs) kept) ≡ sheetLines from to k (cutUp (take k counts) relays) kept
+  pub lines : printed sheetText (routeStage from to k (networkOf n lows highs) kept) ≡ sheetLines from to k (cutUp (take k counts) relays) kept
 
 module _
     (n : ℕ)
@@ -165,7 +166,7 @@ module _
           sizes = counts-room n lows highs k from to counts relays scratch values e;
           within = relays-room n lows highs k from to counts relays scratch values e;
           lines =
-              ap printed (route-done n lows highs from to k kept values (with-rooms (done values) e))
+              ap (printed sheetText) (route-done n lows highs from to k kept values (with-rooms (done values) e))
               ∙ ap (λ (routes : List (List ℕ)). sheetLines from to k routes kept)
               (sym (routes-cut n lows highs k from to counts relays scratch values e));
         })
@@ -179,12 +180,12 @@ answer-refused : {A B : Type 0} (outcome : Outcome A) (f : A → B) (refusal : R
     → andThen outcome (λ x. done (f x)) ≡ refusalOf refusal → outcome ≡ refusalOf refusal
 unfolding andThen
 answer-refused {A} {B} (refused number place) f refusal e =
-    let same : _≡_ {A = Outcome B} (refused number place) (refused (numberOf refusal) (placeOf refusal)) = e ∙ refusal-is refusal in
-    let numbers : number ≡ numberOf refusal = cc in
-    let places : place ≡ placeOf refusal = cc in
-    rw (numbers, places) (sym (refusal-is refusal))
+    let same : _≡_ {A = Outcome B} (refused number place) (refused (refusalNumber refusal) (refusalPlace refusal)) = e in
+    let numbers : number ≡ refusalNumber refusal = cc in
+    let places : place ≡ refusalPlace refusal = cc in
+    rw (numbers, places)
 answer-refused {A} {B} (done x) f refusal e =
-    let same : _≡_ {A = Outcome B} (done (f x)) (refused (numberOf refusal) (placeOf refusal)) = e ∙ refusal-is refusal in
+    let same : _≡_ {A = Outcome B} (done (f x)) (refused (refusalNumber refusal) (refusalPlace refusal)) = e in
     let z : _≡_ {A = ℕ} 0 1 = cc in
     absurd (omega arith)
 
@@ -261,7 +262,7 @@ wish-taken input from to k p e =
 
 -- The whole output, from its first byte on.
 pub plan-put : (input before after : List ℕ) (next : ℕ) → length (planText input) ≤ length before
-    → Put before 0 (printed (planned input)) after next → (next ≡ length (planText input)) × (after ≡ overwrite (planText input) before)
+    → Put before 0 (printed sheetText (planned input)) after next → (next ≡ length (planText input)) × (after ≡ overwrite (planText input) before)
 unfolding planText
 plan-put input before after next fits put =
-    (omega (arith, put .ends), put .bytes ∙ stored-overwrite (printed (planned input)) before fits)
+    (omega (arith, put .ends), put .bytes ∙ stored-overwrite (printed sheetText (planned input)) before fits)

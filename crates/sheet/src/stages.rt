@@ -2,7 +2,7 @@
 ghost use mathlib.Core.Path.{_≡_};
 ghost use Prim.Native.Nat.{_≤_};
 ghost use lib.ListN.{length};
-ghost use Rattle.definitions.specs.Plan.{sheetFor, printed};
+ghost use Rattle.definitions.specs.Plan.{sheetFor, sheetText, printed};
 ghost use Rattle.text.specs.Put.{Put};
 ghost use Rattle.sheet.specs.Stages.{networkOf, routeStage, readStage};
 use crate::print::put_sheet;
@@ -26,9 +26,9 @@ fn plan_routes(
     k: u16,
     kept: u16,
 ) -> usize
-    requires { ⌜ length (printed (routeStage from to k (networkOf n (now lows) (now highs)) kept)) ≤ length (now output) ⌝ }
+    requires { ⌜ length (printed sheetText (routeStage from to k (networkOf n (now lows) (now highs)) kept)) ≤ length (now output) ⌝ }
     ensures { λ r. ⌜ Put (now (output .entry)) 0
-        (printed (routeStage from to k (networkOf n (now (lows .entry)) (now (highs .entry))) kept)) (now (output .exit)) r ⌝ }
+        (printed sheetText (routeStage from to k (networkOf n (now (lows .entry)) (now (highs .entry))) kept)) (now (output .exit)) r ⌝ }
 {
     let mut counts = rooms::counts();
     let mut relays = rooms::relays();
@@ -67,8 +67,8 @@ fn plan_cut(
     to: u16,
     k: u16,
 ) -> usize
-    requires { ⌜ length (printed (sheetFor from to k (networkOf n (now lows) (now highs)))) ≤ length (now output) ⌝ }
-    ensures { λ r. ⌜ Put (now (output .entry)) 0 (printed (sheetFor from to k (networkOf n (now (lows .entry)) (now (highs .entry)))))
+    requires { ⌜ length (printed sheetText (sheetFor from to k (networkOf n (now lows) (now highs)))) ≤ length (now output) ⌝ }
+    ensures { λ r. ⌜ Put (now (output .entry)) 0 (printed sheetText (sheetFor from to k (networkOf n (now (lows .entry)) (now (highs .entry)))))
         (now (output .exit)) r ⌝ }
 {
     let mut marks = rooms::links();
@@ -80,8 +80,8 @@ fn plan_cut(
 
 // Read, and what follows.
 pub(crate) fn plan_network(output: &mut [u8], text: &[u8], from: u16, to: u16, k: u16) -> usize
-    requires { ⌜ length (printed (readStage (now text) from to k)) ≤ length (now output) ⌝ }
-    ensures { λ r. ⌜ Put (now (output .entry)) 0 (printed (readStage (now (text .entry)) from to k)) (now (output .exit)) r ⌝ }
+    requires { ⌜ length (printed sheetText (readStage (now text) from to k)) ≤ length (now output) ⌝ }
+    ensures { λ r. ⌜ Put (now (output .entry)) 0 (printed sheetText (readStage (now (text .entry)) from to k)) (now (output .exit)) r ⌝ }
 {
     let mut lows = rooms::links();
     let mut highs = rooms::links();

@@ -13,7 +13,7 @@ use Rattle.definitions.specs.Lists.{zeroed, outside}
 use Rattle.definitions.specs.Form.{departs, reads, scanForm, onScan}
 use Rattle.definitions.specs.Text.{headerForm, Network, readEnd, readLinks, readNetwork, readAnswer, filled, lowsAfter, highsAfter}
 use Rattle.network.specs.Answers.{refusalOf}
-use Rattle.network.specs.Refusals.{refusal-is, refusal-then}
+use Rattle.network.specs.Refusals.{refusal-then}
 use Rattle.network.specs.declared.Refusal.{Refusal}
 use Rattle.network.specs.declared.Refusal.the-variants.{Form}
 use Rattle.text.specs.Answers.{readOutcome}
@@ -170,7 +170,7 @@ module _ (text lows highs lowsThen highsThen : List ℕ) where
   unfolding filled zeroed clearedFrom
   filled-refused column old new refusal s =
       let e : length new - 0 ≡ length old = omega arith in
-      rw (refusal-is {A = Network} refusal, e)
+      rw e
 
   pub lows-read : (r : ReadAnswer)
       → TableRead (readNetwork text (length lows) (length highs)) lows highs lowsThen highsThen r

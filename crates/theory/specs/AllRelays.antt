@@ -9,6 +9,7 @@ use lib.ListN.{length}
 use Rattle.definitions.specs.Lists.{has}
 use Rattle.definitions.specs.Order.{allRelays, firstRelay}
 use Rattle.definitions.specs.Demand.{NoRepeat}
+use Rattle.lists.specs.Ascending.{Ascending, ascending-range}
 use Rattle.lists.specs.Distinct.{range-no-repeat}
 use Rattle.lists.specs.Members.{range-has, range-bounds}
 use Rattle.lists.specs.Tables.{length-table}
@@ -29,6 +30,10 @@ module _ (n : ℕ) where
   pub all-below : (r : ℕ) → has (allRelays n) r ≡ true → r < n
   unfolding allRelays
   all-below r h = omega (arith, range-bounds 0 n r h)
+
+  pub all-ascending : Ascending (allRelays n)
+  unfolding allRelays
+  all-ascending = ascending-range 0 n
 
   pub first-below : (lows highs : List ℕ) → 0 < n → firstRelay n lows highs < n
   unfolding firstRelay

@@ -1,11 +1,13 @@
 -- The forest number and the mark of each link: over any order, and as Split and Cut write them for an accepted network.
 use Prim.Native.Nat.{ℕ, _≤_, _<_}
+use mathlib.Core.Bool.{Bool, true, false}
 use mathlib.Core.List.{List}
 use mathlib.Core.Path.{_≡_, _∙_, ap}
 use native.Mathlib.Omega.{arith}
 use borrow.Author.Tests.{le-ltb}
 use lib.ListN.{length, getD, length-map}
-use Rattle.definitions.specs.Outcome.{refuseIf, andThen, ifDone}
+use Rattle.definitions.specs.Outcome.{pick, refuseIf, andThen, ifDone}
+use Rattle.definitions.specs.Lists.{outside}
 use Rattle.definitions.specs.Network.{Accepted}
 use Rattle.definitions.specs.Order.{orderOf}
 use Rattle.definitions.specs.Forests.{forestsOf, forestsAfter, markOf, marksOf, cutAnswer, marksAfter}
@@ -30,6 +32,15 @@ pub kept-forest : (order lows highs : List ℕ) (k : ℕ) (marks : List ℕ) →
 unfolding markOf
 kept-forest order lows highs k marks marked i h some few =
     marked i h ∙ (rw (inside 1 k (linkForest order lows highs i) some few))
+
+-- A mark is 0 or 1.
+pub mark-small : (k forest : ℕ) → markOf k forest ≤ 1
+unfolding markOf
+mark-small k forest = go (outside 1 k forest)
+  where
+    go : (b : Bool) → pick b 0 1 ≤ 1
+    go true = omega arith
+    go false = omega arith
 
 -- The same in the order as it is defined.
 abbrev pub Numbered : (n : ℕ) (lows highs forests : List ℕ) → Type 0

@@ -26,7 +26,7 @@ put-refusal-requires c κs =
     let atWishLine = c .before .before .before .before in
     let start = atWishLine .before .before in
     let a = start .args in
-    let bound : length (printed (planned (now (a .input)))) ≤ 4608 = plan-length demand-three (now (a .input)) in
+    let bound : length (printed sheetText (planned (now (a .input)))) ≤ 4608 = plan-length demand-three (now (a .input)) in
     let line = fits-as _ _ _
     (wish-departed (now (a .input)) _ (sym (atWishLine .wish-line .ensures) ∙ ap wishGives (c .before .before .p .given .1))) bound in
     omega arith
@@ -58,7 +58,7 @@ plan-network-requires c κs =
     let atWishLine = atFrom .before .before in
     let start = atWishLine .before .before in
     let a = start .args in
-    let bound : length (printed (planned (now (a .input)))) ≤ 4608 = plan-length demand-three (now (a .input)) in
+    let bound : length (printed sheetText (planned (now (a .input)))) ≤ 4608 = plan-length demand-three (now (a .input)) in
     let lines = fits-as _ _ _
     (wish-taken (now (a .input)) _ _ _ _ (sym (atWishLine .wish-line .ensures) ∙ ap wishGives (atFrom .from .given .1)) .1) bound in
     omega arith

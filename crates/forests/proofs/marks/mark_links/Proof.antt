@@ -8,7 +8,7 @@ use lib.ListN.{length, take, getD, set}
 use Rattle.definitions.specs.Lists.{total}
 use Rattle.definitions.specs.Forests.{markOf}
 use Rattle.lists.specs.Mapped.{mapped, mapped-next, mapped-more, total-more, length-mapped}
-use Rattle.forests.proofs.AnswerLaws.{mark-small}
+use Rattle.theory.specs.Columns.{mark-small}
 use Rattle.forests.proofs.marks.mark_links.Statement.{statement}
 use Rattle.forests.proofs.marks.mark_links.Tie as tie
 
