@@ -10,8 +10,8 @@ use lib.ListN.{length, getD, take, drop}
 use Rattle.definitions.specs.Outcome.{Answer, refused, done}
 use Rattle.definitions.specs.Lists.{has, count, total}
 use Rattle.definitions.specs.Network.{joins, linked, Accepted}
-use Rattle.definitions.specs.Order.{allRelays, orderAnswer, relaysAfter, placesAfter}
-use Rattle.definitions.specs.Forests.{splitAnswer, forestsAfter, cutAnswer, marksAfter}
+use Rattle.definitions.specs.Order.{allRelays, relaysAfter, placesAfter}
+use Rattle.definitions.specs.Forests.{forestsAfter, marksAfter}
 use Rattle.definitions.specs.Route.{tooShort, routeAnswer, countsAfter, routeRelaysAfter}
 
 -- "Two relays are joined through live relays over some links if a chain of live relays, both of them included, leads from

@@ -1,9 +1,9 @@
 -- Document 01, 'The forests' (document 002, section 2): earlier neighbours, left(i, v), forest numbers, trees, the cut.
 -- Over any test `linked` and any order; places are 1 to n, and 0 means none.
-use Prim.Native.Nat.{ℕ, zero, suc, _+_, min, max}
-use mathlib.Core.Bool.{Bool, _||_}
+use Prim.Native.Nat.{ℕ, zero, suc, min, max}
+use mathlib.Core.Bool.{Bool}
 use mathlib.Core.List.{List, [], _∷_, map}
-use lib.Dec.{eqb, ltb, leb}
+use lib.Dec.{eqb, ltb}
 use lib.ListN.{length, getD}
 use Rattle.definitions.specs.Outcome.{pick, Answer, done, refuseIf, andThen, ifDone}
 use Rattle.definitions.specs.Lists.{table, overwrite, outside, rising, position, total, greatest}

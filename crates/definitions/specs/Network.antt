@@ -6,7 +6,7 @@ use mathlib.Core.List.{List, [], _∷_}
 use mathlib.Core.Path.{_≡_}
 use lib.Dec.{eqb, ltb, leb}
 use lib.ListN.{length, getD}
-use Rattle.definitions.specs.Outcome.{pick, Outcome, done, Answer, refuseIf}
+use Rattle.definitions.specs.Outcome.{pick, done, Answer, refuseIf}
 use Rattle.definitions.specs.Lists.{outside, someBelow}
 
 -- The first pair number of the links whose high relay is b.

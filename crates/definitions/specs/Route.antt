@@ -1,11 +1,11 @@
 -- Document 01, Route: the routes as relay numbers, its refusals in their order, and its lists afterwards.
 -- Assumes nothing.
-use Prim.Native.Nat.{ℕ, zero, suc, _+_, _-_, _*_, min, max}
+use Prim.Native.Nat.{ℕ, _+_, _-_, _*_}
 use mathlib.Core.Bool.{Bool, true, _||_, not}
 use mathlib.Core.List.{List, [], _∷_, map, reverse}
 use lib.Dec.{eqb, ltb, leb}
 use lib.ListN.{length}
-use Rattle.definitions.specs.Outcome.{pick, Outcome, refused, done, Answer, refuseIf, andThen, ifDone}
+use Rattle.definitions.specs.Outcome.{pick, refused, done, Answer, refuseIf, andThen, ifDone}
 use Rattle.definitions.specs.Lists.{overwrite, zeroed, outside, joinAll}
 use Rattle.definitions.specs.Network.{linked, tableCheck}
 use Rattle.definitions.specs.Order.{orderOf, placeOf, relayAt}

@@ -1,10 +1,10 @@
 -- Document 01, 'The network and its text': the reader from left to right, the writer, and their lists afterwards.
 -- Assumes nothing.
 use Prim.Native.Nat.{ℕ, zero, suc, _+_}
-use mathlib.Core.Bool.{Bool, _||_}
+use mathlib.Core.Bool.{_||_}
 use mathlib.Core.List.{List, [], _∷_, _++_}
 use lib.Dec.{ltb}
-use lib.ListN.{length, getD, drop, replicate}
+use lib.ListN.{length, getD, drop}
 use Rattle.definitions.specs.Outcome.{Outcome, refused, done, Answer, refuseIf, andThen, ifDone}
 use Rattle.definitions.specs.Lists.{overwrite, zeroed, outside}
 use Rattle.definitions.specs.Network.{linkFault, tableCheck}

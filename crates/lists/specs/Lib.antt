@@ -1,5 +1,4 @@
 -- Facts on the lists and tests of `definitions`, a module a subject. They know nothing of networks.
-pub mod Joins
 pub mod Members
 pub mod Cases
 pub mod Searches
@@ -26,7 +25,6 @@ pub mod RefusedWithin
 pub mod Maps
 pub mod Cuts
 pub mod Pigeonhole
-pub mod Chains
 pub mod Ends
 pub mod Reversed
 pub mod Concat

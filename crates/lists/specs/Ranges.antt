@@ -2,12 +2,11 @@
 -- Assumes nothing.
 use Prim.Native.Nat.{ℕ, _≤_, _<_}
 use mathlib.Core.Bool.{true, false}
-use mathlib.Core.Logic.{_⊎_, inl, inr}
 use mathlib.Core.Path.{_≡_}
 use lib.Dec.{ltb}
-use borrow.Author.Tests.{lt-ltb, le-ltb, ltb-true, ltb-false}
+use borrow.Author.Tests.{lt-ltb, le-ltb, ltb-false}
 use Rattle.definitions.specs.Lists.{outside}
-use Rattle.lists.specs.Tests.{or-false, or-either}
+use Rattle.lists.specs.Tests.{or-false}
 
 pub inside : (low high x : ℕ) → low ≤ x → x ≤ high → outside low high x ≡ false
 unfolding outside
@@ -26,11 +25,3 @@ unfolding outside
 inside-range low high x e =
     let both = or-false (ltb x low) (ltb high x) e in
     (ltb-false x low (both .0), ltb-false high x (both .1))
-
-pub outside-range : (low high x : ℕ) → outside low high x ≡ true → (x < low) ⊎ (high < x)
-unfolding outside
-outside-range low high x e = go (or-either (ltb x low) (ltb high x) e)
-  where
-    go : (ltb x low ≡ true) ⊎ (ltb high x ≡ true) → (x < low) ⊎ (high < x)
-    go (inl h) = inl (ltb-true x low h)
-    go (inr h) = inr (ltb-true high x h)

@@ -1,7 +1,7 @@
 -- The hypotheses of the theory over any order can be met by one that is not the base's: the mesh of document 01 with relay 2 first
 -- and relay 4 left out. Its two links have no forest and mark 0, and what is kept for k 1 joins what all the others join.
 use Prim.Native.Nat.{ℕ, zero, suc, _≤_, _<_}
-use mathlib.Core.Bool.{Bool, true, false, false≢true}
+use mathlib.Core.Bool.{Bool, true, false}
 use mathlib.Core.List.{List, [], _∷_}
 use mathlib.Core.Logic.{_↔_}
 use mathlib.Core.Path.{_≡_, refl}

@@ -14,7 +14,7 @@ use Rattle.definitions.specs.Order.{allRelays, orderOf, placeOf, relayAt}
 use Rattle.definitions.specs.Route.{routesBetween}
 use Rattle.definitions.specs.Demand.{Joined, alone, onward, LinkOf, AnyLink, Kept, Live, deadCount}
 use Rattle.lists.specs.Pigeonhole.{count-within, pigeonhole, firstPassing, free-list}
-use Rattle.lists.specs.Chains.{joined-map, joined-replace, route-joined}
+use Rattle.theory.specs.JoinedRelays.{joined-map, joined-replace, route-joined}
 use Rattle.theory.specs.LeftLaws.{LeftLaws}
 use Rattle.theory.specs.Trees.{Alive, TreeLink, alive-lower, alive-left}
 use Rattle.theory.specs.AllRelays.{all-has}

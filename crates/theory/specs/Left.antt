@@ -185,17 +185,3 @@ module _ (n : ℕ) (lows highs : List ℕ) where
   leftOf-range i v h =
       let r = left-range (linkedIn lows highs) (orderOf n lows highs) i v h in
       (r .0, omega (arith, r .2, order-length n lows highs))
-
-  pub leftOf-linked : (i v : ℕ) → 0 < leftOf n lows highs i v
-      → linkedIn lows highs (relayAt (orderOf n lows highs) (leftOf n lows highs i v)) (relayAt (orderOf n lows highs) v) ≡ true
-  unfolding leftOf
-  leftOf-linked = left-linked (linkedIn lows highs) (orderOf n lows highs)
-
-  pub linked-leftOf : (u v : ℕ) → 1 ≤ u → u < v → v ≤ n
-      → linkedIn lows highs (relayAt (orderOf n lows highs) u) (relayAt (orderOf n lows highs) v) ≡ true
-      → (i : ℕ) × (1 ≤ i) × (leftOf n lows highs i v ≡ u)
-  unfolding leftOf
-  linked-leftOf u v h k q e =
-      let order = orderOf n lows highs in
-      let f = left-forest (linkedIn lows highs) order u v h k (omega (arith, order-length n lows highs)) e in
-      (forestBetween (linkedIn lows highs) order u v, f .0, f .1)

@@ -1,5 +1,6 @@
 -- The theorems about the definitions, a module a subject.
 pub mod LeftLaws
+pub mod JoinedRelays
 pub mod Heaviest
 pub mod AllRelays
 pub mod Ordering

@@ -60,11 +60,6 @@ module _ (lows highs : List ℕ) where
   unfolding linked
   linked-joined a b h = below-which (joins lows highs a b) (length lows) h
 
-  pub linked-sym : (a b : ℕ) → linked lows highs a b ≡ true → linked lows highs b a ≡ true
-  linked-sym a b h =
-      let w = linked-joined a b h in
-      joined-linked b a (w .0) (w .1) (joins-sym a b (w .0) (w .2))
-
 -- "at most one for each two"
 pub one-link : (n : ℕ) (lows highs : List ℕ) → ProperTable n lows highs → (a b i j : ℕ)
     → i < length lows → j < length lows → joins lows highs a b i ≡ true → joins lows highs a b j ≡ true → i ≡ j

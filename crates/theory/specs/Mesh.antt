@@ -1,16 +1,14 @@
 -- The hypotheses of demand 3 can all be met: the mesh of document 01 with k 2, the ends 4 and 1, relay 2 dead.
-use Prim.Native.Nat.{ℕ, _≤_, _<_}
+use Prim.Native.Nat.{ℕ, _<_}
 use mathlib.Core.Bool.{Bool, false}
-use mathlib.Core.List.{List, [], _∷_}
+use mathlib.Core.List.{List}
 use mathlib.Core.Path.{_≡_, refl}
 use native.Mathlib.Omega.{arith}
 use lib.Dec.{eqb}
-use lib.ListN.{length}
-use Rattle.definitions.specs.Outcome.{done}
 use Rattle.definitions.specs.Network.{Accepted}
 use Rattle.definitions.specs.Order.{relaysAfter, placesAfter}
 use Rattle.definitions.specs.Forests.{forestsAfter, marksAfter}
-use Rattle.definitions.specs.Route.{tooShort, routeAnswer, countsAfter, routeRelaysAfter}
+use Rattle.definitions.specs.Route.{tooShort, countsAfter, routeRelaysAfter}
 use Rattle.definitions.specs.Demand.{Joined, alone, onward, LinkOf, AnyLink, Kept, Live, deadCount, OneTree, Holds, RoutesHold}
 use Rattle.definitions.specs.Networks.{mesh, lent}
 use Rattle.definitions.specs.Opened.{opened}

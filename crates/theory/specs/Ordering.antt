@@ -9,16 +9,15 @@ use borrow.Author.Tests.{leb-true, leb-false, not-true}
 use lib.Dec.{eqb, leb}
 use lib.ListN.{length, getD, take, length-append}
 use lib.Seq.{take-all, take-append-le, getD-at, getD-take}
-use Rattle.definitions.specs.Lists.{table, has, count}
+use Rattle.definitions.specs.Lists.{has, count}
 use Rattle.definitions.specs.Demand.{NoRepeat}
 use Rattle.definitions.specs.Network.{linked as linkedIn}
 use Rattle.definitions.specs.Order.{weight, unplaced, heaviestOf, nextRelay, placeNext, placedAfter, allRelays, firstRelay, orderOf}
 use Rattle.lists.specs.Tests.{and-both}
-use Rattle.lists.specs.Members.{has-at, has-keep, index-of, range-bounds, range-has}
-use Rattle.lists.specs.Distinct.{no-repeat-snoc, distinct, range-no-repeat}
+use Rattle.lists.specs.Members.{has-at, has-keep, index-of}
+use Rattle.lists.specs.Distinct.{no-repeat-snoc, distinct}
 use Rattle.lists.specs.Counting.{count-has, count-not, count-once, count-present, length-keep, covers}
 use Rattle.lists.specs.Ascending.{Ascending, ascending-keep}
-use Rattle.lists.specs.Tables.{length-table}
 use Rattle.theory.specs.AllRelays.{all-long, all-once, all-has, all-below, first-of-all}
 use Rattle.theory.specs.Heaviest.{Chosen, heaviestOf-chosen, chosen-has, chosen-most, chosen-lowest}
 

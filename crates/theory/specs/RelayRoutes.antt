@@ -16,7 +16,7 @@ use Rattle.lists.specs.Members.{has-map}
 use Rattle.lists.specs.Distinct.{no-repeat-map}
 use Rattle.lists.specs.Maps.{getD-map}
 use Rattle.lists.specs.Cuts.{length-joinAll-map}
-use Rattle.lists.specs.Chains.{along-map}
+use Rattle.theory.specs.JoinedRelays.{along-map}
 use Rattle.lists.specs.Ends.{two-entries}
 use Rattle.theory.specs.Ordering.{order-length, order-has, order-below}
 use Rattle.theory.specs.Places.{relay-of-place, place-of-relay, relay-in, places-apart}

@@ -14,8 +14,7 @@ use Rattle.definitions.specs.Order.{orderOf, placeOf, relayAt}
 use Rattle.definitions.specs.Forests.{earlier, oneTree}
 use Rattle.definitions.specs.Route.{leftOf, endsInOneTree}
 use Rattle.definitions.specs.Demand.{Joined, OneTree}
-use Rattle.lists.specs.Joins.{joined-sym}
-use Rattle.lists.specs.Chains.{joined-map}
+use Rattle.theory.specs.JoinedRelays.{joined-sym, joined-map}
 use Rattle.theory.specs.LeftLaws.{LeftLaws}
 use Rattle.theory.specs.Trees.{Alive, TreeLink, treeLink-sym, chain-alive, oneTree-alive, oneTree-sym}
 use Rattle.theory.specs.Ordering.{order-has}

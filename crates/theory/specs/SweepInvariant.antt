@@ -1,18 +1,15 @@
 -- What holds of the sweep before each v: the states of its open and closed indices, and that no relay is in two of them.
 -- Over any `left`; that it holds is shown in `SweepStep`.
 use Prim.Native.Nat.{ℕ, _≤_, _<_}
-use native.Mathlib.Decide.{decLt}
 use native.Mathlib.Omega.{arith}
-use mathlib.Core.Bool.{Bool, true, false}
+use mathlib.Core.Bool.{true, false}
 use mathlib.Core.List.{List, [], _∷_}
-use mathlib.Core.Logic.{_⊎_, inl, inr, _≢_, by-cases}
-use mathlib.Core.Path.{_≡_, refl, sym, _∙_, subst}
+use mathlib.Core.Logic.{_≢_}
+use mathlib.Core.Path.{_≡_, sym, subst}
 use Rattle.definitions.specs.Lists.{has}
 use Rattle.definitions.specs.Sweep.{Slot, endOf}
-use Rattle.lists.specs.Searches.{clash}
-use Rattle.lists.specs.Cases.{has-nil, has-cases}
 use Rattle.theory.specs.LeftLaws.{LeftLaws}
-use Rattle.theory.specs.SweepPaths.{Trail, OpenPath, open-end, open-above, open-start, trail-from}
+use Rattle.theory.specs.SweepPaths.{Trail, OpenPath, open-start}
 
 -- Index i is open before v. B(i) is t alone until t has been treated; from then on t is not in A(i).
 pub record OpenSlot (left : ℕ → ℕ → ℕ) (k s t v i : ℕ) (slot : Slot) : Type 0 where
@@ -92,42 +89,3 @@ module _ (left : ℕ → ℕ → ℕ) (laws : LeftLaws left) (k s t v i : ℕ) w
       second : Unended left k s t i v (slot .pathB) → v < t → OpenPath left k s t i v (slot .pathB)
       second (alone le e) less = absurd (omega arith)
       second (goes o) less = o
-
--- The place v stands in a path only as the end of an open one; in B-paths, where v is not t.
-module _ (left : ℕ → ℕ → ℕ) (laws : LeftLaws left) (k s t v : ℕ) (slots : ℕ → Slot) (inv : Sweeping left k s t v slots) (i : ℕ) (one : 1 ≤ i) (le : i ≤ k) where
-  at-end : (c : ℕ) (path : List ℕ) → OpenPath left k s c i v path → has path v ≡ true → endOf path ≡ v
-  at-end c path o h = go (open-above left laws k s c v i path o v h)
-    where
-      go : (v ≡ o .end) ⊎ ((v < v) × (has (o .before ∷ o .rest) v ≡ true)) → endOf path ≡ v
-      go (inl e) = open-end o ∙ sym e
-      go (inr p) = absurd (omega arith)
-
-  pub only-endA : has (slots i .pathA) v ≡ true → (slots i .isOpen ≡ true) × (endOf (slots i .pathA) ≡ v)
-  only-endA h = go (slots i .isOpen) refl
-    where
-      go : (b : Bool) → slots i .isOpen ≡ b → (b ≡ true) × (endOf (slots i .pathA) ≡ v)
-      go true e = (refl, at-end s (slots i .pathA) (inv .opened i one le e .sideA) h)
-      go false e =
-          let c : ClosedSlot left k s t v i (slots i) = inv .closed i one le e in
-          let g : has (c .meet ∷ c .before ∷ c .restA) v ≡ true = subst (λ (p : List ℕ). has p v ≡ true) (c .shapeA) h in
-          absurd (omega (arith, c .above, trail-from left laws k s (c .meet) (c .before ∷ c .restA) (c .trailA) v g))
-
-  pub only-endB : v ≢ t → has (slots i .pathB) v ≡ true → (slots i .isOpen ≡ true) × (endOf (slots i .pathB) ≡ v)
-  only-endB other h = go (slots i .isOpen) refl
-    where
-      none : (t ≡ v) ⊎ (has [] v ≡ true) → ⊥
-      none (inl e) = other (sym e)
-      none (inr g) = clash g (has-nil v)
-
-      go : (b : Bool) → slots i .isOpen ≡ b → (b ≡ true) × (endOf (slots i .pathB) ≡ v)
-      go true e =
-          let o : OpenSlot left k s t v i (slots i) = inv .opened i one le e in (
-            refl,
-            by-cases (decLt v t)
-                (λ before. at-end t (slots i .pathB) (o .sideB before) h)
-                (λ after. absurd (none (has-cases t [] v (subst (λ (p : List ℕ). has p v ≡ true) (o .alone (omega arith)) h)))),
-          )
-      go false e =
-          let c : ClosedSlot left k s t v i (slots i) = inv .closed i one le e in
-          let g : has (c .meet ∷ c .restB) v ≡ true = subst (λ (p : List ℕ). has p v ≡ true) (c .shapeB) h in
-          absurd (omega (arith, c .above, trail-from left laws k t (c .meet) (c .restB) (c .trailB) v g))

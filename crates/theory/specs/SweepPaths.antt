@@ -7,7 +7,7 @@ use mathlib.Core.Logic.{_⊎_, inl, inr, _≢_}
 use mathlib.Core.Path.{_≡_, refl, sym, subst}
 use Rattle.definitions.specs.Lists.{has}
 use Rattle.definitions.specs.Demand.{NoRepeat}
-use Rattle.definitions.specs.Sweep.{endOf, beforeEnd}
+use Rattle.definitions.specs.Sweep.{endOf}
 use Rattle.lists.specs.Searches.{clash}
 use Rattle.lists.specs.Cases.{has-nil, has-cases, has-not}
 use Rattle.theory.specs.LeftLaws.{LeftLaws}
@@ -39,10 +39,6 @@ pub record OpenPath (left : ℕ → ℕ → ℕ) (k s c i v : ℕ) (path : List 
 pub open-end : {left : ℕ → ℕ → ℕ} {k s c i v : ℕ} {path : List ℕ} (o : OpenPath left k s c i v path) → endOf path ≡ o .end
 unfolding endOf
 open-end o = rw (o .shape)
-
-pub open-before : {left : ℕ → ℕ → ℕ} {k s c i v : ℕ} {path : List ℕ} (o : OpenPath left k s c i v path) → beforeEnd path ≡ o .before
-unfolding beforeEnd
-open-before o = rw (o .shape)
 
 module _ (left : ℕ → ℕ → ℕ) (laws : LeftLaws left) (k : ℕ) where
   pub down-less : (x y : ℕ) → Down left k x y → x < y

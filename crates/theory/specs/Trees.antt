@@ -12,7 +12,7 @@ use Rattle.definitions.specs.Outcome.{pick}
 use Rattle.definitions.specs.Forests.{rootWithin, oneTree}
 use Rattle.definitions.specs.Demand.{Joined, alone, onward}
 use Rattle.lists.specs.Tests.{eqb-sym}
-use Rattle.lists.specs.Joins.{joined-trans, joined-sym}
+use Rattle.theory.specs.JoinedRelays.{joined-trans, joined-sym}
 use Rattle.theory.specs.LeftLaws.{LeftLaws}
 
 -- Every place above e, up to s, has an i-th earlier neighbour.

@@ -1,4 +1,5 @@
--- Chains of links (`Joined`): taken over by a function, with each link replaced by a chain, and from a list of relays.
+-- Chains of links (`Joined`): put together, turned round where the links can be, taken over by a function, with each link replaced
+-- by a chain, and from a list of relays.
 use Prim.Native.Nat.{ℕ, zero, suc, _-_, _≤_}
 use mathlib.Core.Bool.{true}
 use mathlib.Core.List.{List, [], _∷_, map}
@@ -7,8 +8,20 @@ use native.Mathlib.Omega.{arith}
 use lib.ListN.{length, getD}
 use Rattle.definitions.specs.Lists.{has}
 use Rattle.definitions.specs.Demand.{Joined, alone, onward, Along, AlongFrom}
-use Rattle.lists.specs.Joins.{joined-start, joined-trans}
 use Rattle.lists.specs.Members.{has-at}
+
+module _ {live : ℕ → Type 0} {link : ℕ → ℕ → Type 0} where
+  pub joined-start : {a b : ℕ} → Joined live link a b → live a
+  joined-start (alone l) = l
+  joined-start (onward l k r) = l
+
+  pub joined-trans : {a b c : ℕ} → Joined live link a b → Joined live link b c → Joined live link a c
+  joined-trans (alone l) q = q
+  joined-trans (onward l k r) q = onward l k (joined-trans r q)
+
+  pub joined-sym : ((a b : ℕ) → link a b → link b a) → {a b : ℕ} → Joined live link a b → Joined live link b a
+  joined-sym turn (alone l) = alone l
+  joined-sym turn (onward {a = a} {b = b} l k r) = joined-trans (joined-sym turn r) (onward (joined-start r) (turn a b k) (alone l))
 
 -- A function that takes live places to live ones and links to links takes chains to chains.
 pub joined-map : {live alive : ℕ → Type 0} {link tie : ℕ → ℕ → Type 0} (f : ℕ → ℕ)
