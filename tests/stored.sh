@@ -24,11 +24,32 @@ finish() {
     [ "$wrong" -eq 0 ]
 }
 
+# In pieces of 1, 2, 3, 5, 8, .. bytes, each written by itself with a short pause before it.
+in_pieces() {
+    local piece size=1 next=2 sum
+    while IFS= read -r -d '' -N "$size" piece || [ -n "$piece" ]; do
+        sleep 0.003
+        printf '%s' "$piece"
+        sum=$((size + next)) size=$next next=$sum
+    done
+}
+
 # The networks of document 01, and one of one link to be spoilt.
 mesh='(net (relays 5) (links 7))\n(link 0 1)\n(link 0 2)\n(link 1 2)\n(link 1 3)\n(link 2 3)\n(link 2 4)\n(link 3 4)\n(end)\n'
 square='(net (relays 4) (links 4))\n(link 0 1)\n(link 1 2)\n(link 2 3)\n(link 0 3)\n(end)\n'
 four='(net (relays 4) (links 6))\n(link 0 1)\n(link 0 2)\n(link 0 3)\n(link 1 2)\n(link 1 3)\n(link 2 3)\n(end)\n'
 one='(net (relays 5) (links 1))\n'
+
+# A longest text, of 45,039 bytes: 1,000 relays, and 3,000 links whose numbers all have three digits. A path from 100 to 174, and
+# among 923 to 999 every pair.
+longest() {
+    awk 'BEGIN {
+        print "(net (relays 1000) (links 3000))"
+        for (b = 101; b <= 174; b++) print "(link " b - 1 " " b ")"
+        for (b = 924; b <= 999; b++) for (a = 923; a < b; a++) print "(link " a " " b ")"
+        print "(end)"
+    }'
+}
 
 # spoilt ASK: a network text that departs at each place of its forms, or is refused for another reason, behind the line ASK.
 spoilt() {
