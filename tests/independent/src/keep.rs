@@ -1,4 +1,4 @@
-//! The keeper program: bytes in, bytes out.
+//! The keeper program: bytes in, bytes out. What it keeps is document 01's; the form of its lines is that of docs/DESK.md.
 
 use crate::forests::cut;
 use crate::table::Refusal;
