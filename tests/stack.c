@@ -85,7 +85,7 @@ static void make(network *net, uint16_t n, uint16_t path, uint16_t core, uint16_
 }
 
 enum { SIZE = 4 << 20, FILL = 0xa5 };
-static _Alignas(4096) uint8_t stack[SIZE];
+static uint8_t stack[SIZE] __attribute__((aligned(4096)));
 
 typedef struct {
     void (*call)(const network *);
