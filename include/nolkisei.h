@@ -1,35 +1,32 @@
-/* Nolkisei for C: the operations of document 01 on plain lists. Link libnolkisei.a (rt staticlib nolkisei); it needs
- * memset alone of libc, allocates nothing and keeps nothing between calls.
+/* Nolkisei for C on x86-64 Linux: plans routes over a network of relays, and says which of its links are worth keeping.
+ * Link libnolkisei.a (rt staticlib nolkisei); it needs memset alone of libc, allocates nothing and keeps nothing between calls.
  *
- * A network has n relays (1 to 1,000), numbered from 0, and m links (0 to 3,000). A table is two lists, lows and highs:
- * link i joins relay lows[i] to relay highs[i], lows[i] below highs[i], no pair twice. Every list goes with its length,
- * in entries, behind it; `answer` and `output` have the length that is written here.
+ * A network has n relays, numbered from 0, and m links, each between two different relays and no two between the same. A table
+ * is two lists, lows and highs: link i joins relay lows[i] to relay highs[i], lows[i] below highs[i].
  *
- * Each function but nolkisei_plan returns 0 when it is done, or the number of its refusal:
+ * The relays have an order. Relay 0 is first; next comes always the relay not yet placed that has the most links to placed ones,
+ * of equals the one with the lowest number. A relay's place, 1 to n, is where it stands in the order. A relay's link to the i-th
+ * of its neighbours with a lower place, in rising place, belongs to forest i; so each link is in one forest, and the links of a
+ * forest close no ring. Two relays are in one tree of a forest if its links lead from one to the other.
  *
- *    2  the text departs from its form
- *    3  n is not 1 to 1,000
- *    4  the lists have unequal lengths, or m is over 3,000
- *    5  a relay number is not below n (of a pair: not below 1,000)
- *    6  a link's low relay is not below its high relay
- *    7  an earlier link has the same pair
- *    8  a table list is shorter than m
- *    9  k is not 1 to 32
- *   10  `from` or `to` is not below n
- *   11  `from` and `to` are equal
- *   12  a lent list is too short
- *   13  the two relays are not in one tree of forest k
+ * Cutting down to k keeps the links of forests 1 to k. As long as fewer than k relays are dead, two live relays are joined through
+ * live relays over the kept links exactly if they are over all links. Between two relays in one tree of forest k there are k routes
+ * over kept links that share only their ends; where two are not in one tree of forest k there may be k routes all the same, but
+ * none are given.
  *
- * and writes both entries of `answer`: after a refusal its place in the input (the byte offset for 2, the link's index
- * for 5 to 7, else 0) and 0; after success the values named below, and 0 for what is not named.
+ * A network's text, each line ended by byte 10, single spaces, numbers of one to four digits with no zero in front:
  *
- * Any numbers and any lengths are accepted and answered as above. What a caller owes:
+ *    (net (relays N) (links M))
+ *    (link A B)                     M such lines, A below B
+ *    (end)                          and nothing behind it
+ *
+ * What a caller owes:
+ *   - every list goes with its length behind it, in entries: as many can be read there, and written where the list is not const;
+ *     of `answer` 2 can be written;
  *   - a pointer is not null and is aligned for its type, even where the length is 0;
- *   - as many entries as the length says can be read there, and written where the list is not const (2 of `answer`,
- *     4,608 of `output`);
- *   - a list that is not const overlaps no other list of the call, and nobody else uses it while the call runs.
- *
- * 'Unchanged' below means every entry of the list. After any other refusal than those named a list is unchanged. */
+ *   - a list that is not const overlaps no other list of the call, and nobody else uses it while the call runs;
+ *   - there are NOLKISEI_STACK bytes of stack.
+ * Any numbers and any lengths are accepted and answered as follows. */
 
 #ifndef NOLKISEI_H
 #define NOLKISEI_H
@@ -41,11 +38,53 @@
 extern "C" {
 #endif
 
+/* The limits: n is 1 to NOLKISEI_RELAYS, m is 0 to NOLKISEI_LINKS, k is 1 to NOLKISEI_ROUTES. */
+#define NOLKISEI_RELAYS 1000
+#define NOLKISEI_LINKS 3000
+#define NOLKISEI_ROUTES 32
+
+/* Lengths that are enough for every network: of a text, of what nolkisei_plan and nolkisei_keep print, all in bytes, and of the
+ * relays and the scratch of nolkisei_route, in entries.
+ * The longest text has just NOLKISEI_TEXT bytes. A sheet has at most 1,062 relays and so at most 4,447 bytes; what is proved is
+ * that each fits into NOLKISEI_SHEET. The longest list has just NOLKISEI_LIST bytes: 3,000 lines like (drop 2999 998 999), which
+ * are 58,890 with indices of one to four digits, and 48 in the four lines about them. */
+#define NOLKISEI_TEXT 45039
+#define NOLKISEI_SHEET 4608
+#define NOLKISEI_LIST 58938
+#define NOLKISEI_ROUTE_RELAYS 1062
+#define NOLKISEI_ROUTE_SCRATCH 32000
+
+/* Enough stack for any call, beside what the caller uses. Measured, not proved: tests/stack.c fills a thread's stack with one byte,
+ * calls each function on the largest networks and counts the bytes that changed. nolkisei_plan needs some 162,000 bytes,
+ * nolkisei_route 77,000, and each function that stands before it less than that. */
+#define NOLKISEI_STACK 262144
+
+/* What a function returns: 0 when it is done, or the number of its refusal. It writes both entries of `answer`: after a refusal its
+ * place in the input (the byte offset for 2, the link's index for 5 to 7, 0 for a pair, else 0) and 0; done, the values named with
+ * the function, and 0 for what is not named.
+ * 'Unchanged' below means every entry of the list. After any other refusal than those named a list is unchanged. */
+enum nolkisei_refusal {
+    NOLKISEI_DONE = 0,
+    NOLKISEI_WISH = 1,         /* the line that asks departs from its form: printed alone, by nolkisei_plan and nolkisei_keep */
+    NOLKISEI_FORM = 2,         /* the text departs from its form: at its first byte that does, or at its length */
+    NOLKISEI_RELAY_COUNT = 3,  /* n is not 1 to 1,000 */
+    NOLKISEI_LINK_COUNT = 4,   /* the lists have unequal lengths, or m is over 3,000 */
+    NOLKISEI_RELAY_RANGE = 5,  /* a relay number is not below n (of a pair: not below 1,000) */
+    NOLKISEI_NOT_BELOW = 6,    /* a link's low relay is not below its high relay */
+    NOLKISEI_REPEATED = 7,     /* an earlier link has the same pair */
+    NOLKISEI_TABLE_ROOM = 8,   /* a table list is shorter than m */
+    NOLKISEI_ROUTE_COUNT = 9,  /* k is not 1 to 32 */
+    NOLKISEI_END_RANGE = 10,   /* `from` or `to` is not below n */
+    NOLKISEI_SAME_ENDS = 11,   /* `from` and `to` are equal */
+    NOLKISEI_ROOM = 12,        /* a lent list is too short */
+    NOLKISEI_NOT_ONE_TREE = 13 /* the two relays are not in one tree of forest k */
+};
+
 /* The table check: 3, 4, 5, 6, 7. All functions below that take a table begin with it. */
 uint32_t nolkisei_check(uint16_t n, const uint16_t *lows, size_t lows_length, const uint16_t *highs, size_t highs_length,
                         uint64_t answer[2]);
 
-/* The pair number of the link a b: 5, 6. answer: the pair number b * (b - 1) / 2 + a. */
+/* The pair number of the link a b: 5, 6. answer: b * (b - 1) / 2 + a, which no other link has. */
 uint32_t nolkisei_pair(uint16_t a, uint16_t b, uint64_t answer[2]);
 
 /* Reads a text into a table: 2, 3, 4, 8, 5, 6, 7. answer: n and m.
@@ -53,7 +92,7 @@ uint32_t nolkisei_pair(uint16_t a, uint16_t b, uint64_t answer[2]);
 uint32_t nolkisei_read(const uint8_t *text, size_t text_length, uint16_t *lows, size_t lows_length, uint16_t *highs,
                        size_t highs_length, uint64_t answer[2]);
 
-/* Writes a table's text: the table check, then 12 where the buffer is shorter than the text (at most 45,039 bytes).
+/* Writes a table's text: the table check, then 12 where the buffer is shorter than the text.
  * answer: the text's length in bytes. Done, the text stands at the buffer's start and the rest is unchanged. */
 uint32_t nolkisei_write(uint16_t n, const uint16_t *lows, size_t lows_length, const uint16_t *highs, size_t highs_length,
                         uint8_t *buffer, size_t buffer_length, uint64_t answer[2]);
@@ -85,13 +124,35 @@ uint32_t nolkisei_route(uint16_t n, const uint16_t *lows, size_t lows_length, co
                         uint16_t k, uint16_t from, uint16_t to, uint16_t *counts, size_t counts_length, uint16_t *relays,
                         size_t relays_length, uint16_t *scratch, size_t scratch_length, uint64_t answer[2]);
 
-/* The planner: a wish line `(want FROM TO K)` and behind it a network text in, the printed sheet out, or the line
- * `(refused NUMBER PLACE)` with the first refusal met: 1 where the wish line departs from its form, at the byte; then 2,
- * at the byte counted from the first one behind the wish line, 3, 4, 5, 6, 7; then 9; then 10, 11, 13.
- * Returns how many bytes are printed. They stand at the output's start, and the rest of it is unchanged.
- * The output is 4,608 bytes long, no length goes with it: no input prints more, so it is never too short, and that there
- * are as many is the caller's to see to. */
-size_t nolkisei_plan(const uint8_t *input, size_t input_length, uint8_t output[4608]);
+/* The two programs. Their input is a line that asks, and behind it a network's text; what they print goes to the output. The return
+ * value is 0 with the number of bytes printed as answer, which stand at the output's start, and the rest of it is unchanged; or 12
+ * where the output is shorter than what is to be printed, and then it is unchanged. For an input that is refused they print one
+ * line, and that is a success too:
+ *
+ *    (refused NUMBER PLACE)
+ *
+ * with the first refusal met: 1 where the line that asks departs from its form, at the byte; then 2, at the byte counted from the
+ * first one behind that line, 3, 4, 5, 6, 7; then 9; and of nolkisei_plan then 10, 11, 13. */
+
+/* The planner: routes between two relays. The line is (want FROM TO K), and this is printed, with K lines `route`, each with the
+ * relays of a route in turn, and the number of links that a cut down to K keeps:
+ *
+ *    (sheet (from FROM) (to TO) (k K))
+ *    (route FROM .. TO)
+ *    (kept COUNT)
+ *    (end) */
+uint32_t nolkisei_plan(const uint8_t *input, size_t input_length, uint8_t *output, size_t output_length, uint64_t answer[2]);
+
+/* The keeper: the links that a cut down to K keeps. The line is (keep K), and this is printed, with a line `keep` or `drop` for
+ * each link, with its index and its two relays, in the order of the text, and the numbers of both:
+ *
+ *    (lease (k K))
+ *    (keep INDEX A B)
+ *    (drop INDEX A B)
+ *    (kept COUNT)
+ *    (dropped COUNT)
+ *    (end) */
+uint32_t nolkisei_keep(const uint8_t *input, size_t input_length, uint8_t *output, size_t output_length, uint64_t answer[2]);
 
 #ifdef __cplusplus
 }

@@ -27,7 +27,8 @@ static const uint16_t mesh_lows[] = {0, 0, 1, 1, 2, 2, 3}, mesh_highs[] = {1, 2,
 static const uint16_t none[] = {0};
 
 static uint64_t answer[2];
-static uint16_t counts[32], relays[1062], scratch[32000], places[1000], marks[3001], lows[3000], highs[3000];
+static uint16_t counts[NOLKISEI_ROUTES], relays[NOLKISEI_ROUTE_RELAYS], scratch[NOLKISEI_ROUTE_SCRATCH];
+static uint16_t places[NOLKISEI_RELAYS], marks[NOLKISEI_LINKS + 1], lows[NOLKISEI_LINKS], highs[NOLKISEI_LINKS];
 
 static uint64_t read_text(const char *text) {
     return nolkisei_read((const uint8_t *)text, strlen(text), LENT(lows), LENT(highs), answer);
@@ -42,7 +43,7 @@ static void marked(void) {
     list("P2 counts", counts, (const uint16_t[]){4, 2}, 2);
     list("P2 routes", relays, (const uint16_t[]){3, 0, 1, 2, 3, 2}, 6);
     is("P2 written", answer[0], 6);
-    is("P3", nolkisei_route(4, TABLE(square), 2, 0, 2, LENT(counts), LENT(relays), LENT(scratch), answer), 13);
+    is("P3", nolkisei_route(4, TABLE(square), 2, 0, 2, LENT(counts), LENT(relays), LENT(scratch), answer), NOLKISEI_NOT_ONE_TREE);
     is("P4", nolkisei_route(4, TABLE(full), 3, 3, 2, LENT(counts), LENT(relays), LENT(scratch), answer), 0);
     list("P4 routes", relays, (const uint16_t[]){3, 0, 2, 3, 1, 2, 3, 2}, 8);
     is("P5", nolkisei_order(5, TABLE(mesh), LENT(relays), LENT(places), answer), 0);
@@ -60,29 +61,44 @@ static void marked(void) {
     is("P10 count", answer[0], 0);
     is("P10", nolkisei_split(1, none, 0, none, 0, LENT(marks), answer), 0);
     is("P10 highest", answer[0], 0);
-    is("P11", nolkisei_route(2, none, 0, none, 0, 1, 0, 1, LENT(counts), LENT(relays), LENT(scratch), answer), 13);
+    is("P11", nolkisei_route(2, none, 0, none, 0, 1, 0, 1, LENT(counts), LENT(relays), LENT(scratch), answer), NOLKISEI_NOT_ONE_TREE);
     is("P12", nolkisei_pair(0, 1, answer), 0);
     is("P12 first", answer[0], 0);
     is("P12", nolkisei_pair(998, 999, answer), 0);
     is("P12 last", answer[0], 499499);
 }
 
-static void sheet(void) {
-    static const char wish[] = "(want 4 1 2)\n";
-    static const char due[] = "(sheet (from 4) (to 1) (k 2))\n(route 4 3 1)\n(route 4 2 1)\n(kept 7)\n(end)\n";
-    uint8_t input[200], output[4608];
-    size_t start = sizeof wish - 1;
-    memcpy(input, wish, start);
-    memset(output, 7, sizeof output);
-    is("write", nolkisei_write(5, TABLE(mesh), input + start, sizeof input - start, answer), 0);
-    size_t length = nolkisei_plan(input, start + answer[0], output);
-    is("P6 length", length, sizeof due - 1);
-    is("P6 sheet", memcmp(output, due, sizeof due - 1), 0);
-    for (size_t i = length; i < sizeof output; i++) {
-        is("behind the sheet", output[i], 7);
+typedef uint32_t program(const uint8_t *, size_t, uint8_t *, size_t, uint64_t[2]);
+
+/* What a program prints for a line and the mesh: into an output that is one byte too short, exact and longer. */
+static void prints(const char *what, program *program, const char *line, const char *due) {
+    uint8_t input[200], output[NOLKISEI_SHEET];
+    size_t start = strlen(line), length = strlen(due);
+    memcpy(input, line, start);
+    is(what, nolkisei_write(5, TABLE(mesh), input + start, sizeof input - start, answer), NOLKISEI_DONE);
+    size_t end = start + (size_t)answer[0];
+    for (size_t room = length - 1; room < length + 3; room++) {
+        memset(output, 7, sizeof output);
+        is(what, program(input, end, output, room, answer), room < length ? NOLKISEI_ROOM : NOLKISEI_DONE);
+        size_t printed = room < length ? 0 : length;
+        is(what, answer[0], printed);
+        is(what, answer[1], 0);
+        is(what, memcmp(output, due, printed), 0);
+        for (size_t i = printed; i < sizeof output; i++) {
+            is(what, output[i], 7);
+        }
     }
-    is("no wish", nolkisei_plan(input, 0, output), 14);
-    is("no wish line", memcmp(output, "(refused 1 0)\n", 14), 0);
+}
+
+static void programs(void) {
+    prints("P6", nolkisei_plan, "(want 4 1 2)\n",
+           "(sheet (from 4) (to 1) (k 2))\n(route 4 3 1)\n(route 4 2 1)\n(kept 7)\n(end)\n");
+    prints("P9 as a list", nolkisei_keep, "(keep 1)\n",
+           "(lease (k 1))\n(keep 0 0 1)\n(keep 1 0 2)\n(drop 2 1 2)\n(keep 3 1 3)\n(drop 4 2 3)\n(keep 5 2 4)\n(drop 6 3 4)\n"
+           "(kept 4)\n(dropped 3)\n(end)\n");
+    prints("no wish", nolkisei_plan, "", "(refused 1 1)\n");
+    prints("no keep line", nolkisei_keep, "(keep)\n", "(refused 1 5)\n");
+    prints("k 33", nolkisei_keep, "(keep 33)\n", "(refused 9 0)\n");
 }
 
 static void others(void) {
@@ -102,7 +118,7 @@ static void others(void) {
 
 int main(void) {
     marked();
-    sheet();
+    programs();
     others();
     printf("document 01's examples through the C header: %s\n", failed ? "some differ" : "as printed");
     return failed != 0;

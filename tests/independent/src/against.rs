@@ -5,13 +5,14 @@ use crate::facts::{disjoint, kept, parts};
 use crate::flow::{self, greatest};
 use crate::generate::{Network, any, damage, scratch};
 use crate::lengths::{Lengths, any_length, mostly_enough};
-use crate::library::{self, Report, SHEET};
+use crate::library::{self, Report};
+use crate::printed::{KEEP, PLAN, Program, keep_input, printed};
 use crate::random::Random;
 use crate::sweep::{self, Wish};
 use crate::table::{self, Refusal};
 use crate::tally::Tally;
 use crate::wishes::{any_wish, line, wish};
-use crate::{forests, plan, text};
+use crate::{forests, text};
 
 fn one<T: Into<u64>>(outcome: Result<T, Refusal>) -> Report {
     Report::of(outcome.map(|value| [value.into(), 0]))
@@ -51,20 +52,6 @@ pub fn read(random: &mut Random, tally: &mut Tally, input: &[u8], links: usize, 
     let report = library::read(input, &mut library_lows, &mut library_highs);
     let shown = String::from_utf8_lossy(input);
     tally.same("read", reference.code, (report, library_lows, library_highs), (reference, lows, highs), &shown);
-}
-
-/// Compares what the planner prints, and gives it.
-pub fn planned(random: &mut Random, tally: &mut Tally, input: &[u8]) -> String {
-    let before = random.draw() as u8;
-    let mut output = [before; SHEET];
-    let length = library::plan(input, &mut output);
-    let reference = plan::plan(input);
-    let code = reference.strip_prefix("(refused ").map_or(0, |rest| rest.split(' ').next().unwrap().parse().unwrap());
-    let shown = String::from_utf8_lossy(input);
-    let printed = String::from_utf8_lossy(&output[..length]);
-    tally.same("plan", code, &*printed, &reference, &shown);
-    tally.holds("plan", "what follows is left", output[length..].iter().all(|&byte| byte == before), &shown);
-    reference
 }
 
 fn ordered(random: &mut Random, tally: &mut Tally, net: &Network, lengths: Lengths) {
@@ -177,19 +164,21 @@ pub fn input(net: &Network, wish: Wish) -> (Vec<u8>, usize) {
     (input, end)
 }
 
-/// Texts and inputs: as written, damaged, and small ones damaged at every byte.
-fn texts(random: &mut Random, tally: &mut Tally, net: &Network, wish: Wish) {
-    let (input, line) = input(net, wish);
-    let links = net.lows.len();
-    read(random, tally, &input[line..], links, any_length);
-    planned(random, tally, &input);
+/// An input through its program and, behind the line that asks, through Read.
+fn through(random: &mut Random, tally: &mut Tally, program: &Program, input: &[u8], line: usize, links: usize) {
+    printed(random, tally, program, input, mostly_enough);
+    read(random, tally, input.get(line..).unwrap_or_default(), links, any_length);
+}
+
+/// Inputs of a program: as written, damaged, and small ones damaged at every byte.
+fn inputs(random: &mut Random, tally: &mut Tally, program: &Program, (input, line): (Vec<u8>, usize), links: usize) {
+    through(random, tally, program, &input, line, links);
     for _ in 0..3 {
         let mut bad = input.clone();
         for _ in 0..random.within(1, 2) {
             scratch(random, &mut bad);
         }
-        planned(random, tally, &bad);
-        read(random, tally, bad.get(line..).unwrap_or_default(), links, any_length);
+        through(random, tally, program, &bad, line, links);
     }
     if input.len() <= 165 {
         for at in 0..=input.len() {
@@ -205,11 +194,18 @@ fn texts(random: &mut Random, tally: &mut Tally, net: &Network, wish: Wish) {
                 variants.extend([less, other]);
             }
             for variant in variants {
-                planned(random, tally, &variant);
-                read(random, tally, variant.get(line..).unwrap_or_default(), links, any_length);
+                through(random, tally, program, &variant, line, links);
             }
         }
     }
+}
+
+/// The inputs of both programs for a network.
+fn texts(random: &mut Random, tally: &mut Tally, net: &Network, wish: Wish) {
+    let planned = input(net, wish);
+    let kept = keep_input(random, &planned.0[planned.1..]);
+    inputs(random, tally, &PLAN, planned, net.lows.len());
+    inputs(random, tally, &KEEP, kept, net.lows.len());
 }
 
 /// A table through every operation, with some wishes if it is accepted; then it gives the forest of each link.
@@ -226,7 +222,7 @@ pub fn operations(random: &mut Random, tally: &mut Tally, net: &Network, wishes:
     for _ in 0..wishes {
         let wish = wish(random, net, &numbers);
         routed(random, tally, net, wish, mostly_enough);
-        planned(random, tally, &input(net, wish).0);
+        printed(random, tally, &PLAN, &input(net, wish).0, mostly_enough);
     }
     Some(numbers)
 }
@@ -268,7 +264,9 @@ pub fn boundary_cases(seed: u64, tally: &mut Tally) -> usize {
         read(random, tally, &input[line..], m, exact);
         ordered(random, tally, net, exact);
         routed(random, tally, net, wish, exact);
-        planned(random, tally, &input);
+        printed(random, tally, &PLAN, &input, exact);
+        let asked = keep_input(random, &input[line..]).0;
+        printed(random, tally, &KEEP, &asked, exact);
         whole(random, tally, net);
 
         let highest = (0..m).max_by_key(|&link| (highs[link], lows[link])).expect("a link");

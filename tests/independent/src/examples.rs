@@ -1,8 +1,10 @@
-//! Document 01's examples, P1 to P12 and the others, and the plain program against the fast one and the flow program.
+//! Document 01's examples, P1 to P12 and the others, kept lists worked out by hand, and the plain program against the fast one and
+//! the flow program.
 
 use crate::boundaries::boundaries;
 use crate::forests::{cut, order, split};
 use crate::generate::{Network, any};
+use crate::keep::keep;
 use crate::plan::plan;
 use crate::random::Random;
 use crate::sweep::{Wish, routes};
@@ -77,6 +79,60 @@ fn others() {
     assert_eq!(read(b"(net (relays 4) (links 1))\n(link 2 2)\n", &mut lows, &mut highs), refused(6, 0));
     assert_eq!(read(b"(net (relays 04", &mut lows, &mut highs), refused(2, 14));
     assert_eq!(read(b"", &mut lows, &mut highs), refused(2, 0));
+}
+
+/// What the keeper prints for this k and this text.
+fn kept(k: &str, text: &str) -> String {
+    keep(format!("(keep {k})\n{text}").as_bytes())
+}
+
+fn text_of(net: Network) -> String {
+    text(net.n, &net.lows, &net.highs)
+}
+
+#[test]
+fn kept_lists() {
+    let due = "(lease (k 1))\n(keep 0 0 1)\n(keep 1 0 2)\n(drop 2 1 2)\n(keep 3 1 3)\n(drop 4 2 3)\n(keep 5 2 4)\n(drop 6 3 4)\n\
+               (kept 4)\n(dropped 3)\n(end)\n";
+    assert_eq!(kept("1", &text_of(mesh())), due);
+    assert_eq!(
+        kept("2", &text_of(mesh())),
+        due.replace("drop ", "keep ").replace("k 1", "k 2").replace("4)\n(dropped 3", "7)\n(dropped 0")
+    );
+    let square = text_of(square());
+    let due = "(lease (k 1))\n(keep 0 0 1)\n(keep 1 1 2)\n(drop 2 2 3)\n(keep 3 0 3)\n(kept 3)\n(dropped 1)\n(end)\n";
+    assert_eq!(kept("1", &square), due);
+    assert_eq!(kept("32", &text_of(net(1, &[]))), "(lease (k 32))\n(kept 0)\n(dropped 0)\n(end)\n");
+}
+
+#[test]
+fn refused_lists() {
+    let mesh = text_of(mesh());
+    let line = |line: &str| keep(format!("{line}{mesh}").as_bytes());
+    let lines = ["", "(keap 1)\n", "(keep )\n", "(keep 01)\n", "(keep 12345)\n", "(keep 1]\n", "(keep 1 2)\n", "(keep 1) \n"];
+    assert_eq!(lines.map(line), [1, 3, 6, 7, 10, 7, 7, 8].map(|place| format!("(refused 1 {place})\n")));
+    assert_eq!((keep(b""), keep(b"(keep 1)")), ("(refused 1 0)\n".into(), "(refused 1 8)\n".into()));
+    assert_eq!((kept("0", &mesh), kept("33", &mesh)), ("(refused 9 0)\n".into(), "(refused 9 0)\n".into()));
+    let head = "(net (relays 4) (links 2))\n(link 0 1)\n";
+    assert_eq!(kept("1", ""), "(refused 2 0)\n");
+    assert_eq!(kept("1", &format!("{head}(link 0_2)\n(end)\n")), "(refused 2 45)\n");
+    assert_eq!(kept("1", &format!("{mesh}x")), "(refused 2 110)\n");
+    assert_eq!(kept("1", "(net (relays 1001) (links 0))\n(end)\n"), "(refused 3 0)\n");
+    assert_eq!(kept("1", "(net (relays 5) (links 3001))\n"), "(refused 4 0)\n");
+    assert_eq!(kept("33", &format!("{head}(link 1 4)\n(end)\n")), "(refused 5 1)\n");
+    assert_eq!(kept("33", &format!("{head}(link 2 2)\n(end)\n")), "(refused 6 1)\n");
+    assert_eq!(kept("33", &format!("{head}(link 0 1)\n(end)\n")), "(refused 7 1)\n");
+}
+
+#[test]
+fn longest_list() {
+    let mut links: Vec<(u16, u16)> = (101..175).map(|b| (b - 1, b)).collect();
+    links.extend((923..1000).flat_map(|b| (923..b).map(move |a| (a, b))));
+    let text = text_of(net(1000, &links));
+    let list = kept("16", &text);
+    assert_eq!((text.len(), list.len()), (45_039, 58_938));
+    assert!(list.ends_with("\n(kept 1170)\n(dropped 1830)\n(end)\n"));
+    assert!(list.lines().filter(|line| line.starts_with("(keep")).count() == 1170);
 }
 
 #[test]

@@ -9,11 +9,14 @@ pub mod facts;
 pub mod flow;
 pub mod forests;
 pub mod generate;
+pub mod keep;
 pub mod lengths;
 #[cfg(feature = "library")]
 pub mod library;
 pub mod manner;
 pub mod plan;
+#[cfg(feature = "library")]
+pub mod printed;
 pub mod random;
 pub mod sweep;
 pub mod swift;

@@ -69,7 +69,8 @@ unsafe extern "C" {
         highs_length: usize,
         answer: *mut u64,
     ) -> u32;
-    fn nolkisei_plan(input: *const u8, input_length: usize, output: *mut u8) -> usize;
+    fn nolkisei_plan(input: *const u8, _: usize, output: *mut u8, _: usize, answer: *mut u64) -> u32;
+    fn nolkisei_keep(input: *const u8, _: usize, output: *mut u8, _: usize, answer: *mut u64) -> u32;
 }
 
 pub fn pair(a: u16, b: u16) -> Report {
@@ -82,9 +83,10 @@ pub fn read(text: &[u8], lows: &mut [u16], highs: &mut [u16]) -> Report {
     })
 }
 
-/// The most bytes that the planner prints.
-pub const SHEET: usize = 4608;
+pub fn plan(input: &[u8], output: &mut [u8]) -> Report {
+    report(|answer| unsafe { nolkisei_plan(input.as_ptr(), input.len(), output.as_mut_ptr(), output.len(), answer) })
+}
 
-pub fn plan(input: &[u8], output: &mut [u8; SHEET]) -> usize {
-    unsafe { nolkisei_plan(input.as_ptr(), input.len(), output.as_mut_ptr()) }
+pub fn keep(input: &[u8], output: &mut [u8]) -> Report {
+    report(|answer| unsafe { nolkisei_keep(input.as_ptr(), input.len(), output.as_mut_ptr(), output.len(), answer) })
 }

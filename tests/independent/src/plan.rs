@@ -29,5 +29,5 @@ fn sheet(input: &[u8]) -> Result<String, Refusal> {
 
 /// What the planner prints for an input.
 pub fn plan(input: &[u8]) -> String {
-    sheet(input).unwrap_or_else(|Refusal { number, place }| format!("(refused {number} {place})\n"))
+    sheet(input).unwrap_or_else(|refusal| refusal.line())
 }

@@ -161,5 +161,5 @@ fn sheet(input: &[u8]) -> Result<Vec<u8>, Refusal> {
 
 /// What the planner prints for an input.
 pub fn plan(input: &[u8]) -> Vec<u8> {
-    sheet(input).unwrap_or_else(|Refusal { number, place }| format!("(refused {number} {place})\n").into_bytes())
+    sheet(input).unwrap_or_else(|refusal| refusal.line().into_bytes())
 }

@@ -9,6 +9,14 @@ pub struct Refusal {
     pub place: usize,
 }
 
+impl Refusal {
+    /// The line that a program prints for it.
+    pub fn line(&self) -> String {
+        let Refusal { number, place } = self;
+        format!("(refused {number} {place})\n")
+    }
+}
+
 /// A refusal whose place is 0.
 pub fn plain<T>(number: u32) -> Result<T, Refusal> {
     Err(Refusal { number, place: 0 })

@@ -3,8 +3,8 @@
 use std::collections::BTreeMap;
 use std::fmt::Debug;
 
-/// Every code that an operation can give.
-const CODES: [(&str, &[u32]); 9] = [
+/// Every code that an operation can give; of the two that print, the printed numbers and 12.
+const CODES: [(&str, &[u32]); 10] = [
     ("check", &[0, 3, 4, 5, 6, 7]),
     ("pair", &[0, 5, 6]),
     ("read", &[0, 2, 3, 4, 5, 6, 7, 8]),
@@ -13,7 +13,8 @@ const CODES: [(&str, &[u32]); 9] = [
     ("split", &[0, 3, 4, 5, 6, 7, 12]),
     ("cut", &[0, 3, 4, 5, 6, 7, 9, 12]),
     ("route", &[0, 3, 4, 5, 6, 7, 9, 10, 11, 12, 13]),
-    ("plan", &[0, 1, 2, 3, 4, 5, 6, 7, 9, 10, 11, 13]),
+    ("plan", &[0, 1, 2, 3, 4, 5, 6, 7, 9, 10, 11, 12, 13]),
+    ("keep", &[0, 1, 2, 3, 4, 5, 6, 7, 9, 12]),
 ];
 
 /// How often each operation gave each code, and how often each fact was looked at.

@@ -1,11 +1,12 @@
 //! Changes texts and tables for a time, keeps those that are answered in a new manner and changes them on, and compares the proved
-//! library with the second version on each: Read and the planner on texts, every operation on tables.
+//! library with the second version on each: Read, the planner and the keeper on texts, every operation on tables.
 //! fuzz [SECONDS [SEED]]: 60 seconds and seed 1 if not given. The same seed tries the same inputs in the same order.
 
-use independent::against::{input, operations, planned, read};
+use independent::against::{input, operations, read};
 use independent::generate::{Network, alter, any, damage, mend, scratch};
-use independent::lengths::any_length;
+use independent::lengths::{any_length, mostly_enough};
 use independent::manner::{self, Lefts, Manner};
+use independent::printed::{KEEP, PLAN, keep_input, printed};
 use independent::random::Random;
 use independent::tally::Tally;
 use independent::wishes::{any_wish, wish};
@@ -82,14 +83,16 @@ impl Fuzz {
         text
     }
 
-    /// A text through the planner and, behind its first line, through Read.
+    /// A text through the planner and, behind its first line, through Read and the keeper.
     fn text(&mut self) {
         let text = self.changed();
-        let sheet = planned(&mut self.random, &mut self.tally, &text);
+        let sheet = printed(&mut self.random, &mut self.tally, &PLAN, &text, mostly_enough);
         let lines = text.iter().filter(|&&byte| byte == b'\n').count();
         let links = if self.random.once_in(3) { lines.saturating_sub(3) } else { 3000 };
         let behind = text.iter().position(|&byte| byte == b'\n').map_or(0, |at| at + 1);
         read(&mut self.random, &mut self.tally, &text[behind..], links, any_length);
+        let asked = keep_input(&mut self.random, &text[behind..]).0;
+        printed(&mut self.random, &mut self.tally, &KEEP, &asked, mostly_enough);
         self.tried[0] += 1;
         let manner = manner::printed(&text, &sheet);
         let class = manner.class();
@@ -124,7 +127,7 @@ impl Fuzz {
             let class = manner.class();
             if self.known.insert(manner) {
                 let text = input(net, wish).0;
-                planned(&mut self.random, &mut self.tally, &text);
+                printed(&mut self.random, &mut self.tally, &PLAN, &text, mostly_enough);
                 if net.n <= RELAYS && net.lows.len() <= LINKS {
                     self.texts.keep(0, text);
                     self.nets.keep(class, net.clone());

@@ -106,8 +106,8 @@ fn operations(measure: &mut dyn Measure, kind: &'static str, net: &Network) {
 
 fn planned(measure: &mut dyn Measure, kind: &'static str, net: &Network, wish: Wish) {
     let (input, _) = against::input(net, wish);
-    let mut output = [0; library::SHEET];
-    let length = library::plan(&input, &mut output);
+    let mut output = [0; 4608];
+    let length = library::plan(&input, &mut output).answer[0] as usize;
     assert_eq!(&output[..length], swift_text::plan(&input));
     measure.row(
         kind,

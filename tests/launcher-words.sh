@@ -1,0 +1,83 @@
+# For tests/launcher: what `plan` and `keep` say of each refusal, and of arguments that are no numbers.
+head='(net (relays 5) (links 2))\n'
+body='(link 0 1)\n(link 0 2)\n'
+
+# departs WHAT TEXT PLACE LINE COLUMN CAUSE SHOWN DUE: a text refused with 2, the line that is shown, and what is due there.
+departs() {
+    local pad
+    pad=$(printf '%*s' "$5" '^')
+    refused "$1" '4 1 2' "$2" "(refused 2 $3)" "plan: refused (2): a.net, line $4, column $5: $6"$'\n    '"$7"$'\n    '"$pad"$'\nplan: due there: '"$8"
+}
+
+link_due='a line (link A B)'
+departs 'carriage returns' "$head(link 0 1)\r\n(link 0 2)\r\n(end)\r\n" 37 2 11 'a carriage return; save the file with the line ends of Unix (LF), not of Windows (CR LF)' '(link 0 1)?' "$link_due"
+departs 'a byte-order mark' "\xef\xbb\xbf$head$body(end)\n" 0 1 1 'the file begins with a byte-order mark; save it without one' '???(net (relays 5) (links 2))' 'a line (net (relays N) (links M))'
+departs 'UTF-16' '\xff\xfe(\0n\0' 0 1 1 'the file is in UTF-16; save it as plain text (ASCII or UTF-8)' '??(?n?' 'a line (net (relays N) (links M))'
+departs 'no last line end' "$head$body(end)" 54 4 6 'the last line end is missing; press Enter behind (end) and save' '(end)' 'the line (end)'
+departs 'a blank line' "$head(link 0 1)\n\n(link 0 2)\n(end)\n" 38 3 1 'a blank line' '' "$link_due"
+departs 'a blank line behind the end' "$head$body(end)\n\n" 55 5 1 'a blank line' '' 'nothing, since (end) is the last line'
+departs 'spaces at the end' "$head(link 0 1)  \n(link 0 2)\n(end)\n" 37 2 11 'spaces at the end of the line' '(link 0 1)  ' "$link_due"
+departs 'spaces at the start' "$head (link 0 1)\n(link 0 2)\n(end)\n" 27 2 1 'spaces at the start of the line' ' (link 0 1)' "$link_due"
+departs 'two spaces' "$head(link 0  1)\n(link 0 2)\n(end)\n" 35 2 9 'two spaces; one is due between words and numbers' '(link 0  1)' "$link_due"
+departs 'a tab' "$head(link 0\t1)\n(link 0 2)\n(end)\n" 34 2 8 'a tab; one space is due between words and numbers' '(link 0?1)' "$link_due"
+departs 'more links than announced' "$head$body(link 0 3)\n(end)\n" 50 4 2 'line 1 announces 2 links, and the file has 3 link lines' '(link 0 3)' 'the line (end)'
+departs 'fewer links than announced' "$head(link 0 1)\n(end)\n" 39 3 2 'line 1 announces 2 links, and the file has 1 link line' '(end)' "$link_due"
+departs 'links that are missing' "$head(link 0 1)\n" 38 3 1 'the file ends too early: line 1 announces 2 links, and it has 1 link line' '' "$link_due"
+departs 'no last line' "$head$body" 49 4 1 'the file ends without its last line, (end)' '' 'the line (end)'
+departs 'a line cut off' "$head(link 0" 34 2 8 'the file ends in the middle of a line' '(link 0' "$link_due"
+departs 'an empty file' '' 0 1 1 'the file is empty' '' 'a line (net (relays N) (links M))'
+departs 'a last line that is not the last' "$head$body(end)\nmore\n" 55 5 1 'something stands behind the last line' 'more' 'nothing, since (end) is the last line'
+departs 'a zero in front' "$head(link 01 2)\n" 34 2 8 'a number has a zero in front' '(link 01 2)' "$link_due"
+departs 'five digits' "$head(link 10000 2)\n" 37 2 11 'a number has more than four digits' '(link 10000 2)' "$link_due"
+departs 'a line that ends early' "$head(link 0\n" 34 2 8 'the line ends too early' '(link 0' "$link_due"
+departs 'a capital letter' "$head(Link 0 1)\n" 28 2 2 'a capital letter; the words have small letters' '(Link 0 1)' "$link_due"
+departs 'another character' "$head(link 0 \xc2\xbd)\n" 35 2 9 'a character that no line of a network file has' '(link 0 ??)' "$link_due"
+departs 'something else' "$head(lunk 0 1)\n" 29 2 3 'this is not the form that is due' '(lunk 0 1)' "$link_due"
+departs 'what a terminal would obey, in a long line' "\e[31m$(printf '%0100d' 0)\n" 0 1 1 'this is not the form that is due' "?[31m$(printf '%055d' 0)..." 'a line (net'
+departs 'a long number' "$head(link 0 $(printf '%01000d' 7)\n" 36 2 10 'a number has a zero in front' "(link 0 $(printf '%052d' 0)..." "$link_due"
+
+refused 'no relay' '4 1 2' '(net (relays 0) (links 0))\n(end)\n' '(refused 3 0)' 'plan: refused (3): a.net, line 1, announces 0 relays; 1 to 1,000 are allowed'
+refused '3,001 links' '4 1 2' '(net (relays 5) (links 3001))\n' '(refused 4 0)' 'plan: refused (4): a.net, line 1, announces 3001 links; 3,000 are the most. Pass the file on to the network planners'
+refused 'a link to no relay' '4 1 2' "$head(link 0 1)\n(link 0 5)\n(end)\n" '(refused 5 1)' 'plan: refused (5): a.net, line 3: (link 0 5) names a relay that the network does not have; it has the relays 0 to 4'
+refused 'a link to itself' '4 1 2' "$head(link 2 2)\n(link 0 2)\n(end)\n" '(refused 6 0)' 'plan: refused (6): a.net, line 2: (link 2 2) joins a relay to itself'
+refused 'falling numbers' '4 1 2' "$head(link 0 1)\n(link 3 2)\n(end)\n" '(refused 6 1)' 'plan: refused (6): a.net, line 3: (link 3 2) has its numbers in falling order; write (link 2 3)'
+refused 'a link twice' '4 1 2' "(net (relays 5) (links 3))\n(link 1 2)\n(link 0 1)\n(link 1 2)\n(end)\n" '(refused 7 2)' 'plan: refused (7): a.net, line 4: (link 1 2) stands already in line 2; delete one of the two and announce one link less in line 1'
+refused 'K 0' '4 1 0' "$head$body(end)\n" '(refused 9 0)' 'plan: refused (9): K is 0; 1 to 32 can be asked for'
+refused 'FROM is no relay' '5 1 2' "$head$body(end)\n" '(refused 10 0)' 'plan: refused (10): FROM 5 is not a relay of this network; it has the relays 0 to 4'
+refused 'TO is no relay' '1 5 2' "$head$body(end)\n" '(refused 10 0)' 'plan: refused (10): TO 5 is not a relay of this network; it has the relays 0 to 4'
+refused 'neither is a relay' '8 5 2' "$head$body(end)\n" '(refused 10 0)' 'plan: refused (10): neither FROM 8 nor TO 5 is a relay of this network; it has the relays 0 to 4'
+refused 'of one relay' '0 1 1' '(net (relays 1) (links 0))\n(end)\n' '(refused 10 0)' 'plan: refused (10): TO 1 is not a relay of this network; it has relay 0 alone'
+refused 'equal ends' '4 4 1' "$head$body(end)\n" '(refused 11 0)' 'plan: refused (11): FROM and TO are the same relay, 4'
+refused '13 at K 1' '0 3 1' "$head$body(end)\n" '(refused 13 0)' 'plan: refused (13): relays 0 and 3 are not joined at all: there is no route between them'
+refused '13 at K 2' '0 1 2' "$head$body(end)\n" '(refused 13 0)' 'plan: refused (13): relays 0 and 1 are not in one tree of forest 2; ask for a smaller K (this does not mean that there are no 2 routes)'
+
+refused 'a FROM with a zero in front' '04 1 2' "$mesh" '(refused 1 7)' "plan: refused (1): FROM is '04': it has a zero in front; a number has one to four digits and no zero in front"
+refused 'a TO that is too long' '4 12345 2' "$mesh" '(refused 1 12)' "plan: refused (1): TO is '12345': it has more than four digits"
+refused 'a K with a minus sign' '4 1 -2' "$mesh" '(refused 1 10)' "plan: refused (1): K is '-2': it has something other than digits in it"
+ask "$copy/plan" 4 '' 2 "$mesh_file"
+says 'an empty TO' 1 "plan: refused (1): TO is '': it is empty"
+ask "$copy/plan" 4 '1 2)' 2 "$mesh_file"
+says 'a TO with a space' 1 "plan: refused (1): TO is '1 2)': it has something other than digits in it"
+ask "$copy/plan" '%d' $'\e[31m' '4\n1' "$mesh_file"
+same 'arguments that printf or a terminal would obey: the line' $'(refused 1 6)\nstatus 1' "$output"
+says 'arguments that printf or a terminal would obey' 1 $'FROM is \'%d\': it has something other than digits in it; a number has one to four digits and no zero in front\nplan: refused (1): TO is \'?[31m\''
+printf '(end)\n' >"$work/end.net"
+ask "$copy/plan" $'0 1 1)\n(net (relays 2) (links 1))\n(link' 0 1 end.net
+same 'a network among the arguments: nothing is passed on' 'status 2' "$output"
+says 'a network among the arguments' 2 'plan: FROM has a line end in it; it is to be a plain number'
+ask "$copy/keep" $'1)\n(net (relays 2) (links 0)' end.net
+says 'the same for keep' 2 'keep: K has a line end in it'
+ask "$copy/keep" 040 "$mesh_file"
+same 'keep, refused: the line' $'(refused 1 7)\nstatus 1' "$output"
+says 'keep, refused' 1 "keep: refused (1): K is '040': it has a zero in front"
+ask "$copy/keep" 33 "$mesh_file"
+says 'keep, K 33' 1 'keep: refused (9): K is 33; 1 to 32 can be asked for'
+printf '%b' "$head(link 0 1)\n(link 0 1)\n(end)\n" >"$work/a.net"
+ask "$copy/keep" 3 a.net
+says 'keep, a link twice' 1 'keep: refused (7): a.net, line 3: (link 0 1) stands already in line 2'
+ask bash -c "printf '(net x' | '$copy/plan' 4 1 2 /dev/stdin"
+says 'a form that cannot be shown' 1 'plan: refused (2): /dev/stdin departs from the form of a network file at byte 5, counted from 0 (its lines cannot be shown)'
+ask bash -c "printf '$head(link 0 5)\n' | '$copy/plan' 4 1 2 /dev/stdin"
+says 'a link that cannot be shown' 1 'plan: refused (5): /dev/stdin, line 2: a relay that the network does not have'
+ask bash -c "printf '$head$body(end)\n' | '$copy/plan' 9 1 2 /dev/stdin"
+says 'a header that cannot be shown' 1 'plan: refused (10): FROM 9 or TO 1 is not a relay of this network; relays are numbered from 0 to one less'

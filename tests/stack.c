@@ -1,0 +1,142 @@
+/* How much stack each function of the C header needs on the largest inputs, and that NOLKISEI_STACK is enough.
+ * A call runs in a thread whose stack was filled with one byte; what is changed afterwards was used. What a thread uses by itself,
+ * with a call that does nothing, is taken off. */
+#define _POSIX_C_SOURCE 200112L
+#include "nolkisei.h"
+#include <limits.h>
+#include <pthread.h>
+#include <stdio.h>
+#include <string.h>
+
+#define LENT(name) name, sizeof name / sizeof name[0]
+#define TABLE net->n, net->lows, net->m, net->highs, net->m
+
+typedef struct {
+    uint16_t n, k, from, to;
+    size_t m, length;
+    uint16_t lows[NOLKISEI_LINKS], highs[NOLKISEI_LINKS];
+    uint8_t text[NOLKISEI_TEXT];
+} network;
+
+static network large, small;
+static uint64_t answer[2];
+static uint16_t first[NOLKISEI_LINKS], second[NOLKISEI_LINKS];
+static uint16_t counts[NOLKISEI_ROUTES], relays[NOLKISEI_ROUTE_RELAYS], scratch[NOLKISEI_ROUTE_SCRATCH];
+static uint8_t input[NOLKISEI_TEXT + 22], output[NOLKISEI_LIST];
+static uint32_t returned;
+
+static size_t asked(const network *net, const char *line) {
+    size_t length = strlen(line);
+    memcpy(input, line, length);
+    memcpy(input + length, net->text, net->length);
+    return length + net->length;
+}
+
+static void nothing(const network *net) {
+    (void)net;
+    returned = 0;
+}
+
+static void check(const network *net) { returned = nolkisei_check(TABLE, answer); }
+
+static void pair(const network *net) { returned = nolkisei_pair(net->to, net->from, answer); }
+
+static void read_text(const network *net) { returned = nolkisei_read(net->text, net->length, LENT(first), LENT(second), answer); }
+
+static void write_text(const network *net) { returned = nolkisei_write(TABLE, LENT(output), answer); }
+
+static void order(const network *net) { returned = nolkisei_order(TABLE, LENT(first), LENT(second), answer); }
+
+static void split(const network *net) { returned = nolkisei_split(TABLE, LENT(first), answer); }
+
+static void cut(const network *net) { returned = nolkisei_cut(TABLE, net->k, LENT(first), answer); }
+
+static void route(const network *net) {
+    returned = nolkisei_route(TABLE, net->k, net->from, net->to, LENT(counts), LENT(relays), LENT(scratch), answer);
+}
+
+static void plan(const network *net) {
+    char line[40];
+    sprintf(line, "(want %u %u %u)\n", (unsigned)net->from, (unsigned)net->to, (unsigned)net->k);
+    size_t length = asked(net, line);
+    returned = nolkisei_plan(input, length, LENT(output), answer);
+}
+
+static void keep(const network *net) {
+    char line[40];
+    sprintf(line, "(keep %u)\n", (unsigned)net->k);
+    size_t length = asked(net, line);
+    returned = nolkisei_keep(input, length, LENT(output), answer);
+}
+
+/* A path over the relays 100 to `path`, and every pair among the last `core` relays. */
+static void make(network *net, uint16_t n, uint16_t path, uint16_t core, uint16_t k) {
+    net->n = n, net->k = k, net->from = n - 1, net->to = n - 2, net->m = 0;
+    for (uint16_t b = 101; b <= path; b++) {
+        net->lows[net->m] = b - 1, net->highs[net->m++] = b;
+    }
+    for (uint16_t b = n - core; b < n; b++) {
+        for (uint16_t a = n - core; a < b; a++) {
+            net->lows[net->m] = a, net->highs[net->m++] = b;
+        }
+    }
+    nolkisei_write(net->n, net->lows, net->m, net->highs, net->m, LENT(net->text), answer);
+    net->length = answer[0];
+}
+
+enum { SIZE = 4 << 20, FILL = 0xa5 };
+static uint8_t stack[SIZE] __attribute__((aligned(4096)));
+
+typedef struct {
+    void (*call)(const network *);
+    const network *net;
+} work;
+
+static void *thread(void *given) {
+    const work *work = given;
+    work->call(work->net);
+    return NULL;
+}
+
+/* The bytes of stack that a thread uses for this call. */
+static size_t used(void (*call)(const network *), const network *net) {
+    work work = {call, net};
+    pthread_attr_t attributes;
+    pthread_t made;
+    memset(stack, FILL, SIZE);
+    if (pthread_attr_init(&attributes) || pthread_attr_setstack(&attributes, stack, SIZE) ||
+        pthread_create(&made, &attributes, thread, &work) || pthread_join(made, NULL)) {
+        returned = UINT_MAX;
+    }
+    size_t free = 0;
+    while (free < SIZE && stack[free] == FILL) {
+        free++;
+    }
+    return SIZE - free;
+}
+
+int main(void) {
+    static const struct {
+        const char *name;
+        void (*call)(const network *);
+    } calls[] = {{"check", check}, {"pair", pair},   {"read", read_text}, {"write", write_text}, {"order", order},
+                 {"split", split}, {"cut", cut},     {"route", route},    {"plan", plan},        {"keep", keep}};
+    int failed = 0;
+    make(&large, 1000, 174, 77, 32);
+    make(&small, 28, 0, 28, 27);
+    size_t base = used(nothing, &large);
+    printf("bytes of stack:");
+    for (size_t i = 0; i < sizeof calls / sizeof calls[0]; i++) {
+        size_t most = 0;
+        for (int turn = 0; turn < 2; turn++) {
+            size_t bytes = used(calls[i].call, turn ? &small : &large);
+            most = bytes > most ? bytes : most;
+            failed += returned != 0;
+        }
+        most = most > base ? most - base : 0;
+        failed += most > NOLKISEI_STACK;
+        printf("%s %s %zu", i ? "," : "", calls[i].name, most);
+    }
+    printf("; %s\n", failed ? "a call is refused, or NOLKISEI_STACK is too small" : "NOLKISEI_STACK is enough");
+    return failed != 0;
+}

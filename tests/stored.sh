@@ -1,0 +1,80 @@
+# For the scripts beside it that run stored inputs: comparing what is due with what is written, and networks to ask about.
+set -u
+cd "$(dirname "${BASH_SOURCE[0]}")/.." || exit 1
+tried=0
+wrong=0
+
+# same WHAT DUE WRITTEN, where line ends at the end count: both with a last '.'.
+same() {
+    tried=$((tried + 1))
+    if [ "$2" != "$3" ]; then
+        wrong=$((wrong + 1))
+        printf '%s\n  due     %q\n  written %q\n' "$1" "${2:0:2000}" "${3:0:2000}" >&2
+    fi
+}
+
+# try WHAT INPUT DUE: the program on an input, both with \n for line ends.
+try() {
+    same "$1" "$(printf '%b' "$3"; echo .)" "$(printf '%b' "$2" | "$program"; echo .)"
+}
+
+# finish NAME: says how many were tried, and fails where one was wrong.
+finish() {
+    echo "$1: $tried tried, $wrong wrong"
+    [ "$wrong" -eq 0 ]
+}
+
+# In pieces of 1, 2, 3, 5, 8, .. bytes, each written by itself with a short pause before it.
+in_pieces() {
+    local piece size=1 next=2 sum
+    while IFS= read -r -d '' -N "$size" piece || [ -n "$piece" ]; do
+        sleep 0.003
+        printf '%s' "$piece"
+        sum=$((size + next)) size=$next next=$sum
+    done
+}
+
+# The networks of document 01, and one of one link to be spoilt.
+mesh='(net (relays 5) (links 7))\n(link 0 1)\n(link 0 2)\n(link 1 2)\n(link 1 3)\n(link 2 3)\n(link 2 4)\n(link 3 4)\n(end)\n'
+square='(net (relays 4) (links 4))\n(link 0 1)\n(link 1 2)\n(link 2 3)\n(link 0 3)\n(end)\n'
+four='(net (relays 4) (links 6))\n(link 0 1)\n(link 0 2)\n(link 0 3)\n(link 1 2)\n(link 1 3)\n(link 2 3)\n(end)\n'
+one='(net (relays 5) (links 1))\n'
+
+# A longest text, of 45,039 bytes: 1,000 relays, and 3,000 links whose numbers all have three digits. A path from 100 to 174, and
+# among 923 to 999 every pair.
+longest() {
+    awk 'BEGIN {
+        print "(net (relays 1000) (links 3000))"
+        for (b = 101; b <= 174; b++) print "(link " b - 1 " " b ")"
+        for (b = 924; b <= 999; b++) for (a = 923; a < b; a++) print "(link " a " " b ")"
+        print "(end)"
+    }'
+}
+
+# spoilt ASK: a network text that departs at each place of its forms, or is refused for another reason, behind the line ASK.
+spoilt() {
+    try 'no network' "$1" '(refused 2 0)\n'
+    try 'the first word of the header' "$1(nut (relays 5) (links 7))\n" '(refused 2 2)\n'
+    try 'the number of relays' "$1(net (relays x) (links 7))\n" '(refused 2 13)\n'
+    try 'a zero in front of it' "$1(net (relays 04" '(refused 2 14)\n'
+    try 'the word behind it' "$1(net (relays 5] (links 7))\n" '(refused 2 14)\n'
+    try 'the number of links' "$1(net (relays 5) (links ))\n" '(refused 2 23)\n'
+    try 'the last word of the header' "$1(net (relays 5) (links 7)x" '(refused 2 25)\n'
+    try 'the word of a link' "$1$one(lunk 0 1)\n(end)\n" '(refused 2 29)\n'
+    try 'its low number' "$1$one(link x 1)\n(end)\n" '(refused 2 33)\n'
+    try 'the space behind it' "$1$one(link 0_1)\n(end)\n" '(refused 2 34)\n'
+    try 'its high number' "$1$one(link 0 )\n(end)\n" '(refused 2 35)\n'
+    try 'the end of the line' "$1$one(link 0 1\n(end)\n" '(refused 2 36)\n'
+    try 'the end for a link' "$1$one(end)\n" '(refused 2 28)\n'
+    try 'the word of the end' "$1$one(link 0 1)\n(and)\n" '(refused 2 39)\n'
+    try 'the end of the input for its line end' "$1$one(link 0 1)\n(end)" '(refused 2 43)\n'
+    try 'a byte behind the end' "$1$one(link 0 1)\n(end)\nx" '(refused 2 44)\n'
+
+    try 'no relay' "$1(net (relays 0) (links 0))\n(end)\n" '(refused 3 0)\n'
+    try '1,001 relays' "$1(net (relays 1001) (links 0))\n(end)\n" '(refused 3 0)\n'
+    try '3,001 links' "$1(net (relays 5) (links 3001))\n" '(refused 4 0)\n'
+    try 'a link to no relay' "$1(net (relays 4) (links 1))\n(link 7 7)\n(end)\n" '(refused 5 0)\n'
+    try 'a link from a relay to itself' "$1(net (relays 4) (links 2))\n(link 0 1)\n(link 2 2)\n(end)\n" '(refused 6 1)\n'
+    try 'a link in falling order' "$1(net (relays 4) (links 2))\n(link 0 1)\n(link 3 2)\n(end)\n" '(refused 6 1)\n'
+    try 'a link twice' "$1(net (relays 4) (links 2))\n(link 0 1)\n(link 0 1)\n(end)\n" '(refused 7 1)\n'
+}

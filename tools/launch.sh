@@ -1,0 +1,157 @@
+# Sourced by the commands `plan` and `keep`, which set command, program, usage and example: builds the proved program where it is
+# missing or older than its sources, runs it on a line and a network file, and after a refusal says in words where to look.
+set -u
+here=$(dirname -- "$(dirname -- "$(readlink -f -- "${BASH_SOURCE[0]}")")")
+binary=$here/target/bin/$program
+log=$here/target/build.log
+typed=()
+
+say() {
+    printf '%s: %s\n' "$command" "$1" >&2
+}
+
+fail() {
+    say "$1"
+    exit 2
+}
+
+wrong_use() {
+    fail "usage: $usage (for example $example)"
+}
+
+# Words that were typed, fit for a terminal.
+safe() {
+    local words=${1//[^[:print:]]/?}
+    [ ${#words} -le 80 ] || words=${words:0:77}...
+    printf '%s' "$words"
+}
+
+# number NAME VALUE: a number as it was typed. The program judges it; but a line end in it would begin another line of the
+# program's input.
+number() {
+    case $2 in *$'\n'*) fail "$1 has a line end in it; it is to be a plain number" ;; esac
+    typed+=("$1" "$2")
+    export "typed_$1=$2"
+}
+
+# Why a typed value is not a number of one to four digits; nothing where it is one.
+why_no_number() {
+    case $1 in
+    '') echo 'it is empty' ;;
+    *[!0123456789]*) echo 'it has something other than digits in it' ;;
+    0?*) echo 'it has a zero in front' ;;
+    ?????*) echo 'it has more than four digits' ;;
+    esac
+}
+
+# The crates of the program by crates.txt, its own among them.
+crates() {
+    program=$program awk '
+        function visit(name,    of, count, i) {
+            if (!(name in needs) || name in seen) return
+            seen[name]
+            print name
+            count = split(needs[name], of, " ")
+            for (i = 1; i <= count; i++) visit(of[i])
+        }
+        { sub(/#.*/, ""); colon = index($0, ":") }
+        colon { name = substr($0, 1, colon - 1); gsub(/[ \t]/, "", name); needs[name] = substr($0, colon + 1) }
+        END { visit(ENVIRON["program"]) }' "$here/crates.txt"
+}
+
+# Whether the program is there and none of its sources is newer.
+fresh() {
+    local crate newer sources=("$here/crates.txt")
+    [ -x "$binary" ] || return 1
+    for crate in $(crates); do sources+=("$here/crates/$crate"); done
+    newer=$(find "${sources[@]}" -name must-fail -prune -o -newer "$binary" -print 2>/dev/null) && [ -z "$newer" ]
+}
+
+# Keeps the kit's lines in the log and says which crate of how many is done.
+follow() {
+    local line ready=0 count
+    count=$(crates | wc -l)
+    while IFS= read -r line; do
+        printf '%s\n' "$line" >&9
+        case $line in
+        'rt: '*'NOT PROVED'* | 'rt: '*FAILED*) say "${line#rt: }" ;;
+        'rt: '*' proved (unchanged'*) ready=$((ready + 1)) ;;
+        'rt: '*' proved ('*) ready=$((ready + 1)) && say "$ready of $count: ${line#rt: }" ;;
+        esac
+    done
+}
+
+# Builds the program, one run at a time. A source that changes meanwhile is newer than the time the program gets.
+build() {
+    local started
+    command -v rt >/dev/null || fail "the Rattle kit (rt) is needed to build the $program, which is missing or older than its sources"
+    mkdir -p "$here/target" && exec 9>>"$log" || fail "nothing can be written to $here/target, where the $program is to be built"
+    if ! flock -n 9; then
+        say 'another run is building; waiting for it'
+        flock 9 || fail "the file $log cannot be locked"
+    fi
+    if ! fresh; then
+        say "building the $program, some minutes, once (the kit's own words go to $log)"
+        : >"$log"
+        [ -x "$binary" ] || rm -f "$here/target/stamp/$program"
+        started=$(date +%s.%N)
+        (cd -- "$here" && rt check "$program" 2>&1) | follow
+        if [ "${PIPESTATUS[0]}" -ne 0 ] || [ ! -x "$binary" ]; then
+            rm -f "$binary"
+            fail "the $program could not be built; $log tells why"
+        fi
+        touch -d "@$started" "$binary"
+        say "the $program is built"
+    fi
+    exec 9>&-
+}
+
+# readable FILE: says what is wrong with a file that cannot be read.
+readable() {
+    local name
+    name=$(safe "$1")
+    [ -e "$1" ] || fail "there is no file $name (looked for from $(safe "$PWD"))"
+    [ ! -d "$1" ] || fail "$name is a directory, not a network file"
+    [ -r "$1" ] || fail "the file $name may not be read by you"
+}
+
+# explain NUMBER PLACE FILE: a refusal in words.
+explain() {
+    local i why again
+    if [ "$1" = 1 ]; then
+        for ((i = 0; i < ${#typed[@]}; i += 2)); do
+            why=$(why_no_number "${typed[i + 1]}")
+            [ -z "$why" ] || say "refused (1): ${typed[i]} is '$(safe "${typed[i + 1]}")': $why; a number has one to four digits and no zero in front"
+        done
+        return
+    fi
+    again=0
+    [ ! -f "$3" ] || again=1
+    { [ $again -eq 0 ] || od -An -v -tu1 -N 200000 <"$3"; } |
+        command=$command number=$1 place=$2 file=$(safe "$3") again=$again awk -f "$here/tools/explain.awk" >&2
+}
+
+# launch LINE HEAD FILE: LINE and FILE are the program's input, and HEAD is the first line of what it prints unless it refuses.
+launch() {
+    local output refusal
+    readable "$3"
+    fresh || build
+    output=$(
+        { printf '%s\n' "$1" && cat; } <"$3" 2>/dev/null | "$binary"
+        ended=("${PIPESTATUS[@]}")
+        [ "${ended[1]}" -eq 0 ] || fail "the $program could not be run"
+        case ${ended[0]} in 0 | 141) ;; *) fail "the file $(safe "$3") cannot be read to its end" ;; esac
+        echo .
+    ) || exit 2
+    output=${output%.}
+    case $output in
+    "$2"$'\n'*$'\n(end)\n') refusal='' ;;
+    '(refused '*')'$'\n') refusal=${output#'(refused '} ;;
+    *) fail "what the $program wrote is not whole" ;;
+    esac
+    printf '%s' "$output" 2>/dev/null || fail "what the $program wrote could not be passed on"
+    [ -n "$refusal" ] || exit 0
+    refusal=${refusal%')'*}
+    explain "${refusal% *}" "${refusal#* }" "$3"
+    exit 1
+}
