@@ -8,7 +8,7 @@ ghost use lib.ListN.{length};
 ghost use Rattle.definitions.specs.Form.{byteAt, word, numeral, scanWord, scanDigits, scanNumber, scanForm};
 ghost use Rattle.definitions.specs.Text.{headerForm, linkForm, endForm};
 ghost use Rattle.text_theory.specs.Forms.{noZero};
-ghost use Rattle.text.specs.Forms.{formOf, dueGives};
+ghost use Rattle.text.specs.Forms.{formOf, asPair};
 ghost use Rattle.text.specs.Scans.{pairForm, wordGives, numberGives, pairGives};
 
 // A word: the offset of the first byte that departs, or the offset behind it.
@@ -152,9 +152,9 @@ pub fn end_line(text: &[u8], at: usize) -> WordScan
     word(text, b"(end)\n", at)
 }
 
-// The form that is due; the end has no number.
+// The form that is due; the end has no number, and gives 0 for each.
 pub fn form_line(text: &[u8], at: usize, due: Due) -> PairScan
-    ensures { λ r. ⌜ dueGives due r ≡ scanForm (now (text .entry)) (formOf due) at ⌝ }
+    ensures { λ r. ⌜ pairGives r ≡ asPair due (scanForm (now (text .entry)) (formOf due) at) ⌝ }
 {
     match due {
         Due::Header => header_line(text, at),

@@ -1,5 +1,5 @@
 -- `text::write` meets its contract: a refused table, a buffer too short, or the whole text. Assumes nothing.
-use Prim.Native.Nat.{ℕ, _≤_}
+use Prim.Native.Nat.{ℕ}
 use mathlib.Core.List.{[], _∷_}
 use mathlib.Core.Path.{sym, _∙_, ap}
 use native.Mathlib.Nat.{zero-add}
@@ -12,8 +12,8 @@ use Rattle.definitions.specs.Network.{Accepted}
 use Rattle.definitions.specs.Text.{textOf}
 use Rattle.network.specs.Answers.{checkOutcome}
 use Rattle.theory.specs.Accepted.{accepted}
-use Rattle.text_theory.specs.Writes.{write-short, write-done}
-use Rattle.text.specs.Written.{stored-overwrite, write-refused}
+use Rattle.text_theory.specs.Writes.{write-short}
+use Rattle.text.specs.Written.{write-refused, write-stored}
 use Rattle.text.proofs.write.Statement.{statement}
 use Rattle.text.proofs.write.Tie as tie
 
@@ -77,11 +77,10 @@ returns-3 c =
     sym (m .before .before .table-check .ensures) ∙ ap checkOutcome (m .enum-told .given .1) in
     let put = c .before .before .put-text .ensures in
     let size = atTextLength .text-length .ensures in
-    let text = textOf (a .n) (now (a .lows)) (now (a .highs)) in
-    let fits : length text ≤ length (now (a .buffer)) = omega (arith, size) in
-    let written = write-done (a .n) (now (a .lows)) (now (a .highs)) (now (a .buffer)) good fits in (
-      ap (λ (size : ℕ). done (size ∷ [])) (put .ends ∙ zero-add (length text)) ∙ sym (written .0),
-      put .bytes ∙ (stored-overwrite text (now (a .buffer)) fits ∙ sym (written .1)),
+    let written = write-stored (a .n) (now (a .lows)) (now (a .highs)) (now (a .buffer)) good (omega (arith, size)) in (
+      ap (λ (size : ℕ). done (size ∷ [])) (put .ends ∙ zero-add (length (textOf (a .n) (now (a .lows)) (now (a .highs))))) ∙ sym
+          (written .0),
+      put .bytes ∙ sym (written .1),
     )
 
 pub write-spec : {M : Type 1} → statement M
