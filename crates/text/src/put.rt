@@ -54,11 +54,11 @@ pub fn put_number(buffer: &mut [u8], at: usize, x: usize) -> usize
     while 10 <= tens {
         p -= 1;
         let digit = (tens % 10) as u8;
-        buffer[p] = 48 + digit;
+        buffer[p] = b'0' + digit;
         tens /= 10;
     }
     let first = tens as u8;
-    buffer[p - 1] = 48 + first;
+    buffer[p - 1] = b'0' + first;
     next
 }
 

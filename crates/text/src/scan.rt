@@ -59,7 +59,8 @@ pub fn word(text: &[u8], letters: &[u8], at: usize) -> WordScan
     WordScan::Reads(at + i)
 }
 
-// At most three later digits behind a first one.
+// At most three later digits behind a first one. Any other byte ends the number: a space, a bracket or a line end where the
+// word due behind the number has it, or else a byte that departs from that word.
 fn digits(text: &[u8], first: u16, at: usize) -> NumberScan
     requires { ⌜ (first ≤ 9) × (at ≤ length (now text)) ⌝ }
     ensures { λ r. ⌜ numberGives r ≡ scanDigits (now (text .entry)) first at 3 ⌝ }
@@ -69,16 +70,17 @@ fn digits(text: &[u8], first: u16, at: usize) -> NumberScan
     let mut more: usize = 3;
     while 0 < more {
         let b = byte(text, p);
-        if b < 48 {
-            return NumberScan::Reads(x, p);
+        match b {
+            b'0'..=b'9' => {
+                let digit = (b - b'0') as u16;
+                x = x * 10 + digit;
+                p += 1;
+                more -= 1;
+            }
+            _ => {
+                return NumberScan::Reads(x, p);
+            }
         }
-        if 57 < b {
-            return NumberScan::Reads(x, p);
-        }
-        let digit = (b - 48) as u16;
-        x = x * 10 + digit;
-        p += 1;
-        more -= 1;
     }
     NumberScan::Reads(x, p)
 }
@@ -88,16 +90,11 @@ pub fn number(text: &[u8], at: usize) -> NumberScan
     ensures { λ r. ⌜ numberGives r ≡ scanNumber (now (text .entry)) at ⌝ }
 {
     let b = byte(text, at);
-    if b < 48 {
-        return NumberScan::Departs(at);
+    match b {
+        b'1'..=b'9' => digits(text, (b - b'0') as u16, at + 1),
+        b'0' => NumberScan::Reads(0, at + 1),
+        _ => NumberScan::Departs(at),
     }
-    if 57 < b {
-        return NumberScan::Departs(at);
-    }
-    if b < 49 {
-        return NumberScan::Reads(0, at + 1);
-    }
-    digits(text, (b - 48) as u16, at + 1)
 }
 
 // A word and the number behind it.
