@@ -30,14 +30,14 @@ pub enum PairScan {
 }
 
 // Which form of a network's text is due.
-pub enum Due {
+pub(crate) enum Due {
     Header,
     Link,
     End,
 }
 
 // The byte at an offset; past the end 0, which departs from every form.
-pub fn byte(text: &[u8], at: usize) -> u8
+fn byte(text: &[u8], at: usize) -> u8
     ensures { λ r. ⌜ r ≡ byteAt (now (text .entry)) at ⌝ }
 {
     if at < text.len() { text[at] } else { 0 }
@@ -98,7 +98,7 @@ pub fn number(text: &[u8], at: usize) -> NumberScan
 }
 
 // A word and the number behind it.
-pub fn word_number(text: &[u8], letters: &[u8], at: usize) -> NumberScan
+fn word_number(text: &[u8], letters: &[u8], at: usize) -> NumberScan
     requires { ⌜ noZero (now letters) ≡ true ⌝ }
     ensures { λ r. ⌜ numberGives r ≡ scanForm (now (text .entry)) (word (now (letters .entry)) ∷ numeral ∷ []) at ⌝ }
 {
@@ -129,28 +129,28 @@ pub fn pair_line(text: &[u8], front: &[u8], middle: &[u8], back: &[u8], at: usiz
 }
 
 // `(net (relays N) (links M))` and its line end.
-pub fn header_line(text: &[u8], at: usize) -> PairScan
+fn header_line(text: &[u8], at: usize) -> PairScan
     ensures { λ r. ⌜ pairGives r ≡ scanForm (now (text .entry)) headerForm at ⌝ }
 {
     pair_line(text, b"(net (relays ", b") (links ", b"))\n", at)
 }
 
 // `(link A B)` and its line end.
-pub fn link_line(text: &[u8], at: usize) -> PairScan
+fn link_line(text: &[u8], at: usize) -> PairScan
     ensures { λ r. ⌜ pairGives r ≡ scanForm (now (text .entry)) linkForm at ⌝ }
 {
     pair_line(text, b"(link ", b" ", b")\n", at)
 }
 
 // `(end)` and its line end.
-pub fn end_line(text: &[u8], at: usize) -> WordScan
+fn end_line(text: &[u8], at: usize) -> WordScan
     ensures { λ r. ⌜ wordGives r ≡ scanForm (now (text .entry)) endForm at ⌝ }
 {
     word(text, b"(end)\n", at)
 }
 
 // The form that is due; the end has no number, and gives 0 for each.
-pub fn form_line(text: &[u8], at: usize, due: Due) -> PairScan
+pub(crate) fn form_line(text: &[u8], at: usize, due: Due) -> PairScan
     ensures { λ r. ⌜ pairGives r ≡ asPair due (scanForm (now (text .entry)) (formOf due) at) ⌝ }
 {
     match due {
