@@ -1,24 +1,40 @@
--- The three forms of a network's text: which one is due, and what reading and writing it mean. Assumes nothing.
-use mathlib.Core.List.{List, []}
-use Rattle.definitions.specs.Form.{Item, Scan, departs, reads}
+-- The three forms of a network's text: which one is due, and what reading it gives. Assumes nothing.
+use Prim.Native.Nat.{ℕ}
+use mathlib.Core.List.{List, [], _∷_}
+use mathlib.Core.Path.{_≡_, refl, sym, ap}
+use native.Mathlib.Omega.{arith}
+use Rattle.definitions.specs.Form.{Item, Scan, departs, reads, withFront, following}
 use Rattle.definitions.specs.Text.{headerForm, linkForm, endForm}
 use Rattle.text.specs.declared.scan.Due.{Due}
 use Rattle.text.specs.declared.scan.Due.the-variants as dues
-use Rattle.text.specs.declared.scan.PairScan.{PairScan}
-use Rattle.text.specs.declared.scan.PairScan.the-variants as pairs
-use Rattle.text.specs.Scans.{pairGives}
 
 abbrev pub formOf : Due → List Item
 formOf dues.Header = headerForm
 formOf dues.Link = linkForm
 formOf dues.End = endForm
 
--- The end has no number: what stands for one in the answer is not read.
-abbrev pub bareGives : PairScan → Scan
-bareGives (pairs.Departs p) = departs p
-bareGives (pairs.Reads a b p) = reads [] p
+-- What reading a form gives, as two numbers: the end has none, and two zeros stand for them.
+abbrev pub asPair : Due → Scan → Scan
+asPair dues.Header scan = scan
+asPair dues.Link scan = scan
+asPair dues.End scan = following scan (reads (0 ∷ 0 ∷ []))
 
-abbrev pub dueGives : Due → PairScan → Scan
-dueGives dues.Header r = pairGives r
-dueGives dues.Link r = pairGives r
-dueGives dues.End r = bareGives r
+-- The reading of the end, from the pair and back.
+pub end-departs-pair : (scan : Scan) (p : ℕ) → scan ≡ departs p → departs p ≡ asPair dues.End scan
+unfolding following
+end-departs-pair scan p e = rw e
+
+pub end-reads-pair : (scan : Scan) (p : ℕ) → scan ≡ reads [] p → reads (0 ∷ 0 ∷ []) p ≡ asPair dues.End scan
+unfolding following withFront
+end-reads-pair scan p e = rw e
+
+pub pair-departs-end : (scan : Scan) (p : ℕ) → departs p ≡ asPair dues.End scan → scan ≡ departs p
+unfolding following withFront
+pair-departs-end (departs q) p e = sym e
+pair-departs-end (reads values q) p e = let z : _≡_ {A = ℕ} 0 1 = cc in absurd (omega arith)
+
+pub pair-reads-end : (scan : Scan) (a b p : ℕ) → reads (a ∷ b ∷ []) p ≡ asPair dues.End scan
+    → (values : List ℕ) × (scan ≡ reads values p)
+unfolding following withFront
+pair-reads-end (departs q) a b p e = let z : _≡_ {A = ℕ} 0 1 = cc in absurd (omega arith)
+pair-reads-end (reads values q) a b p e = (values, ap (reads values) (cc))

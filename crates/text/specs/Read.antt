@@ -45,14 +45,14 @@ module _ (text : List ℕ) (n : ℕ) (lows highs : List ℕ) (at p : ℕ) where
   unfolding readEnd onScan
   end-departs e = rw e
 
-  pub end-more : scanForm text endForm at ≡ reads [] p → p < length text → readEnd text n lows highs at ≡ refused 2 p
+  pub end-more : (values : List ℕ) → scanForm text endForm at ≡ reads values p → p < length text → readEnd text n lows highs at ≡ refused 2 p
   unfolding readEnd onScan refuseIf
-  end-more e h = rw (e, lt-ltb p (length text) h)
+  end-more values e h = rw (e, lt-ltb p (length text) h)
 
-  pub end-done : scanForm text endForm at ≡ reads [] p → length text ≤ p
+  pub end-done : (values : List ℕ) → scanForm text endForm at ≡ reads values p → length text ≤ p
       → readEnd text n lows highs at ≡ done (record { relays = n; lows = lows; highs = highs })
   unfolding readEnd onScan refuseIf
-  end-done e h = rw (e, le-ltb p (length text) h)
+  end-done values e h = rw (e, le-ltb p (length text) h)
 
 -- One more link in a list.
 pub take-stored : (list : List ℕ) (i x : ℕ) → i < length list → take (i + 1) (set list i x) ≡ take i list ++ (x ∷ [])

@@ -6,15 +6,15 @@ use native.Mathlib.Nat.{zero-add}
 use native.Mathlib.Omega.{arith}
 use lib.ListN.{length, getD, length-append}
 use lib.Seq.{sets, sets-eq}
-use borrow.Author.Tests.{lt-ltb, le-ltb}
-use Rattle.definitions.specs.Outcome.{refused, done, refuseIf, andThen, ifDone}
+use Rattle.definitions.specs.Outcome.{done}
 use Rattle.definitions.specs.Lists.{overwrite}
-use Rattle.definitions.specs.Network.{tableCheck}
+use Rattle.definitions.specs.Network.{tableCheck, Accepted}
 use Rattle.definitions.specs.Form.{bytes, writeForm}
 use Rattle.definitions.specs.Text.{headerForm, linkForm, endForm, linkLines, textOf, writeAnswer, bufferAfter}
 use Rattle.network.specs.Answers.{refusalOf}
 use Rattle.network.specs.Refusals.{refusal-then, refusal-keeps}
 use Rattle.network.specs.declared.Refusal.{Refusal}
+use Rattle.text_theory.specs.Writes.{write-done}
 use Rattle.text.specs.Put.{word-written}
 
 pub links-step : (lows highs : List ℕ) (i m : ℕ) → i < m
@@ -51,7 +51,7 @@ pub stored-overwrite : (new old : List ℕ) → length new ≤ length old → se
 unfolding overwrite
 stored-overwrite new old h = sets-eq new old 0 (omega arith) ∙ rw (zero-add (length new))
 
--- Write's answer and its buffer afterwards, way by way.
+-- Write's answer and its buffer afterwards.
 module _ (n : ℕ) (lows highs buffer : List ℕ) where
   pub write-refused : (refusal : Refusal) → tableCheck n lows highs ≡ refusalOf refusal
       → (writeAnswer n lows highs buffer ≡ refusalOf refusal) × (bufferAfter n lows highs buffer ≡ buffer)
@@ -59,19 +59,10 @@ module _ (n : ℕ) (lows highs buffer : List ℕ) where
   write-refused refusal e =
       (rw e (refusal-then refusal _), rw (e, refusal-then {A = List ℕ} {B = List ℕ} refusal _) (refusal-keeps (List ℕ) refusal _ _))
 
-  pub write-short : tableCheck n lows highs ≡ done [] → length buffer < length (textOf n lows highs)
-      → (writeAnswer n lows highs buffer ≡ refused 12 0) × (bufferAfter n lows highs buffer ≡ buffer)
-  unfolding writeAnswer bufferAfter andThen ifDone refuseIf
-  write-short e h = (
-    rw (e, lt-ltb (length buffer) (length (textOf n lows highs)) h),
-    rw (e, lt-ltb (length buffer) (length (textOf n lows highs)) h),
-  )
-
-  pub write-done : tableCheck n lows highs ≡ done [] → length (textOf n lows highs) ≤ length buffer
+  -- A whole text, as the stores that write it.
+  pub write-stored : Accepted n lows highs → length (textOf n lows highs) ≤ length buffer
       → (writeAnswer n lows highs buffer ≡ done (length (textOf n lows highs) ∷ []))
       × (bufferAfter n lows highs buffer ≡ sets buffer 0 (textOf n lows highs))
-  unfolding writeAnswer bufferAfter andThen ifDone refuseIf
-  write-done e h = (
-    rw (e, le-ltb (length buffer) (length (textOf n lows highs)) h),
-    rw (e, le-ltb (length buffer) (length (textOf n lows highs)) h) (sym (stored-overwrite (textOf n lows highs) buffer h)),
-  )
+  write-stored check room =
+      let (answer, bytes) = write-done n lows highs buffer check room in
+      (answer, bytes ∙ sym (stored-overwrite (textOf n lows highs) buffer room))

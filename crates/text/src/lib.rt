@@ -18,9 +18,9 @@ ghost use Rattle.text.specs.Marks.{Writable};
 ghost use Rattle.text.specs.Put.{Put};
 ghost use Rattle.text.specs.Tables.{afterHeader, TableRead};
 
-pub mod mark;
+mod mark;
 pub mod put;
-pub mod rows;
+mod rows;
 pub mod scan;
 
 use network::Refusal;

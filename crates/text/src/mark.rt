@@ -2,25 +2,26 @@
 // Both functions over it are proved by hand; the form itself is read by a function on slice and offset.
 ghost use mathlib.Core.Path.{_≡_};
 ghost use Rattle.definitions.specs.Form.{scanForm};
-ghost use Rattle.text.specs.Forms.{formOf, dueGives};
+ghost use Rattle.text.specs.Forms.{formOf, asPair};
+ghost use Rattle.text.specs.Scans.{pairGives};
 use crate::scan::Due;
 use crate::scan::PairScan;
 
-pub struct Mark<'a> {
-    pub text: &'a [u8],
-    pub at: usize,
+struct Mark<'a> {
+    text: &'a [u8],
+    at: usize,
 }
 
 // The form due where the mark stands.
-pub fn form_here<'a>(mark: Mark<'a>, due: Due) -> PairScan
-    ensures { λ r. ⌜ dueGives due r ≡ scanForm (now (mark .entry .text)) (formOf due) (mark .entry .at) ⌝ }
+fn form_here<'a>(mark: Mark<'a>, due: Due) -> PairScan
+    ensures { λ r. ⌜ pairGives r ≡ asPair due (scanForm (now (mark .entry .text)) (formOf due) (mark .entry .at)) ⌝ }
 {
     crate::scan::form_line(mark.text, mark.at, due)
 }
 
 // A mark is set on a text, and the form due there is read.
-pub fn form_at(text: &[u8], at: usize, due: Due) -> PairScan
-    ensures { λ r. ⌜ dueGives due r ≡ scanForm (now (text .entry)) (formOf due) at ⌝ }
+pub(crate) fn form_at(text: &[u8], at: usize, due: Due) -> PairScan
+    ensures { λ r. ⌜ pairGives r ≡ asPair due (scanForm (now (text .entry)) (formOf due) at) ⌝ }
 {
     form_here(Mark { text, at }, due)
 }

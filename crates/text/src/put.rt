@@ -12,13 +12,13 @@ ghost use Rattle.text.specs.Scans.{pairForm};
 use crate::scan::Due;
 
 // Where the writer stands: the next offset, and how many links are written.
-pub struct WriteMark {
+pub(crate) struct WriteMark {
     pub next: usize,
     pub links: usize,
 }
 
 // How many digits a number has.
-pub fn width(x: usize) -> usize
+fn width(x: usize) -> usize
     ensures { λ r. ⌜ r ≡ length (decimal x) ⌝ }
 {
     let mut count: usize = 1;
@@ -54,11 +54,11 @@ pub fn put_number(buffer: &mut [u8], at: usize, x: usize) -> usize
     while 10 <= tens {
         p -= 1;
         let digit = (tens % 10) as u8;
-        buffer[p] = 48 + digit;
+        buffer[p] = b'0' + digit;
         tens /= 10;
     }
     let first = tens as u8;
-    buffer[p - 1] = 48 + first;
+    buffer[p - 1] = b'0' + first;
     next
 }
 
@@ -92,7 +92,7 @@ pub fn put_pair(
 }
 
 // `(net (relays N) (links M))` and its line end.
-pub fn put_header(buffer: &mut [u8], at: usize, n: usize, m: usize) -> usize
+fn put_header(buffer: &mut [u8], at: usize, n: usize, m: usize) -> usize
     requires { ⌜ at + length (writeForm headerForm (n ∷ m ∷ [])) ≤ length (now buffer) ⌝ }
     ensures { λ r. ⌜ Put (now (buffer .entry)) at (writeForm headerForm (n ∷ m ∷ [])) (now (buffer .exit)) r ⌝ }
 {
@@ -100,7 +100,7 @@ pub fn put_header(buffer: &mut [u8], at: usize, n: usize, m: usize) -> usize
 }
 
 // `(link A B)` and its line end.
-pub fn put_link(buffer: &mut [u8], at: usize, a: usize, b: usize) -> usize
+fn put_link(buffer: &mut [u8], at: usize, a: usize, b: usize) -> usize
     requires { ⌜ at + length (writeForm linkForm (a ∷ b ∷ [])) ≤ length (now buffer) ⌝ }
     ensures { λ r. ⌜ Put (now (buffer .entry)) at (writeForm linkForm (a ∷ b ∷ [])) (now (buffer .exit)) r ⌝ }
 {
@@ -116,14 +116,14 @@ pub fn put_end(buffer: &mut [u8], at: usize) -> usize
 }
 
 // The lengths of a header line and of a link line.
-pub fn header_length(n: usize, m: usize) -> usize
+pub(crate) fn header_length(n: usize, m: usize) -> usize
     requires { ⌜ (n ≤ 65535) × (m ≤ 65535) ⌝ }
     ensures { λ r. ⌜ (r ≡ length (writeForm headerForm (n ∷ m ∷ []))) × (r ≤ 35) ⌝ }
 {
     25 + width(n) + width(m)
 }
 
-pub fn link_length(a: usize, b: usize) -> usize
+pub(crate) fn link_length(a: usize, b: usize) -> usize
     requires { ⌜ (a ≤ 65535) × (b ≤ 65535) ⌝ }
     ensures { λ r. ⌜ (r ≡ length (writeForm linkForm (a ∷ b ∷ []))) × (r ≤ 19) ⌝ }
 {
@@ -139,7 +139,7 @@ fn entry(list: &[u16], i: usize) -> usize
 }
 
 // The form that is due at a mark, and the mark behind it.
-pub fn put_form(
+fn put_form(
     buffer: &mut [u8],
     mark: WriteMark,
     due: Due,
@@ -172,7 +172,7 @@ pub fn put_form(
 }
 
 // Writes the form that is due at the mark, and moves the mark behind it.
-pub fn move_mark(
+pub(crate) fn move_mark(
     buffer: &mut [u8],
     mark: &mut WriteMark,
     due: Due,

@@ -11,13 +11,13 @@ use network::LinkCheck;
 use network::Refusal;
 
 // A part of a text read: the offset behind it, or a refusal.
-pub enum Step {
+pub(crate) enum Step {
     Next(usize),
     Refused(Refusal),
 }
 
 // The next link line, as link i behind those before it, whose pairs are marked.
-pub fn read_link(
+fn read_link(
     text: &[u8],
     n: u16,
     i: usize,
@@ -47,7 +47,7 @@ pub fn read_link(
 }
 
 // All m link lines, where no pair is marked yet.
-pub fn read_links(
+fn read_links(
     text: &[u8],
     n: u16,
     m: usize,
@@ -78,7 +78,7 @@ pub fn read_links(
 }
 
 // All m link lines, with marks for as many relays as it takes.
-pub fn read_all_links(
+pub(crate) fn read_all_links(
     text: &[u8],
     n: u16,
     m: usize,
@@ -103,7 +103,7 @@ pub fn read_all_links(
 }
 
 // The end line, and nothing after it.
-pub fn read_end(text: &[u8], at: usize) -> Step
+pub(crate) fn read_end(text: &[u8], at: usize) -> Step
     ensures { λ r. ⌜ EndRead (now (text .entry)) at r ⌝ }
 {
     match crate::mark::form_at(text, at, Due::End) {
@@ -118,7 +118,7 @@ pub fn read_end(text: &[u8], at: usize) -> Step
 }
 
 // Zeros from an index on.
-pub fn clear_from(list: &mut [u16], from: usize)
+pub(crate) fn clear_from(list: &mut [u16], from: usize)
     ensures { λ _. ⌜ now (list .exit) ≡ clearedFrom from (now (list .entry)) ⌝ }
 {
     let mut i = from;

@@ -8,7 +8,7 @@ ghost use lib.ListN.{length};
 ghost use Rattle.definitions.specs.Form.{byteAt, word, numeral, scanWord, scanDigits, scanNumber, scanForm};
 ghost use Rattle.definitions.specs.Text.{headerForm, linkForm, endForm};
 ghost use Rattle.text_theory.specs.Forms.{noZero};
-ghost use Rattle.text.specs.Forms.{formOf, dueGives};
+ghost use Rattle.text.specs.Forms.{formOf, asPair};
 ghost use Rattle.text.specs.Scans.{pairForm, wordGives, numberGives, pairGives};
 
 // A word: the offset of the first byte that departs, or the offset behind it.
@@ -30,14 +30,14 @@ pub enum PairScan {
 }
 
 // Which form of a network's text is due.
-pub enum Due {
+pub(crate) enum Due {
     Header,
     Link,
     End,
 }
 
 // The byte at an offset; past the end 0, which departs from every form.
-pub fn byte(text: &[u8], at: usize) -> u8
+fn byte(text: &[u8], at: usize) -> u8
     ensures { λ r. ⌜ r ≡ byteAt (now (text .entry)) at ⌝ }
 {
     if at < text.len() { text[at] } else { 0 }
@@ -59,7 +59,8 @@ pub fn word(text: &[u8], letters: &[u8], at: usize) -> WordScan
     WordScan::Reads(at + i)
 }
 
-// At most three later digits behind a first one.
+// At most three later digits behind a first one. Any other byte ends the number: a space, a bracket or a line end where the
+// word due behind the number has it, or else a byte that departs from that word.
 fn digits(text: &[u8], first: u16, at: usize) -> NumberScan
     requires { ⌜ (first ≤ 9) × (at ≤ length (now text)) ⌝ }
     ensures { λ r. ⌜ numberGives r ≡ scanDigits (now (text .entry)) first at 3 ⌝ }
@@ -69,16 +70,17 @@ fn digits(text: &[u8], first: u16, at: usize) -> NumberScan
     let mut more: usize = 3;
     while 0 < more {
         let b = byte(text, p);
-        if b < 48 {
-            return NumberScan::Reads(x, p);
+        match b {
+            b'0'..=b'9' => {
+                let digit = (b - b'0') as u16;
+                x = x * 10 + digit;
+                p += 1;
+                more -= 1;
+            }
+            _ => {
+                return NumberScan::Reads(x, p);
+            }
         }
-        if 57 < b {
-            return NumberScan::Reads(x, p);
-        }
-        let digit = (b - 48) as u16;
-        x = x * 10 + digit;
-        p += 1;
-        more -= 1;
     }
     NumberScan::Reads(x, p)
 }
@@ -88,20 +90,15 @@ pub fn number(text: &[u8], at: usize) -> NumberScan
     ensures { λ r. ⌜ numberGives r ≡ scanNumber (now (text .entry)) at ⌝ }
 {
     let b = byte(text, at);
-    if b < 48 {
-        return NumberScan::Departs(at);
+    match b {
+        b'1'..=b'9' => digits(text, (b - b'0') as u16, at + 1),
+        b'0' => NumberScan::Reads(0, at + 1),
+        _ => NumberScan::Departs(at),
     }
-    if 57 < b {
-        return NumberScan::Departs(at);
-    }
-    if b < 49 {
-        return NumberScan::Reads(0, at + 1);
-    }
-    digits(text, (b - 48) as u16, at + 1)
 }
 
 // A word and the number behind it.
-pub fn word_number(text: &[u8], letters: &[u8], at: usize) -> NumberScan
+fn word_number(text: &[u8], letters: &[u8], at: usize) -> NumberScan
     requires { ⌜ noZero (now letters) ≡ true ⌝ }
     ensures { λ r. ⌜ numberGives r ≡ scanForm (now (text .entry)) (word (now (letters .entry)) ∷ numeral ∷ []) at ⌝ }
 {
@@ -132,29 +129,29 @@ pub fn pair_line(text: &[u8], front: &[u8], middle: &[u8], back: &[u8], at: usiz
 }
 
 // `(net (relays N) (links M))` and its line end.
-pub fn header_line(text: &[u8], at: usize) -> PairScan
+fn header_line(text: &[u8], at: usize) -> PairScan
     ensures { λ r. ⌜ pairGives r ≡ scanForm (now (text .entry)) headerForm at ⌝ }
 {
     pair_line(text, b"(net (relays ", b") (links ", b"))\n", at)
 }
 
 // `(link A B)` and its line end.
-pub fn link_line(text: &[u8], at: usize) -> PairScan
+fn link_line(text: &[u8], at: usize) -> PairScan
     ensures { λ r. ⌜ pairGives r ≡ scanForm (now (text .entry)) linkForm at ⌝ }
 {
     pair_line(text, b"(link ", b" ", b")\n", at)
 }
 
 // `(end)` and its line end.
-pub fn end_line(text: &[u8], at: usize) -> WordScan
+fn end_line(text: &[u8], at: usize) -> WordScan
     ensures { λ r. ⌜ wordGives r ≡ scanForm (now (text .entry)) endForm at ⌝ }
 {
     word(text, b"(end)\n", at)
 }
 
-// The form that is due; the end has no number.
-pub fn form_line(text: &[u8], at: usize, due: Due) -> PairScan
-    ensures { λ r. ⌜ dueGives due r ≡ scanForm (now (text .entry)) (formOf due) at ⌝ }
+// The form that is due; the end has no number, and gives 0 for each.
+pub(crate) fn form_line(text: &[u8], at: usize, due: Due) -> PairScan
+    ensures { λ r. ⌜ pairGives r ≡ asPair due (scanForm (now (text .entry)) (formOf due) at) ⌝ }
 {
     match due {
         Due::Header => header_line(text, at),

@@ -9,6 +9,8 @@ pub mod FirstDeparture
 pub mod LinkByLink
 pub mod Onward
 pub mod RoundTrip
+pub mod Writes
+pub mod DemandTwo
 pub mod Spans
 pub mod Reach
 pub mod Refusals

@@ -22,18 +22,26 @@ use Rattle.text_theory.specs.Forms.{header-line, link-line, end-line}
 use Rattle.text_theory.specs.Lines.{line-read, header-fits, end-fits, faultless-fits}
 use Rattle.text_theory.specs.LinkByLink.{lines, Faultless}
 
+-- Behind a header within the limits: "8, a table list shorter than m", or the link lines.
+pub header-roomy : (text : List ℕ) (n m p roomLows roomHighs : ℕ) → 1 ≤ n → n ≤ 1000 → m ≤ 3000
+    → Part text 0 (writeForm headerForm (n ∷ m ∷ [])) p
+    → readNetwork text roomLows roomHighs
+    ≡ refuseIf (ltb roomLows m || ltb roomHighs m) 8 0 (readLinks text n [] [] p m)
+unfolding readNetwork onScan
+header-roomy text n m p roomLows roomHighs some few short part =
+    let roomy = refuseIf (ltb roomLows m || ltb roomHighs m) 8 0 (readLinks text n [] [] p m) in
+    rw (line-read headerForm (n ∷ m ∷ []) text 0 p header-line (header-fits n m (omega arith) (omega arith)) part)
+    (refuse-not (outside 1 1000 n) 3 0 (refuseIf (ltb 3000 m) 4 0 roomy) (inside 1 1000 n some few)
+    ∙ refuse-not (ltb 3000 m) 4 0 roomy (le-ltb 3000 m short))
+
 pub header-onward : (text : List ℕ) (n m p roomLows roomHighs : ℕ) → 1 ≤ n → n ≤ 1000 → m ≤ 3000
     → m ≤ roomLows → m ≤ roomHighs → Part text 0 (writeForm headerForm (n ∷ m ∷ [])) p
     → readNetwork text roomLows roomHighs ≡ readLinks text n [] [] p m
-unfolding readNetwork onScan
 header-onward text n m p roomLows roomHighs some few short inLows inHighs part =
-    let links = readLinks text n [] [] p m in
     let full = ltb roomLows m || ltb roomHighs m in
     let room : full ≡ false = rw (le-ltb roomLows m inLows, le-ltb roomHighs m inHighs) in
-    rw (line-read headerForm (n ∷ m ∷ []) text 0 p header-line (header-fits n m (omega arith) (omega arith)) part)
-    (refuse-not (outside 1 1000 n) 3 0 (refuseIf (ltb 3000 m) 4 0 (refuseIf full 8 0 links)) (inside 1 1000 n some few)
-    ∙ refuse-not (ltb 3000 m) 4 0 (refuseIf full 8 0 links) (le-ltb 3000 m short)
-    ∙ refuse-not full 8 0 links room)
+    header-roomy text n m p roomLows roomHighs some few short part
+    ∙ refuse-not full 8 0 (readLinks text n [] [] p m) room
 
 pub links-onward : (text : List ℕ) (n : ℕ) (ls hs lows highs : List ℕ) (p at left : ℕ) → n ≤ 1000 → length ls ≡ length hs
     → Faultless n lows highs ls hs → Part text p (lines ls hs) at

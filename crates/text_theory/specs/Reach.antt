@@ -149,7 +149,8 @@ links-reach (suc count) n text relays lows highs p few within h =
     let behind = link-behind text relays lows highs p values q few within e none in
     links-reach count n text relays (lows ++ (a ∷ [])) (highs ++ (b ∷ [])) q few (behind .0) (omega arith))))
 
--- The longest text that can be accepted has 45,039 bytes, and no refusal needs a byte behind that.
+-- The longest text that can be accepted has 45,039 bytes. Behind such a text one byte more is looked for, since nothing may
+-- come after the end: any answer comes from the first 45,040 bytes.
 pub network-reach : (n : ℕ) (text : List ℕ) (roomLows roomHighs : ℕ) → 45040 ≤ n
     → readNetwork (take n text) roomLows roomHighs ≡ readNetwork text roomLows roomHighs
 unfolding readNetwork span headerForm

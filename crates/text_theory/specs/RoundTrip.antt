@@ -3,8 +3,7 @@
 use Prim.Native.Nat.{ℕ, zero, suc, _+_, _≤_}
 use mathlib.Core.Bool.{false, _||_}
 use mathlib.Core.List.{List, [], _∷_, _++_, append-nil, append-assoc}
-use mathlib.Core.Logic.{_↔_}
-use mathlib.Core.Path.{_≡_, refl, _∙_, ap}
+use mathlib.Core.Path.{_≡_, refl, sym, _∙_, ap}
 use native.Mathlib.Nat.{add-zero}
 use native.Mathlib.Omega.{arith}
 use lib.Dec.{ltb}
@@ -21,17 +20,13 @@ use Rattle.lists.specs.Parts.{Part, part-append, part-first, part-second, part-
 use Rattle.theory.specs.Accepted.{accepted}
 use Rattle.text_theory.specs.Forms.{header-line, link-line, end-line}
 use Rattle.text_theory.specs.Lines.{
-  line-read,
   read-line,
-  header-fits,
-  end-fits,
   link-numbers,
   header-numbers,
   end-numbers,
-  faultless-fits,
 }
 use Rattle.text_theory.specs.LinkByLink.{lines, Faultless, linkLines-lines, accepted-faultless, faultless-accepted}
-use Rattle.text_theory.specs.Onward.{header-onward, links-onward, end-onward}
+use Rattle.text_theory.specs.Onward.{header-roomy, links-onward, end-onward}
 
 -- The text behind the header line.
 abbrev body : List ℕ → List ℕ → List ℕ
@@ -122,11 +117,12 @@ text-lines n lows highs even =
     ap (λ (l : List ℕ). writeForm headerForm (n ∷ length lows ∷ []) ++ (l ++ writeForm endForm []))
     (linkLines-lines lows highs [] [] refl even)
 
--- An accepted network is read back from its text.
+-- An accepted network is read back from its text, by lists with the room for its links.
 pub read-written : (n : ℕ) (lows highs : List ℕ) → Accepted n lows highs → (roomLows roomHighs : ℕ)
-    → length lows ≤ roomLows → length lows ≤ roomHighs
-    → readNetwork (textOf n lows highs) roomLows roomHighs ≡ done (record { relays = n; lows = lows; highs = highs })
-read-written n lows highs check roomLows roomHighs inLows inHighs =
+    → readNetwork (textOf n lows highs) roomLows roomHighs
+    ≡ refuseIf (ltb roomLows (length lows) || ltb roomHighs (length lows)) 8 0
+    (done (record { relays = n; lows = lows; highs = highs }))
+read-written n lows highs check roomLows roomHighs =
     let table = accepted n lows highs check in
     let m = length lows in
     let header = writeForm headerForm (n ∷ m ∷ []) in
@@ -137,13 +133,14 @@ read-written n lows highs check roomLows roomHighs inLows inHighs =
     let last = part-second text (lines lows highs) (writeForm endForm []) p (length text) behind in
     let links = links-onward text n lows highs [] [] p q 0 (table .few) (table .even) (accepted-faultless n lows highs check)
     (part-first text (lines lows highs) (writeForm endForm []) p (length text) behind) in
-    rw (text-lines n lows highs (table .even))
-    (header-onward text n m p roomLows roomHighs (table .some) (table .few) (table .short) inLows inHighs
-    (part-start header (body lows highs))
-    ∙ (rw (add-zero m) at links)
+    let network : Outcome Network = done (record { relays = n; lows = lows; highs = highs }) in
+    let whole : readLinks text n [] [] p m ≡ network =
+    (rw (add-zero m) at links)
     ∙ end-onward text n lows highs q (length text) last
-    ∙ refuse-not (ltb (length text) (length text)) 2 (length text) (done (record { relays = n; lows = lows; highs = highs }))
-    (le-ltb (length text) (length text) (omega arith)))
+    ∙ refuse-not (ltb (length text) (length text)) 2 (length text) network (le-ltb (length text) (length text) (omega arith)) in
+    rw (text-lines n lows highs (table .even))
+    (header-roomy text n m p roomLows roomHighs (table .some) (table .few) (table .short) (part-start header (body lows highs))
+    ∙ ap (refuseIf (ltb roomLows m || ltb roomHighs m) 8 0) whole)
 
 -- The network and its text from the header line on.
 read-whole : (text : List ℕ) (n m p : ℕ) (network : Network) → Part text 0 (writeForm headerForm (n ∷ m ∷ [])) p
@@ -186,31 +183,8 @@ written-read text roomLows roomHighs network e =
     read-whole text n m p network here (size .0) (ltb-false 3000 m (many .0))
     (read-links m text n [] [] p network (line .1 .within) (room .1))
 
--- "Each table has one text": with room for 3,000 links each, the reader gives a network for a text exactly if the text is
--- that network's and the network is an accepted one.
-pub reads-exactly : (text : List ℕ) (roomLows roomHighs : ℕ) → 3000 ≤ roomLows → 3000 ≤ roomHighs → (network : Network)
-    → (readNetwork text roomLows roomHighs ≡ done network)
-    ↔ ((textOf (network .relays) (network .lows) (network .highs) ≡ text)
-    × Accepted (network .relays) (network .lows) (network .highs))
-reads-exactly text roomLows roomHighs inLows inHighs network = (
-  written-read text roomLows roomHighs network,
-  λ both.
-      let table = accepted (network .relays) (network .lows) (network .highs) (both .1) in
-      rw (← both .0)
-      (read-written (network .relays) (network .lows) (network .highs) (both .1) roomLows roomHighs
-      (omega (arith, table .short)) (omega (arith, table .short))),
-)
-
--- The reader accepts a text exactly if it is the text of some accepted network.
-pub accepts-exactly : (text : List ℕ) (roomLows roomHighs : ℕ) → 3000 ≤ roomLows → 3000 ≤ roomHighs
-    → ((network : Network) × (readNetwork text roomLows roomHighs ≡ done network))
-    ↔ ((n : ℕ) × (lows : List ℕ) × (highs : List ℕ) × (textOf n lows highs ≡ text) × Accepted n lows highs)
-accepts-exactly text roomLows roomHighs inLows inHighs = (
-  λ given.
-      let network = given .0 in
-      let both = written-read text roomLows roomHighs network (given .1) in
-      (network .relays, network .lows, network .highs, both .0, both .1),
-  λ given.
-      let network : Network = record { relays = given .0; lows = given .1; highs = given .2 } in
-      (network, reads-exactly text roomLows roomHighs inLows inHighs network .1 (given .3, given .4)),
-)
+-- "Each table has one text": two texts that are read as one network are the same.
+pub one-text : (text other : List ℕ) (roomLows roomHighs otherLows otherHighs : ℕ) (network : Network)
+    → readNetwork text roomLows roomHighs ≡ done network → readNetwork other otherLows otherHighs ≡ done network → text ≡ other
+one-text text other roomLows roomHighs otherLows otherHighs network e f =
+    sym (written-read text roomLows roomHighs network e .0) ∙ written-read other otherLows otherHighs network f .0

@@ -11,8 +11,9 @@ use Rattle.definitions.specs.Outcome.{done}
 use Rattle.definitions.specs.Network.{Accepted}
 use Rattle.definitions.specs.Text.{textOf}
 use Rattle.network.specs.Answers.{checkOutcome}
-use Rattle.text.specs.Written.{write-refused, write-short, write-done}
 use Rattle.theory.specs.Accepted.{accepted}
+use Rattle.text_theory.specs.Writes.{write-short}
+use Rattle.text.specs.Written.{write-refused, write-stored}
 use Rattle.text.proofs.write.Statement.{statement}
 use Rattle.text.proofs.write.Tie as tie
 
@@ -76,7 +77,7 @@ returns-3 c =
     sym (m .before .before .table-check .ensures) ∙ ap checkOutcome (m .enum-told .given .1) in
     let put = c .before .before .put-text .ensures in
     let size = atTextLength .text-length .ensures in
-    let written = write-done (a .n) (now (a .lows)) (now (a .highs)) (now (a .buffer)) good (omega (arith, size)) in (
+    let written = write-stored (a .n) (now (a .lows)) (now (a .highs)) (now (a .buffer)) good (omega (arith, size)) in (
       ap (λ (size : ℕ). done (size ∷ [])) (put .ends ∙ zero-add (length (textOf (a .n) (now (a .lows)) (now (a .highs))))) ∙ sym
           (written .0),
       put .bytes ∙ sym (written .1),

@@ -42,7 +42,8 @@ use denote.Triple.Walked.{says, Stays, stay-none, stay-none-slice, walkOf, goes-
 use denote.Exit.{yes}
 use denote.Triple.Clauses.{ensured, lasts}
 use Rattle.definitions.specs.Form.{scanForm}
-use Rattle.text.specs.Forms.{formOf, dueGives}
+use Rattle.text.specs.Forms.{formOf, asPair}
+use Rattle.text.specs.Scans.{pairGives}
 use Rattle.text.specs.declared.mark.Mark.{Mark}
 use Rattle.text.specs.declared.scan.Due.{Due}
 use Rattle.text.specs.declared.scan.PairScan.{PairScan}
@@ -92,7 +93,7 @@ module _ {M : Type 1} (𝓤 : URA M) (H : Heap 𝓤) (A : Atoms 𝓤) (W : Given
   mach = T′.lowered mark
 
   abbrev Claim : PairScan → Type 0
-  Claim r = dueGives e r ≡ scanForm (now s) (formOf e) n
+  Claim r = pairGives r ≡ asPair e (scanForm (now s) (formOf e) n)
 
   abbrev Post : Val → SProp 𝓤
   Post = walkOf 𝓤 H A form-at.ended stayed (form-at.clauses 𝓤 H A mem run) .post (((κ, tt), (q, tt), tt, (s, (n, (e, tt))), at), tt)

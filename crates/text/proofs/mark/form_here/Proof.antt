@@ -45,7 +45,8 @@ use denote.Triple.Walked.{says, Stays, stay-none, walkOf, goes-none, Walks, ends
 use denote.Exit.{yes}
 use denote.Triple.Clauses.{ensured, lasts}
 use Rattle.definitions.specs.Form.{scanForm}
-use Rattle.text.specs.Forms.{formOf, dueGives}
+use Rattle.text.specs.Forms.{formOf, asPair}
+use Rattle.text.specs.Scans.{pairGives}
 use Rattle.text.specs.declared.mark.Mark.{Mark}
 use Rattle.text.specs.declared.scan.Due.{Due}
 use Rattle.text.specs.declared.scan.PairScan.{PairScan}
@@ -89,7 +90,7 @@ module _ {M : Type 1} (𝓤 : URA M) (H : Heap 𝓤) (A : Atoms 𝓤) (W : Given
   v = sliceVal (d .text .ptr) (length (d .text .now))
 
   abbrev Claim : PairScan → Type 0
-  Claim r = dueGives e r ≡ scanForm (now (d .text)) (formOf e) (d .at)
+  Claim r = pairGives r ≡ asPair e (scanForm (now (d .text)) (formOf e) (d .at))
 
   abbrev Post : Val → SProp 𝓤
   Post =

@@ -2,8 +2,9 @@
 use mathlib.Core.Path.{sym, _∙_, ap}
 use borrow.Author.Needs.{needs}
 use denote.Ref.{now}
-use Rattle.text.specs.Forms.{bareGives}
+use Rattle.text.specs.Forms.{pair-departs-end, pair-reads-end}
 use Rattle.text.specs.Read.{end-departs, end-more, end-done}
+use Rattle.text.specs.Scans.{pairGives}
 use Rattle.text.proofs.rows.read_end.Statement.{statement}
 use Rattle.text.proofs.rows.read_end.Tie as tie
 
@@ -21,10 +22,11 @@ returns c =
     let atFormAt = c .before .before .before .before in
     let start = atFormAt .before .before in
     let a = start .args in
+    let given = pair-reads-end _ _ _ _ (sym (ap pairGives (c .before .before .p2 .given .1)) ∙ atFormAt .form-at .ensures) in
     record {
       follows = λ n lows highs.
           end-more (now (a .text)) n lows highs (a .at) _
-          (sym (atFormAt .form-at .ensures) ∙ ap bareGives (c .before .before .p2 .given .1)) (c .if1 .taken);
+          (given .0) (given .1) (c .if1 .taken);
     }
 
 returns-2 : tie.Need-returns-2
@@ -34,7 +36,8 @@ returns-2 c =
     let a = start .args in
     record {
       follows = λ n lows highs.
-          end-departs (now (a .text)) n lows highs (a .at) _ (sym (atFormAt .form-at .ensures) ∙ ap bareGives (c .before .p .given .1));
+          end-departs (now (a .text)) n lows highs (a .at) _
+          (pair-departs-end _ _ (sym (ap pairGives (c .before .p .given .1)) ∙ atFormAt .form-at .ensures));
     }
 
 returns-3 : tie.Need-returns-3
@@ -42,10 +45,11 @@ returns-3 c =
     let atFormAt = c .before .before .before .before in
     let start = atFormAt .before .before in
     let a = start .args in
+    let given = pair-reads-end _ _ _ _ (sym (ap pairGives (c .before .before .p2 .given .1)) ∙ atFormAt .form-at .ensures) in
     record {
       follows = λ n lows highs.
           end-done (now (a .text)) n lows highs (a .at) _
-          (sym (atFormAt .form-at .ensures) ∙ ap bareGives (c .before .before .p2 .given .1)) (c .if1 .left);
+          (given .0) (given .1) (c .if1 .left);
     }
 
 pub read-end-spec : {M : Type 1} → statement M

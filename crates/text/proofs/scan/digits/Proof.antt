@@ -28,26 +28,6 @@ loop-holds c =
 byte-requires : tie.Need-byte-requires Inv-loop μ-loop
 byte-requires c κs = tt
 
-returns : tie.Need-returns Inv-loop μ-loop
-returns c =
-    let l = c .before .before .before in
-    let a = l .before .before .args in
-    let b = c .before .byte in
-    sym
-    (l .loop .inv .3
-    ∙ digits-end (now (a .text)) (l .loop .x) (l .loop .p) (l .loop .more)
-    (rw (b .ensures) at (below 48 57 (b .result) (c .if1 .taken))))
-
-returns-2 : tie.Need-returns-2 Inv-loop μ-loop
-returns-2 c =
-    let l = c .before .before .before .before in
-    let a = l .before .before .args in
-    let b = c .before .before .byte in
-    sym
-    (l .loop .inv .3
-    ∙ digits-end (now (a .text)) (l .loop .x) (l .loop .p) (l .loop .more)
-    (rw (b .ensures) at (above 48 57 (b .result) (c .before .if1 .left) (c .if2 .taken))))
-
 cast-digit : tie.Need-cast-digit Inv-loop μ-loop
 cast-digit c = omega arith
 
@@ -77,12 +57,32 @@ loop-again c =
     let b = c .before .before .byte in
     let within : l .loop .p < length (now (a .text)) = byte-within (now (a .text)) (l .loop .p) (omega arith) in
     let digit : outside 48 57 (byteAt (now (a .text)) (l .loop .p)) ≡ false =
-    rw (b .ensures) at (inside 48 57 (b .result) (c .before .if1 .left) (c .if2 .left)) in (
+    rw (b .ensures) at (inside 48 57 (b .result) (c .before .if1 .left) (omega arith)) in (
       omega arith,
       digits-bound (l .loop .more) (l .loop .x) (b .result - 48) (omega arith) (omega arith) (l .loop .inv .1) (omega arith),
       omega arith,
       l .loop .inv .3 ∙ (rw (← b .ensures) at (digits-step (now (a .text)) (l .loop .x) (l .loop .p) (l .loop .more) (omega arith) digit)),
     )
+
+returns : tie.Need-returns Inv-loop μ-loop
+returns c =
+    let l = c .before .before .before in
+    let a = l .before .before .args in
+    let b = c .before .byte in
+    sym
+    (l .loop .inv .3
+    ∙ digits-end (now (a .text)) (l .loop .x) (l .loop .p) (l .loop .more)
+    (rw (b .ensures) at (below 48 57 (b .result) (c .if1 .taken))))
+
+returns-2 : tie.Need-returns-2 Inv-loop μ-loop
+returns-2 c =
+    let l = c .before .before .before .before in
+    let a = l .before .before .args in
+    let b = c .before .before .byte in
+    sym
+    (l .loop .inv .3
+    ∙ digits-end (now (a .text)) (l .loop .x) (l .loop .p) (l .loop .more)
+    (rw (b .ensures) at (above 48 57 (b .result) (c .before .if1 .left) (omega arith))))
 
 returns-3 : tie.Need-returns-3 Inv-loop μ-loop
 returns-3 c =
@@ -99,8 +99,6 @@ digits-spec =
     μ-loop
     loop-holds
     byte-requires
-    returns
-    returns-2
     cast-digit
     mul-x
     add-x
@@ -108,4 +106,6 @@ digits-spec =
     sub-more
     loop-less
     loop-again
+    returns
+    returns-2
     returns-3)

@@ -1,6 +1,7 @@
 -- `text::scan::form_line` meets its contract: each of the three forms by its own function. Assumes nothing.
 use mathlib.Core.Path.{sym, _∙_, ap}
 use borrow.Author.Needs.{needs}
+use Rattle.text.specs.Forms.{end-departs-pair, end-reads-pair}
 use Rattle.text.specs.Scans.{wordGives}
 use Rattle.text.proofs.scan.form_line.Statement.{statement}
 use Rattle.text.proofs.scan.form_line.Tie as tie
@@ -38,12 +39,12 @@ returns-2 c = rw (c .before .enum-told2 .given .1) (c .link-line .ensures)
 returns-3 : tie.Need-returns-3
 returns-3 c =
     rw (c .before .before .before .before .enum-told3 .given .1)
-    (sym (ap wordGives (c .before .p .given .1)) ∙ c .before .before .before .end-line .ensures)
+    (end-departs-pair _ _ (sym (c .before .before .before .end-line .ensures) ∙ ap wordGives (c .before .p .given .1)))
 
 returns-4 : tie.Need-returns-4
 returns-4 c =
     rw (c .before .before .before .before .enum-told3 .given .1)
-    (sym (ap wordGives (c .before .p2 .given .1)) ∙ c .before .before .before .end-line .ensures)
+    (end-reads-pair _ _ (sym (c .before .before .before .end-line .ensures) ∙ ap wordGives (c .before .p2 .given .1)))
 
 pub form-line-spec : {M : Type 1} → statement M
 form-line-spec =

@@ -1,4 +1,4 @@
--- `text::scan::number` meets its contract: each way out is one range of the first byte. Assumes nothing.
+-- `text::scan::number` meets its contract: each arm is one range of the first byte. Assumes nothing.
 use mathlib.Core.Path.{_≡_, refl, sym, _∙_}
 use native.Mathlib.Omega.{arith}
 use borrow.Author.Needs.{needs}
@@ -13,32 +13,10 @@ use Rattle.text.proofs.scan.number.Tie as tie
 byte-requires : tie.Need-byte-requires
 byte-requires c κs = search needs
 
-returns : tie.Need-returns
-returns c =
-    let a = c .before .before .before .args in
-    let b = c .before .byte in
-    sym
-    (number-departs (now (a .text)) (a .at) (λ e. omega (arith, b .ensures))
-    (rw (b .ensures) at (below 49 57 (b .result) (omega arith))))
-
-returns-2 : tie.Need-returns-2
-returns-2 c =
-    let a = c .before .before .before .before .args in
-    let b = c .before .before .byte in
-    sym
-    (number-departs (now (a .text)) (a .at) (λ e. omega (arith, b .ensures))
-    (rw (b .ensures) at (above 49 57 (b .result) (omega arith) (c .if2 .taken))))
-
 add-t5 : tie.Need-add-t5
 add-t5 c =
-    let a = c .before .before .before .before .before .args in
-    omega (arith, byte-within (now (a .text)) (a .at) (omega (arith, c .before .before .before .byte .ensures)))
-
-returns-3 : tie.Need-returns-3
-returns-3 c =
-    let a = c .before .before .before .before .before .args in
-    let zero : byteAt (now (a .text)) (a .at) ≡ 48 = omega (arith, c .before .before .before .byte .ensures) in
-    sym (number-zero (now (a .text)) (a .at) zero)
+    let a = c .before .before .before .args in
+    omega (arith, byte-within (now (a .text)) (a .at) (omega (arith, c .before .byte .ensures)))
 
 cast-digits : tie.Need-cast-digits
 cast-digits c = search needs
@@ -53,25 +31,46 @@ digits-requires c κs =
     let a = c .before .before .before .before .before .args in
     (omega arith, omega (arith, byte-within (now (a .text)) (a .at) (omega (arith, c .before .before .before .byte .ensures))))
 
-returns-4 : tie.Need-returns-4
-returns-4 c =
+returns : tie.Need-returns
+returns c =
+    let a = c .before .before .before .args in
+    let zero : byteAt (now (a .text)) (a .at) ≡ 48 = omega (arith, c .before .byte .ensures) in
+    sym (number-zero (now (a .text)) (a .at) zero)
+
+returns-2 : tie.Need-returns-2
+returns-2 c =
     let a = c .before .before .before .before .before .before .args in
-    let b = c .before .before .before .before .byte in
-    let e = b .ensures in
+    let e = c .before .before .before .before .byte .ensures in
     c .digits .ensures
     ∙ (rw e refl)
     ∙ sym (number-digits (now (a .text)) (a .at) (omega (arith, e)) (omega (arith, e)))
+
+returns-3 : tie.Need-returns-3
+returns-3 c =
+    let a = c .before .before .before .before .args in
+    let b = c .before .before .byte in
+    sym
+    (number-departs (now (a .text)) (a .at) (λ e. c .before .match .rest .1 (b .ensures ∙ e))
+    (rw (b .ensures) at (below 49 57 (b .result) (omega arith))))
+
+returns-4 : tie.Need-returns-4
+returns-4 c =
+    let a = c .before .before .before .before .before .args in
+    let b = c .before .before .before .byte in
+    sym
+    (number-departs (now (a .text)) (a .at) (λ e. omega (arith, b .ensures))
+    (rw (b .ensures) at (above 49 57 (b .result) (omega arith) (omega arith))))
 
 pub number-spec : {M : Type 1} → statement M
 number-spec =
     tie.close
     (tie.spec
     byte-requires
-    returns
-    returns-2
     add-t5
-    returns-3
     cast-digits
     add-digits
     digits-requires
+    returns
+    returns-2
+    returns-3
     returns-4)
