@@ -1,8 +1,9 @@
 -- What the scan promises: order, places and forest numbers of an accepted table; and its steps. Assumes nothing.
 use Prim.Native.Nat.{ℕ, suc, _-_, _*_, _≤_, _<_}
-use mathlib.Core.Bool.{true, false}
+use mathlib.Core.Bool.{Bool, true, false, _&&_}
 use mathlib.Core.List.{List}
 use mathlib.Core.Path.{_≡_}
+use lib.Dec.{leb}
 use lib.ListN.{length, getD, set}
 use Rattle.definitions.specs.Outcome.{pick}
 use Rattle.definitions.specs.Lists.{table, overwrite, has, position}
@@ -92,6 +93,10 @@ pub record Workspace (n : ℕ) (lows first nexts counts bits : List ℕ) : Type 
   pub countRoom : length first ≤ length counts
   pub noCounts : StartCounts 0 counts
   pub sorted : Buckets counts bits
+
+-- A small network, which is worked on in small arrays.
+unfoldable pub isSmall : ℕ → ℕ → Bool
+isSmall n m = leb n 128 && leb m 384
 
 -- The same, with chains and counts made, and without forest numbers.
 pub record Startable (n : ℕ) (lows highs first nexts counts bits relays places forests : List ℕ) : Type 0 where
