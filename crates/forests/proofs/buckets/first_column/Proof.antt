@@ -1,14 +1,15 @@
 -- Before each turn the columns below g have no bit in their words. Assumes nothing.
-use Prim.Native.Nat.{ℕ, _+_, _-_, _*_, _<_, _≤_}
+use Prim.Native.Nat.{ℕ, _-_, _<_, _≤_}
 use mathlib.Core.Path.{_≡_}
 use native.Mathlib.Omega.{arith}
 use lib.ListN.{getD}
+use Rattle.forests.specs.Buckets.{wordIn}
 use Rattle.forests.proofs.LeadLaws.{none-more}
 use Rattle.forests.proofs.buckets.first_column.Statement.{statement}
 use Rattle.forests.proofs.buckets.first_column.Tie as tie
 
 abbrev Inv-loop : tie.InvT-loop
-Inv-loop columns count bits g₀ g = (g ≤ columns) × ((h : ℕ) → h < g → getD bits (h * 80 + count) 0 ≡ 0)
+Inv-loop columns count bits g₀ g = (g ≤ columns) × ((h : ℕ) → h < g → getD bits (wordIn h count) 0 ≡ 0)
 
 abbrev μ-loop : tie.MeasureT-loop
 μ-loop columns count bits g₀ g = columns - g
