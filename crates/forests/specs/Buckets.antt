@@ -9,20 +9,22 @@ use lib.ListN.{length, getD, set}
 use Rattle.definitions.specs.Outcome.{pick}
 use Rattle.lists.specs.Bitmap.{bitOf, marked}
 
--- A word has a bit for each of the 64 relays of its column, and a column 80 words; 1,000 relays have 16 columns, 128 have 2.
+-- A word has a bit for each relay of its column.
 abbrev pub wordBits : ℕ
 wordBits = 64
 
+-- A column has a word for each count.
 abbrev pub columnWords : ℕ
 columnWords = 80
 
+-- Columns for 1,000 relays, and for 128.
 abbrev pub mostColumns : ℕ
 mostColumns = 16
 
 abbrev pub fewColumns : ℕ
 fewColumns = 2
 
--- No relay waits with more than 76 links to placed ones (proofs/WeightLaws.antt).
+-- The greatest count: no relay waits with more than 76 links to placed ones (proofs/WeightLaws.antt).
 abbrev pub mostCount : ℕ
 mostCount = 77
 

@@ -23,24 +23,26 @@ ghost use Rattle.forests.specs.Buckets.{
   Leads,
 };
 
-// A word has a bit for each of the 64 relays of its column, and a column 80 words; 1,000 relays have 16 columns, 128 have 2.
+// A word has a bit for each relay of its column.
 const WORD_BITS: usize = 64;
 
+// A column has a word for each count.
 const COLUMN_WORDS: usize = 80;
 
+// Columns for 1,000 relays, and for 128.
 const MOST_COLUMNS: usize = 16;
 
 const FEW_COLUMNS: usize = 2;
 
 // No relay waits.
-pub fn no_bits() -> [u64; MOST_COLUMNS * COLUMN_WORDS]
+pub(crate) fn no_bits() -> [u64; MOST_COLUMNS * COLUMN_WORDS]
     ensures { λ r. ⌜ r ≡ replicate (mostColumns * columnWords) 0 ⌝ }
 {
     [0; MOST_COLUMNS * COLUMN_WORDS]
 }
 
 // The same for 128 relays.
-pub fn few_bits() -> [u64; FEW_COLUMNS * COLUMN_WORDS]
+pub(crate) fn few_bits() -> [u64; FEW_COLUMNS * COLUMN_WORDS]
     ensures { λ r. ⌜ r ≡ replicate (fewColumns * columnWords) 0 ⌝ }
 {
     [0; FEW_COLUMNS * COLUMN_WORDS]
@@ -82,7 +84,7 @@ fn enter(r: Relay, counts: &mut [u16], bits: &mut [u64])
 }
 
 // Relays 0 to n − 1 wait for their places.
-pub fn start_counts(n: u16, counts: &mut [u16], bits: &mut [u64])
+pub(crate) fn start_counts(n: u16, counts: &mut [u16], bits: &mut [u64])
     requires { ⌜ (n ≤ length (now counts)) × StartCounts 0 (now counts) × Buckets (now counts) (now bits) ⌝ }
     ensures { λ _. ⌜ StartCounts n (now (counts .exit)) × Buckets (now (counts .exit)) (now (bits .exit)) ⌝ }
 {
@@ -94,7 +96,7 @@ pub fn start_counts(n: u16, counts: &mut [u16], bits: &mut [u64])
 }
 
 // Relay r is placed and waits no more. Gives its count before.
-pub fn leave(r: Relay, counts: &mut [u16], bits: &mut [u64]) -> u16
+pub(crate) fn leave(r: Relay, counts: &mut [u16], bits: &mut [u64]) -> u16
     requires { ⌜ (r .0 < length (now counts)) × Buckets (now counts) (now bits) ⌝ }
     ensures { λ count. ⌜ count ≡ getD (now (counts .entry)) (r .0) 0 ⌝ }
     ensures { λ _. ⌜ Moved (r .0) 0 (now (counts .entry)) (now (counts .exit)) (now (bits .exit)) ⌝ }
@@ -107,7 +109,7 @@ pub fn leave(r: Relay, counts: &mut [u16], bits: &mut [u64]) -> u16
 }
 
 // Relay r has one more link to a placed relay, if it waits. Gives its count before.
-pub fn raise(r: Relay, counts: &mut [u16], bits: &mut [u64]) -> u16
+pub(crate) fn raise(r: Relay, counts: &mut [u16], bits: &mut [u64]) -> u16
     requires { ⌜ (r .0 < length (now counts)) × (getD (now counts) (r .0) 0 < mostCount) × Buckets (now counts) (now bits) ⌝ }
     ensures { λ count. ⌜ count ≡ getD (now (counts .entry)) (r .0) 0 ⌝ }
     ensures { λ count. ⌜ Moved (r .0) (raisedCount count) (now (counts .entry)) (now (counts .exit)) (now (bits .exit)) ⌝ }
@@ -147,7 +149,7 @@ fn lowest_of(g: usize, word: u64) -> Relay
 }
 
 // How many columns n relays have.
-pub fn columns_of(n: u16) -> usize
+pub(crate) fn columns_of(n: u16) -> usize
     ensures { λ r. ⌜ r ≡ columnsFor n ⌝ }
 {
     let size = n as usize;
@@ -155,7 +157,7 @@ pub fn columns_of(n: u16) -> usize
 }
 
 // The lowest of the waiting relays with the greatest count, where all counts are at most `most`.
-pub fn leading(columns: usize, most: u16, bits: &[u64]) -> Relay
+pub(crate) fn leading(columns: usize, most: u16, bits: &[u64]) -> Relay
     requires { ⌜ (most < columnWords) × (columns ≤ mostColumns) × (columns * columnWords ≤ length (now bits)) ⌝ }
     ensures { λ r. ⌜ Leads columns most (now (bits .entry)) (r .0) ⌝ }
 {

@@ -247,7 +247,13 @@ pub fn scan(
 }
 
 // The order and the places alone.
-pub fn place_relays(n: u16, lows: &[u16], highs: &[u16], relays: &mut [u16], places: &mut [u16])
+pub(crate) fn place_relays(
+    n: u16,
+    lows: &[u16],
+    highs: &[u16],
+    relays: &mut [u16],
+    places: &mut [u16],
+)
     requires { ⌜ Accepted n (now lows) (now highs) × (n ≤ length (now relays)) × (n ≤ length (now places)) ⌝ }
     ensures { λ _. ⌜ now (relays .exit) ≡ overwrite (orderOf n (now (lows .entry)) (now (highs .entry))) (now (relays .entry)) ⌝ }
     ensures { λ _. ⌜ now (places .exit)
@@ -263,7 +269,7 @@ pub fn place_relays(n: u16, lows: &[u16], highs: &[u16], relays: &mut [u16], pla
 }
 
 // The forest numbers alone.
-pub fn number_links(n: u16, lows: &[u16], highs: &[u16], forests: &mut [u16])
+pub(crate) fn number_links(n: u16, lows: &[u16], highs: &[u16], forests: &mut [u16])
     requires { ⌜ Accepted n (now lows) (now highs) × (length (now lows) ≤ length (now forests)) ⌝ }
     ensures { λ _. ⌜ now (forests .exit) ≡ overwrite (forestsOf n (now (lows .entry)) (now (highs .entry))) (now (forests .entry)) ⌝ }
 {
