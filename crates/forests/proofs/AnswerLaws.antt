@@ -28,15 +28,6 @@ use Rattle.network.specs.declared.Refusal.{Refusal}
 use Rattle.theory.specs.Accepted.{accepted}
 use Rattle.theory.specs.ForestBound.{forests-length}
 
--- Zeros for 1,000 relays or 3,000 links are enough.
-pub relay-room : (n : ℕ) (lows highs list : List ℕ) → Accepted n lows highs → list ≡ replicate 1000 0 → n ≤ length list
-relay-room n lows highs list ok e =
-    omega (arith, accepted n lows highs ok .few, ap length e ∙ length-replicate {A = ℕ} 1000 0)
-
-pub link-room : (n : ℕ) (lows highs list : List ℕ) → Accepted n lows highs → list ≡ replicate 3000 0 → length lows ≤ length list
-link-room n lows highs list ok e =
-    omega (arith, accepted n lows highs ok .short, ap length e ∙ length-replicate {A = ℕ} 3000 0)
-
 -- After a refusal of the table check the refusal stands, and no list changes.
 pub refusal-stands : (refusal : Refusal) (check : Answer) (next : List ℕ → Answer) → check ≡ refusalOf refusal
     → refusalOf refusal ≡ andThen check next

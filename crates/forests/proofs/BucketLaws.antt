@@ -1,5 +1,5 @@
 -- The laws of the waiting relays by their count: what a change of one count does to the bits. Assumes nothing.
-use Prim.Native.Nat.{ℕ, zero, suc, _+_, _*_, _/_, _%_, _^_, _<_}
+use Prim.Native.Nat.{ℕ, zero, suc, _+_, _*_, _/_, _%_, _^_, _≤_, _<_}
 use mathlib.Core.Bool.{Bool, not}
 use mathlib.Core.List.{List}
 use mathlib.Core.Logic.{_≢_}
@@ -14,68 +14,68 @@ use lib.Seq.{getD-set-same, getD-set-other, set-getD}
 use Rattle.definitions.specs.Outcome.{pick}
 use Rattle.lists.specs.Bitmap.{marked, flip, marked-none, flip-same, flip-other, length-flip, one-bit}
 use Rattle.forests.specs.Counts.{raisedCount, StartCounts}
-use Rattle.forests.specs.Buckets.{wordOf, slotOf, Buckets, Moved}
+use Rattle.forests.specs.Buckets.{wordBits, columnWords, mostCount, bitFor, wordOf, slotOf, HasColumn, Buckets, Moved}
 use Rattle.forests.proofs.CountLaws.{raised-none, raised-some}
 
 -- Each relay has a bit of its own for each count.
-slot-same : (c r d q : ℕ) → c < 80 → d < 80 → slotOf c r ≡ slotOf d q → (c ≡ d) × (r ≡ q)
+slot-same : (c r d q : ℕ) → c < columnWords → d < columnWords → slotOf c r ≡ slotOf d q → (c ≡ d) × (r ≡ q)
 unfolding slotOf wordOf
 slot-same c r d q a b e = omega arith
 
-slot-word : (c r : ℕ) → slotOf c r / 64 ≡ wordOf c r
+slot-word : (c r : ℕ) → slotOf c r / wordBits ≡ wordOf c r
 unfolding slotOf
 slot-word c r = omega arith
 
-slot-bit : (c r : ℕ) → slotOf c r % 64 ≡ r % 64
+slot-bit : (c r : ℕ) → slotOf c r % wordBits ≡ r % wordBits
 unfolding slotOf
 slot-bit c r = omega arith
 
 -- The bit of r, none if it is placed, turned over in the word of count c.
 abbrev turned : List ℕ → ℕ → ℕ → ℕ → List ℕ
-turned bits c r count = set bits (wordOf c r) (bitXor (getD bits (wordOf c r) 0) (pick (eqb count 0) 0 (2 ^ (r % 64))))
+turned bits c r count = set bits (wordOf c r) (bitXor (getD bits (wordOf c r) 0) (bitFor count r))
 
 turned-none : (bits : List ℕ) (c r count : ℕ) → count ≡ 0 → turned bits c r count ≡ bits
 turned-none bits c r count e =
-    ap (λ (b : Bool). set bits (wordOf c r) (bitXor (getD bits (wordOf c r) 0) (pick b 0 (2 ^ (r % 64))))) (eq-eqb count 0 e)
+    ap (λ (b : Bool). set bits (wordOf c r) (bitXor (getD bits (wordOf c r) 0) (pick b 0 (2 ^ (r % wordBits))))) (eq-eqb count 0 e)
     ∙ ap (set bits (wordOf c r)) (xor-zero-r (getD bits (wordOf c r) 0))
     ∙ set-getD bits (wordOf c r) 0
 
 turned-some : (bits : List ℕ) (c r count : ℕ) → 0 < count → turned bits c r count ≡ flip bits (slotOf c r)
 unfolding flip
 turned-some bits c r count h =
-    ap (λ (b : Bool). set bits (wordOf c r) (bitXor (getD bits (wordOf c r) 0) (pick b 0 (2 ^ (r % 64))))) (ne-eqb count 0 (λ e. omega arith))
-    ∙ ap (λ (at : ℕ). set bits at (bitXor (getD bits at 0) (2 ^ (r % 64)))) (sym (slot-word c r))
-    ∙ ap (λ (s : ℕ). set bits (slotOf c r / 64) (bitXor (getD bits (slotOf c r / 64) 0) (2 ^ s))) (sym (slot-bit c r))
+    ap (λ (b : Bool). set bits (wordOf c r) (bitXor (getD bits (wordOf c r) 0) (pick b 0 (2 ^ (r % wordBits))))) (ne-eqb count 0 (λ e. omega arith))
+    ∙ ap (λ (at : ℕ). set bits at (bitXor (getD bits at 0) (2 ^ (r % wordBits)))) (sym (slot-word c r))
+    ∙ ap (λ (s : ℕ). set bits (slotOf c r / wordBits) (bitXor (getD bits (slotOf c r / wordBits) 0) (2 ^ s))) (sym (slot-bit c r))
 
 -- The bit of a relay, as the code makes it.
-pub no-bit-of : (count r : ℕ) → count ≡ 0 → pick (eqb count 0) 0 (2 ^ (r % 64)) ≡ 0
+pub no-bit-of : (count r : ℕ) → count ≡ 0 → bitFor count r ≡ 0
 no-bit-of count r e = rw (eq-eqb count 0 e)
 
-pub bit-of : (count r : ℕ) → (count ≡ 0 → ⊥) → 1 * 2 ^ (r % 64) % 2 ^ 64 ≡ pick (eqb count 0) 0 (2 ^ (r % 64))
+pub bit-of : (count r : ℕ) → (count ≡ 0 → ⊥) → 1 * 2 ^ (r % wordBits) % 2 ^ 64 ≡ bitFor count r
 bit-of count r e = one-bit r ∙ rw (ne-eqb count 0 e)
 
 -- No relay waits.
-pub buckets-none : (words : ℕ) (counts bits : List ℕ) → StartCounts 0 counts → bits ≡ replicate words 0
-    → ((r : ℕ) → r < length counts → wordOf 79 r < words) → Buckets counts bits
+pub buckets-none : (columns : ℕ) (counts bits : List ℕ) → StartCounts 0 counts → bits ≡ replicate (columns * columnWords) 0
+    → length counts ≤ columns * wordBits → Buckets counts bits
 unfolding wordOf
-buckets-none words counts bits start e room =
+buckets-none columns counts bits start e room =
     record {
-      room = λ r h. omega (arith, long, room r h);
+      room = λ r h. omega (arith, long);
       few = λ r. omega (arith, start .rest r (omega arith));
       bit = λ c r some most h.
           ap (λ (l : List ℕ). marked l (slotOf c r)) e
-          ∙ marked-none words (slotOf c r) (omega (arith, long, slot-word c r))
+          ∙ marked-none (columns * columnWords) (slotOf c r) (omega (arith, long, slot-word c r))
           ∙ sym (ap (λ (x : ℕ). eqb x c) (start .rest r (omega arith)) ∙ ne-eqb 0 c (λ z. omega arith));
     }
   where
-    long : length bits ≡ words
-    long = ap length e ∙ length-replicate {A = ℕ} words 0
+    long : length bits ≡ columns * columnWords
+    long = ap length e ∙ length-replicate {A = ℕ} (columns * columnWords) 0
 
 -- The count of r is changed, and its bits with it.
 module _ {counts bits : List ℕ} (r : ℕ) (below : r < length counts) (s : Buckets counts bits) where
-  moved : (count : ℕ) (bits′ : List ℕ) → count < 78 → length bits′ ≡ length bits
-      → ((c q : ℕ) → 0 < c → c < 80 → wordOf 79 q < length bits → q ≢ r → marked bits′ (slotOf c q) ≡ marked bits (slotOf c q))
-      → ((c : ℕ) → 0 < c → c < 80 → marked bits′ (slotOf c r) ≡ eqb count c)
+  moved : (count : ℕ) (bits′ : List ℕ) → count ≤ mostCount → length bits′ ≡ length bits
+      → ((c q : ℕ) → 0 < c → c < columnWords → HasColumn bits q → q ≢ r → marked bits′ (slotOf c q) ≡ marked bits (slotOf c q))
+      → ((c : ℕ) → 0 < c → c < columnWords → marked bits′ (slotOf c r) ≡ eqb count c)
       → Moved r count counts (set counts r count) bits′
   moved count bits′ few long others own =
       record {
@@ -88,48 +88,48 @@ module _ {counts bits : List ℕ} (r : ℕ) (below : r < length counts) (s : Buc
             };
       }
     where
-      fewer : (q : ℕ) → Dec (q ≡ r) → getD (set counts r count) q 0 < 78
+      fewer : (q : ℕ) → Dec (q ≡ r) → getD (set counts r count) q 0 ≤ mostCount
       fewer q (yes e) = rw (e, getD-set-same counts r count 0 below) few
       fewer q (no e) = rw (getD-set-other counts r q count 0 e) (s .few q)
 
-      bit : (c q : ℕ) → 0 < c → c < 80 → wordOf 79 q < length bits → Dec (q ≡ r)
+      bit : (c q : ℕ) → 0 < c → c < columnWords → HasColumn bits q → Dec (q ≡ r)
           → marked bits′ (slotOf c q) ≡ eqb (getD (set counts r count) q 0) c
       bit c q some most h (yes e) = rw (e, getD-set-same counts r count 0 below) (own c some most)
       bit c q some most h (no e) =
           rw (getD-set-other counts r q count 0 e) (others c q some most h e ∙ s .bit c q some most h)
 
   -- One bit of r turned over: no other relay's bit changes, and of its own that of this count alone.
-  flip-others : (bits′ : List ℕ) (k c q : ℕ) → k < 80 → c < 80 → q ≢ r
+  flip-others : (bits′ : List ℕ) (k c q : ℕ) → k < columnWords → c < columnWords → q ≢ r
       → marked (flip bits′ (slotOf k r)) (slotOf c q) ≡ marked bits′ (slotOf c q)
   flip-others bits′ k c q a b e = flip-other bits′ (slotOf k r) (slotOf c q) (λ z. e (slot-same c q k r b a z .1))
 
-  flip-own : (bits′ : List ℕ) (k c : ℕ) → k < 80 → c < 80 → (c ≡ k → ⊥)
+  flip-own : (bits′ : List ℕ) (k c : ℕ) → k < columnWords → c < columnWords → (c ≡ k → ⊥)
       → marked (flip bits′ (slotOf k r)) (slotOf c r) ≡ marked bits′ (slotOf c r)
   flip-own bits′ k c a b e = flip-other bits′ (slotOf k r) (slotOf c r) (λ z. e (slot-same c r k r b a z .0))
 
-  flip-it : (bits′ : List ℕ) (k : ℕ) → k < 80 → length bits′ ≡ length bits
+  flip-it : (bits′ : List ℕ) (k : ℕ) → k < columnWords → length bits′ ≡ length bits
       → marked (flip bits′ (slotOf k r)) (slotOf k r) ≡ not (marked bits′ (slotOf k r))
   unfolding wordOf
   flip-it bits′ k h long = flip-same bits′ (slotOf k r) (omega (arith, slot-word k r, long, s .room r below))
 
-  own-bit : (c : ℕ) → 0 < c → c < 80 → marked bits (slotOf c r) ≡ eqb (getD counts r 0) c
+  own-bit : (c : ℕ) → 0 < c → c < columnWords → marked bits (slotOf c r) ≡ eqb (getD counts r 0) c
   own-bit c some most = s .bit c r some most (s .room r below)
 
   -- Turning a bit over, in the code's terms.
-  turns : (bits′ : List ℕ) (c count at bit : ℕ) → at ≡ wordOf c r → bit ≡ pick (eqb count 0) 0 (2 ^ (r % 64))
+  turns : (bits′ : List ℕ) (c count at bit : ℕ) → at ≡ wordOf c r → bit ≡ bitFor count r
       → set bits′ at (bitXor (getD bits′ at 0) bit) ≡ turned bits′ c r count
   turns bits′ c count at bit a b = ap₂ (λ (i x : ℕ). set bits′ i (bitXor (getD bits′ i 0) x)) a b
 
   -- The bits of r with that of count k turned over, by whether the count is k.
-  module _ (k : ℕ) (some : 0 < k) (most : k < 80) where
+  module _ (k : ℕ) (some : 0 < k) (most : k < columnWords) where
     own-it : marked (flip bits (slotOf k r)) (slotOf k r) ≡ not (eqb (getD counts r 0) k)
     own-it = flip-it bits k most refl ∙ ap not (own-bit k some most)
 
-    own-other : (c : ℕ) → 0 < c → c < 80 → (c ≡ k → ⊥) → marked (flip bits (slotOf k r)) (slotOf c r) ≡ eqb (getD counts r 0) c
+    own-other : (c : ℕ) → 0 < c → c < columnWords → (c ≡ k → ⊥) → marked (flip bits (slotOf k r)) (slotOf c r) ≡ eqb (getD counts r 0) c
     own-other c from to e = flip-own bits k c most to e ∙ own-bit c from to
 
   -- r begins to wait.
-  pub enter-moves : (at bit : ℕ) (bits′ : List ℕ) → getD counts r 0 ≡ 0 → at ≡ wordOf 1 r → bit ≡ pick (eqb 1 0) 0 (2 ^ (r % 64))
+  pub enter-moves : (at bit : ℕ) (bits′ : List ℕ) → getD counts r 0 ≡ 0 → at ≡ wordOf 1 r → bit ≡ bitFor 1 r
       → bits′ ≡ set bits at (bitXor (getD bits at 0) bit) → Moved r 1 counts (set counts r 1) bits′
   enter-moves at bit bits′ none a b t =
       rw (t ∙ turns bits 1 1 at bit a b ∙ turned-some bits 1 r 1 (omega arith))
@@ -137,7 +137,7 @@ module _ {counts bits : List ℕ} (r : ℕ) (below : r < length counts) (s : Buc
       (λ c q some most h e. flip-others bits 1 c q (omega arith) most e)
       (λ c some most. own c some most (ℕ-discrete c 1)))
     where
-      own : (c : ℕ) → 0 < c → c < 80 → Dec (c ≡ 1) → marked (flip bits (slotOf 1 r)) (slotOf c r) ≡ eqb 1 c
+      own : (c : ℕ) → 0 < c → c < columnWords → Dec (c ≡ 1) → marked (flip bits (slotOf 1 r)) (slotOf c r) ≡ eqb 1 c
       own c some most (yes e) =
           rw e (own-it 1 (omega arith) (omega arith) ∙ ap (λ (x : ℕ). not (eqb x 1)) none)
       own c some most (no e) =
@@ -147,7 +147,7 @@ module _ {counts bits : List ℕ} (r : ℕ) (below : r < length counts) (s : Buc
 
   -- r is placed.
   pub leave-moves : (count at bit : ℕ) (bits′ : List ℕ) → count ≡ getD counts r 0 → at ≡ wordOf count r
-      → bit ≡ pick (eqb count 0) 0 (2 ^ (r % 64)) → bits′ ≡ set bits at (bitXor (getD bits at 0) bit)
+      → bit ≡ bitFor count r → bits′ ≡ set bits at (bitXor (getD bits at 0) bit)
       → Moved r 0 counts (set counts r 0) bits′
   leave-moves zero at bit bits′ e a b t =
       rw (t ∙ turns bits 0 0 at bit a b ∙ turned-none bits 0 r 0 refl)
@@ -159,10 +159,10 @@ module _ {counts bits : List ℕ} (r : ℕ) (below : r < length counts) (s : Buc
       (λ c q some most h d. flip-others bits (suc k) c q few most d)
       (λ c some most. own c some most (ℕ-discrete c (suc k))))
     where
-      few : suc k < 80
+      few : suc k < columnWords
       few = omega (arith, e, s .few r)
 
-      own : (c : ℕ) → 0 < c → c < 80 → Dec (c ≡ suc k) → marked (flip bits (slotOf (suc k) r)) (slotOf c r) ≡ eqb 0 c
+      own : (c : ℕ) → 0 < c → c < columnWords → Dec (c ≡ suc k) → marked (flip bits (slotOf (suc k) r)) (slotOf c r) ≡ eqb 0 c
       own c some most (yes d) =
           rw d (own-it (suc k) (omega arith) few ∙ ap not (eq-eqb (getD counts r 0) (suc k) (sym e)))
           ∙ sym (ne-eqb 0 c (λ z. omega arith))
@@ -172,8 +172,8 @@ module _ {counts bits : List ℕ} (r : ℕ) (below : r < length counts) (s : Buc
           ∙ sym (ne-eqb 0 c (λ z. omega arith))
 
   -- r has one more link to a placed relay.
-  pub raise-moves : (count at bit : ℕ) (bits₁ bits₂ : List ℕ) → count ≡ getD counts r 0 → count < 77 → at ≡ wordOf count r
-      → bit ≡ pick (eqb count 0) 0 (2 ^ (r % 64)) → bits₁ ≡ set bits at (bitXor (getD bits at 0) bit)
+  pub raise-moves : (count at bit : ℕ) (bits₁ bits₂ : List ℕ) → count ≡ getD counts r 0 → count < mostCount → at ≡ wordOf count r
+      → bit ≡ bitFor count r → bits₁ ≡ set bits at (bitXor (getD bits at 0) bit)
       → bits₂ ≡ set bits₁ (at + 1) (bitXor (getD bits₁ (at + 1) 0) bit)
       → Moved r (raisedCount count) counts (set counts r (raisedCount count)) bits₂
   unfolding wordOf
@@ -213,7 +213,7 @@ module _ {counts bits : List ℕ} (r : ℕ) (below : r < length counts) (s : Buc
       long : length after ≡ length bits
       long = length-flip before (slotOf (suc k + 1) r) ∙ length-flip bits (slotOf (suc k) r)
 
-      own : (c : ℕ) → 0 < c → c < 80 → Dec (c ≡ suc k + 1) → Dec (c ≡ suc k) → marked after (slotOf c r) ≡ eqb (suc k + 1) c
+      own : (c : ℕ) → 0 < c → c < columnWords → Dec (c ≡ suc k + 1) → Dec (c ≡ suc k) → marked after (slotOf c r) ≡ eqb (suc k + 1) c
       own c some most (yes d) g =
           rw d (
           flip-it before (suc k + 1) (omega arith) (length-flip bits (slotOf (suc k) r))

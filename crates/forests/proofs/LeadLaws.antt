@@ -11,45 +11,45 @@ use lib.ListN.{length, getD}
 use Rattle.lists.specs.Bitmap.{bitOf, marked}
 use Rattle.lists.specs.LowestBit.{no-bit, lowest-bit}
 use Rattle.forests.specs.Counts.{Heaviest}
-use Rattle.forests.specs.Buckets.{wordOf, slotOf, Buckets, FirstColumn, LowestBit, Leads}
+use Rattle.forests.specs.Buckets.{wordBits, columnWords, columnOf, wordIn, wordOf, slotOf, Buckets, FirstColumn, LowestBit, Leads}
 
-pub lowest-relay : (g word : ℕ) → 0 < word → word < 2 ^ 64 → LowestBit g word (g * 64 + trailingZeros 64 word)
+pub lowest-relay : (g word : ℕ) → 0 < word → word < 2 ^ 64 → LowestBit g word (g * wordBits + trailingZeros 64 word)
 lowest-relay g word some few =
     let low = lowest-bit word some few in
-    let s : (g * 64 + trailingZeros 64 word) % 64 ≡ trailingZeros 64 word = omega (arith, low .0) in
+    let s : (g * wordBits + trailingZeros 64 word) % wordBits ≡ trailingZeros 64 word = omega (arith, low .0) in
     record { column = omega (arith, low .0); given = rw s (low .1); lowest = rw s (low .2) }
 
-pub none-more : (count : ℕ) (bits : List ℕ) (g : ℕ) → ((h : ℕ) → h < g → getD bits (h * 80 + count) 0 ≡ 0)
-    → getD bits (g * 80 + count) 0 ≡ 0 → (h : ℕ) → h < g + 1 → getD bits (h * 80 + count) 0 ≡ 0
+pub none-more : (count : ℕ) (bits : List ℕ) (g : ℕ) → ((h : ℕ) → h < g → getD bits (wordIn h count) 0 ≡ 0)
+    → getD bits (wordIn g count) 0 ≡ 0 → (h : ℕ) → h < g + 1 → getD bits (wordIn h count) 0 ≡ 0
 none-more count bits g below here h less = go (ℕ-discrete h g)
   where
-    go : Dec (h ≡ g) → getD bits (h * 80 + count) 0 ≡ 0
+    go : Dec (h ≡ g) → getD bits (wordIn h count) 0 ≡ 0
     go (yes e) = rw e here
     go (no e) = below h (omega arith)
 
 module _ (bits : List ℕ) where
   -- The bit of a relay stands in its column's word.
-  in-word : (count r : ℕ) → marked bits (slotOf count r) ≡ bitOf (getD bits (r / 64 * 80 + count) 0) (r % 64)
+  in-word : (count r : ℕ) → marked bits (slotOf count r) ≡ bitOf (getD bits (wordIn (columnOf r) count) 0) (r % wordBits)
   unfolding marked slotOf wordOf
   in-word count r =
-      let word : ((r / 64 * 80 + count) * 64 + r % 64) / 64 ≡ r / 64 * 80 + count = omega arith in
-      let bit : ((r / 64 * 80 + count) * 64 + r % 64) % 64 ≡ r % 64 = omega arith in
+      let word : slotOf count r / wordBits ≡ wordOf count r = omega arith in
+      let bit : slotOf count r % wordBits ≡ r % wordBits = omega arith in
       rw (word, bit)
 
-  in-zero : (count r : ℕ) → getD bits (r / 64 * 80 + count) 0 ≡ 0 → marked bits (slotOf count r) ≡ false
-  in-zero count r e = in-word count r ∙ ap (λ (x : ℕ). bitOf x (r % 64)) e ∙ no-bit (r % 64)
+  in-zero : (count r : ℕ) → getD bits (wordIn (columnOf r) count) 0 ≡ 0 → marked bits (slotOf count r) ≡ false
+  in-zero count r e = in-word count r ∙ ap (λ (x : ℕ). bitOf x (r % wordBits)) e ∙ no-bit (r % wordBits)
 
   -- No word of these counts has a bit.
   abbrev pub NoneAbove : ℕ → ℕ → ℕ → Type 0
   NoneAbove columns most count =
-      (c r : ℕ) → count < c → c ≤ most → r / 64 < columns → marked bits (slotOf c r) ≡ false
+      (c r : ℕ) → count < c → c ≤ most → columnOf r < columns → marked bits (slotOf c r) ≡ false
 
   pub none-above : {columns most : ℕ} (count g : ℕ) → 0 < count → NoneAbove columns most count → FirstColumn columns count bits g
       → columns ≤ g → NoneAbove columns most (count - 1)
   none-above {columns} {most} count g some above first end c r more within column = go (ℕ-discrete c count)
     where
       go : Dec (c ≡ count) → marked bits (slotOf c r) ≡ false
-      go (yes e) = rw e (in-zero count r (first .none (r / 64) (omega arith)))
+      go (yes e) = rw e (in-zero count r (first .none (columnOf r) (omega arith)))
       go (no e) = above c r (omega arith) within column
 
   -- Where no bit is set, any relay leads.
@@ -58,7 +58,7 @@ module _ (bits : List ℕ) where
 
   -- The first bit in the word of this count, where no bit stands above it.
   pub first-leads : {columns most : ℕ} (count g word x : ℕ) → 0 < count → count ≤ most → NoneAbove columns most count
-      → FirstColumn columns count bits g → g < columns → word ≡ getD bits (g * 80 + count) 0 → LowestBit g word x
+      → FirstColumn columns count bits g → g < columns → word ≡ getD bits (wordIn g count) 0 → LowestBit g word x
       → Leads columns most bits x
   first-leads {columns} {most} count g word x some within above first less e low =
       record {
@@ -73,13 +73,13 @@ module _ (bits : List ℕ) where
             );
       }
     where
-      at-x : getD bits (x / 64 * 80 + count) 0 ≡ word
-      at-x = ap (λ (h : ℕ). getD bits (h * 80 + count) 0) (low .column) ∙ sym e
+      at-x : getD bits (wordIn (columnOf x) count) 0 ≡ word
+      at-x = ap (λ (h : ℕ). getD bits (wordIn h count) 0) (low .column) ∙ sym e
 
       own : marked bits (slotOf count x) ≡ true
-      own = in-word count x ∙ ap (λ (w : ℕ). bitOf w (x % 64)) at-x ∙ low .given
+      own = in-word count x ∙ ap (λ (w : ℕ). bitOf w (x % wordBits)) at-x ∙ low .given
 
-      no-higher : (c r : ℕ) → c ≤ most → r / 64 < columns → marked bits (slotOf c r) ≡ true → c ≤ count
+      no-higher : (c r : ℕ) → c ≤ most → columnOf r < columns → marked bits (slotOf c r) ≡ true → c ≤ count
       no-higher c r to column set = go (decLe c count)
         where
           go : Dec (c ≤ count) → c ≤ count
@@ -89,34 +89,34 @@ module _ (bits : List ℕ) where
       lowest : (r : ℕ) → marked bits (slotOf count r) ≡ true → x ≤ r
       lowest r set = go (decLe x r)
         where
-          at-r : r / 64 ≡ g → bitOf word (r % 64) ≡ true
+          at-r : columnOf r ≡ g → bitOf word (r % wordBits) ≡ true
           at-r same =
-              ap (λ (w : ℕ). bitOf w (r % 64)) (e ∙ ap (λ (h : ℕ). getD bits (h * 80 + count) 0) (sym same))
+              ap (λ (w : ℕ). bitOf w (r % wordBits)) (e ∙ ap (λ (h : ℕ). getD bits (wordIn h count) 0) (sym same))
               ∙ sym (in-word count r)
               ∙ set
 
-          here : r < x → Dec (r / 64 < g) → ⊥
-          here h (yes p) = true≢false (sym set ∙ in-zero count r (first .none (r / 64) p))
+          here : r < x → Dec (columnOf r < g) → ⊥
+          here h (yes p) = true≢false (sym set ∙ in-zero count r (first .none (columnOf r) p))
           here h (no p) =
-              let same : r / 64 ≡ g = omega (arith, low .column) in
-              true≢false (sym (at-r same) ∙ low .lowest (r % 64) (omega (arith, low .column, same)))
+              let same : columnOf r ≡ g = omega (arith, low .column) in
+              true≢false (sym (at-r same) ∙ low .lowest (r % wordBits) (omega (arith, low .column, same)))
 
           go : Dec (x ≤ r) → x ≤ r
           go (yes p) = p
-          go (no p) = absurd (here (omega arith) (decLt (r / 64) g))
+          go (no p) = absurd (here (omega arith) (decLt (columnOf r) g))
 
 -- The relay that leads has the greatest count, and is the lowest with it.
 pub leads-heaviest : {counts bits : List ℕ} (columns most x some : ℕ) → Buckets counts bits → Leads columns most bits x
-    → most < 80 → columns * 80 ≤ length bits → ((r : ℕ) → columns * 64 ≤ r → getD counts r 0 ≡ 0)
+    → most < columnWords → columns * columnWords ≤ length bits → ((r : ℕ) → columns * wordBits ≤ r → getD counts r 0 ≡ 0)
     → ((r : ℕ) → getD counts r 0 ≤ most) → 0 < getD counts some 0 → Heaviest counts x
 unfolding wordOf
 leads-heaviest {counts} {bits} columns most x some s l few room rest top waits =
     record { most = λ r. above r (decLt 0 (getD counts r 0)); lowest = λ r e. low r e (decLt 0 (getD counts r 0)) }
   where
-    column : (r : ℕ) → 0 < getD counts r 0 → r / 64 < columns
-    column r h = go (decLt (r / 64) columns)
+    column : (r : ℕ) → 0 < getD counts r 0 → columnOf r < columns
+    column r h = go (decLt (columnOf r) columns)
       where
-        go : Dec (r / 64 < columns) → r / 64 < columns
+        go : Dec (columnOf r < columns) → columnOf r < columns
         go (yes p) = p
         go (no p) = absurd (omega (arith, rest r (omega arith)))
 

@@ -11,6 +11,7 @@ pub mod StepLaws
 pub mod FinishLaws
 pub mod WeightLaws
 pub mod ClearLaws
+pub mod SizeLaws
 pub mod ScanLaws
 pub mod LeftLaws
 pub mod AnswerLaws

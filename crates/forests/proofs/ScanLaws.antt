@@ -18,7 +18,7 @@ use Rattle.theory.specs.Accepted.{ProperTable, accepted}
 use Rattle.theory.specs.Links.{joined-linked}
 use Rattle.forests.specs.Chains.{touches, Chainable}
 use Rattle.forests.specs.Counts.{raisedCount, Heaviest}
-use Rattle.forests.specs.Buckets.{wordOf, Buckets, Leads}
+use Rattle.forests.specs.Buckets.{wordBits, columnWords, mostColumns, mostCount, columnsFor, Buckets, Leads}
 use Rattle.forests.specs.Walk.{farEnd, Walked}
 use Rattle.forests.specs.Scan.{placed, following, Placeable, PlacedOne, CountsAt, ScannedTo, Workspace, Startable, Scanned}
 use Rattle.forests.proofs.CountLaws.{raised-most, start-none}
@@ -42,7 +42,7 @@ use Rattle.forests.proofs.FinishLaws.{places-finish, forests-finish}
 
 -- What placing one relay did, in the code's terms.
 pub placed-one : {n v : ℕ} {lows highs counts counts′ bits′ relays relays′ places places′ forests forests′ : List ℕ} {count : ℕ} (x : ℕ)
-    → following n lows highs (v - 1) ≡ x → Heaviest counts x → getD counts x 0 < 78
+    → following n lows highs (v - 1) ≡ x → Heaviest counts x → getD counts x 0 ≤ mostCount
     → relays′ ≡ set relays (v - 1) x → places′ ≡ set places x v
     → (count ≡ getD counts x 0) × Walked x lows highs counts counts′ forests forests′ × Buckets counts′ bits′
     → PlacedOne n v lows highs counts counts′ bits′ relays relays′ places places′ forests forests′ (count + 1)
@@ -68,13 +68,12 @@ placed-one {n} {v} {lows} {highs} {counts} {counts′} {count = count} x e h few
 
 -- The columns of n relays have room, and the relay that leads in them is the next one.
 module _ {n v most : ℕ} {lows highs first nexts counts bits relays places forests : List ℕ}
-    (p : Placeable n v most lows highs first nexts counts bits relays places forests) (columns : ℕ) (e : columns ≡ (n + 63) / 64)
+    (p : Placeable n v most lows highs first nexts counts bits relays places forests) (columns : ℕ) (e : columns ≡ columnsFor n)
   where
     within : v - 1 < n
     within = omega (arith, p .some, p .within)
 
-    pub columns-room : (columns ≤ 16) × (columns * 80 ≤ length bits)
-    unfolding wordOf
+    pub columns-room : (columns ≤ mostColumns) × (columns * columnWords ≤ length bits)
     columns-room = omega (arith, e, p .few, within, p .walkable .sorted .room (n - 1) (omega (arith, within, p .countsAt .room)))
 
     pub leads-most : {x : ℕ} → Leads columns most bits x → Heaviest counts x
@@ -103,13 +102,13 @@ wide h few t =
     }
 
 -- Arrays of enough relays and links.
-pub workspace : (size halves words n : ℕ) {lows first nexts counts bits : List ℕ} → n ≤ size → size ≤ 1000 → 2 * length lows ≤ halves
-    → ((r : ℕ) → r < size → wordOf 79 r < words)
-    → first ≡ replicate size (2 * length lows) → nexts ≡ replicate halves 0 → counts ≡ replicate size 0 → bits ≡ replicate words 0
+pub workspace : (size halves columns n : ℕ) {lows first nexts counts bits : List ℕ} → n ≤ size → size ≤ 1000 → 2 * length lows ≤ halves
+    → size ≤ columns * wordBits → first ≡ replicate size (2 * length lows) → nexts ≡ replicate halves 0
+    → counts ≡ replicate size 0 → bits ≡ replicate (columns * columnWords) 0
     → Workspace n lows first nexts counts bits
-workspace size halves words n {lows} {first} {nexts} {counts} {bits} heads few room columns f h c b =
+workspace size halves columns n {lows} {first} {nexts} {counts} {bits} heads few room wide f h c b =
     let long : length first ≡ size = ap length f ∙ length-replicate size (2 * length lows) in
-    let wide : length counts ≡ size = ap length c ∙ length-replicate {A = ℕ} size 0 in
+    let counted : length counts ≡ size = ap length c ∙ length-replicate {A = ℕ} size 0 in
     let start = start-none size counts c in
     record {
       heads = omega arith;
@@ -118,7 +117,7 @@ workspace size halves words n {lows} {first} {nexts} {counts} {bits} heads few r
       nextRoom = omega (arith, ap length h, length-replicate {A = ℕ} halves 0);
       countRoom = omega arith;
       noCounts = start;
-      sorted = buckets-none words counts bits start b (λ r p. columns r (omega arith));
+      sorted = buckets-none columns counts bits start b (omega arith);
     }
 
 -- Chains can be made of an accepted table.
@@ -138,7 +137,7 @@ chain-ready {n} {lows} {highs} ok w =
 -- A relay with one more link to a placed relay waits with at most 76 of them.
 counts-few : {n : ℕ} {lows highs counts : List ℕ} (k : ℕ) → Accepted n lows highs → k < n → CountsAt n lows highs k counts
     → (j : ℕ) → j < length lows → touches lows highs (following n lows highs k) j ≡ true
-    → getD (set counts (following n lows highs k) 0) (farEnd lows highs (following n lows highs k) j) 0 < 77
+    → getD (set counts (following n lows highs k) 0) (farEnd lows highs (following n lows highs k) j) 0 < mostCount
 counts-few {n} {lows} {highs} {counts} k ok within at j h touch =
     go (ℕ-discrete y x) (has (placed n lows highs k) y) refl
   where
@@ -157,7 +156,7 @@ counts-few {n} {lows} {highs} {counts} k ok within at j h touch =
     link : linked lows highs x y ≡ true
     link = joined-linked lows highs x y j h (joins-far lows highs x y j touch (t .ordered j h) ∙ eq-eqb y y refl)
 
-    go : Dec (y ≡ x) → (b : Bool) → has (placed n lows highs k) y ≡ b → getD (set counts x 0) y 0 < 77
+    go : Dec (y ≡ x) → (b : Bool) → has (placed n lows highs k) y ≡ b → getD (set counts x 0) y 0 < mostCount
     go (yes e) b p =
         rw (e, getD-set-same counts x 0 0 (omega (arith, following-new n lows highs k within .0, at .room))) (omega arith)
     go (no e) true p = rw (getD-set-other counts x y 0 0 e) (omega (arith, count-placed at y below p))
@@ -204,7 +203,7 @@ module _ {n : ℕ} {lows highs first nexts counts bits relays places forests : L
     module _ {counts′ relays′ places′ forests′ : List ℕ} (k : ℕ) (within : k < n)
         (at : ScannedTo n lows highs k counts′ relays relays′ places places′ forests forests′)
       where
-        pub scan-places : {bits′ : List ℕ} (most : ℕ) → Buckets counts′ bits′ → ((r : ℕ) → getD counts′ r 0 ≤ most) → most < 80
+        pub scan-places : {bits′ : List ℕ} (most : ℕ) → Buckets counts′ bits′ → ((r : ℕ) → getD counts′ r 0 ≤ most) → most < columnWords
             → length first ≤ length counts′
             → Placeable n (k + 1) most lows highs first nexts counts′ bits′ relays′ places′ forests′
         scan-places most sorted bounded few room =

@@ -21,6 +21,7 @@ use Rattle.theory.specs.Ordering.{placed-front, placed-at, order-length, order-
 use Rattle.theory.specs.Left.{earlier-in, left-count}
 use Rattle.theory.specs.Arranged.{base-arranged}
 use Rattle.theory.specs.ForestDepth.{table-depth}
+use Rattle.forests.specs.Buckets.{mostCount}
 use Rattle.forests.specs.Scan.{placed, following}
 use Rattle.forests.proofs.OrderLaws.{placed-earlier}
 
@@ -85,10 +86,10 @@ weight-bound n lows highs ok k r below waits = by-cases (decLt 0 c) some none
 
 -- 77 × 78 is more than twice 3,000.
 pub weight-few : (n : ℕ) (lows highs : List ℕ) → Accepted n lows highs → (k r : ℕ) → r < n
-    → has (placed n lows highs k) r ≡ false → weight (linked lows highs) (placed n lows highs k) r ≤ 76
+    → has (placed n lows highs k) r ≡ false → weight (linked lows highs) (placed n lows highs k) r < mostCount
 weight-few n lows highs ok k r below waits =
     let c = weight (linked lows highs) (placed n lows highs k) r in
-    let light : ¬ (77 ≤ c) = λ heavy.
-    let product : 77 * 78 ≤ c * suc c = mul-le-mul {n₁ = 77} {m₁ = 78} heavy (omega arith) in
+    let light : ¬ (mostCount ≤ c) = λ heavy.
+    let product : mostCount * suc mostCount ≤ c * suc c = mul-le-mul {n₁ = mostCount} {m₁ = suc mostCount} heavy (omega arith) in
     omega (arith, product, weight-bound n lows highs ok k r below waits, accepted n lows highs ok .short) in
     omega arith

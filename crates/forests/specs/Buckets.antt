@@ -1,26 +1,64 @@
--- The waiting relays by their count, as bits: each 64 relays have a column of 80 words, one for each count, and a relay's bit is
--- set in the word of its count alone. A count is at most 77, since no relay waits with more than 76 links to placed ones
--- (proofs/WeightLaws.antt), and the search for the greatest begins one above the last. Assumes nothing.
-use Prim.Native.Nat.{ℕ, _+_, _*_, _/_, _%_, _≤_, _<_}
+-- The waiting relays by their count, as bits: relays have columns of words, one word for each count, and a relay's bit is set in
+-- the word of its count alone. The search for the greatest count begins one above the last. Assumes nothing.
+use Prim.Native.Nat.{ℕ, _+_, _-_, _*_, _/_, _%_, _^_, _≤_, _<_}
 use mathlib.Core.Bool.{true, false}
 use mathlib.Core.List.{List}
 use mathlib.Core.Path.{_≡_}
 use lib.Dec.{eqb}
 use lib.ListN.{length, getD, set}
+use Rattle.definitions.specs.Outcome.{pick}
 use Rattle.lists.specs.Bitmap.{bitOf, marked}
+
+-- A word has a bit for each relay of its column.
+abbrev pub wordBits : ℕ
+wordBits = 64
+
+-- A column has a word for each count.
+abbrev pub columnWords : ℕ
+columnWords = 80
+
+-- Columns for 1,000 relays, and for 128.
+abbrev pub mostColumns : ℕ
+mostColumns = 16
+
+abbrev pub fewColumns : ℕ
+fewColumns = 2
+
+-- The greatest count: no relay waits with more than 76 links to placed ones (proofs/WeightLaws.antt).
+abbrev pub mostCount : ℕ
+mostCount = 77
+
+-- The column of a relay, and the word of a count in a column.
+abbrev pub columnOf : ℕ → ℕ
+columnOf r = r / wordBits
+
+abbrev pub wordIn : ℕ → ℕ → ℕ
+wordIn g count = g * columnWords + count
+
+-- The bit of a relay in a word; none of a placed relay, whose count is 0.
+abbrev pub bitFor : ℕ → ℕ → ℕ
+bitFor count r = pick (eqb count 0) 0 (2 ^ (r % wordBits))
+
+-- How many columns n relays have.
+abbrev pub columnsFor : ℕ → ℕ
+columnsFor n = (n + wordBits - 1) / wordBits
 
 -- The word of a count in the column of relay r, and the bit of r in it among all bits.
 unfoldable pub wordOf : ℕ → ℕ → ℕ
-wordOf count r = r / 64 * 80 + count
+wordOf count r = wordIn (columnOf r) count
 
 unfoldable pub slotOf : ℕ → ℕ → ℕ
-slotOf count r = wordOf count r * 64 + r % 64
+slotOf count r = wordOf count r * wordBits + r % wordBits
 
--- A relay's bit is set in the word of its count alone, and counts are below 78.
+-- All words of the column of relay r are there.
+abbrev pub HasColumn : List ℕ → ℕ → Type 0
+HasColumn bits r = wordIn (columnOf r + 1) 0 ≤ length bits
+
+-- A relay's bit is set in the word of its count alone.
 pub record Buckets (counts bits : List ℕ) : Type 0 where
-  pub room : (r : ℕ) → r < length counts → wordOf 79 r < length bits
-  pub few : (r : ℕ) → getD counts r 0 < 78
-  pub bit : (count r : ℕ) → 0 < count → count < 80 → wordOf 79 r < length bits
+  pub room : (r : ℕ) → r < length counts → HasColumn bits r
+  pub few : (r : ℕ) → getD counts r 0 ≤ mostCount
+  pub bit : (count r : ℕ) → 0 < count → count < columnWords → HasColumn bits r
       → marked bits (slotOf count r) ≡ eqb (getD counts r 0) count
 
 -- What a change of one relay's count does.
@@ -31,22 +69,22 @@ pub record Moved (r count : ℕ) (counts counts′ bits′ : List ℕ) : Type 0 
 -- Of so many columns the first with a bit in the word of this count; their number if there is none.
 pub record FirstColumn (columns count : ℕ) (bits : List ℕ) (g : ℕ) : Type 0 where
   pub within : g ≤ columns
-  pub none : (h : ℕ) → h < g → getD bits (h * 80 + count) 0 ≡ 0
-  pub some : g < columns → 0 < getD bits (g * 80 + count) 0
+  pub none : (h : ℕ) → h < g → getD bits (wordIn h count) 0 ≡ 0
+  pub some : g < columns → 0 < getD bits (wordIn g count) 0
 
 -- Relay r of column g has the lowest bit of this word.
 pub record LowestBit (g word r : ℕ) : Type 0 where
-  pub column : r / 64 ≡ g
-  pub given : bitOf word (r % 64) ≡ true
-  pub lowest : (s : ℕ) → s < r % 64 → bitOf word s ≡ false
+  pub column : columnOf r ≡ g
+  pub given : bitOf word (r % wordBits) ≡ true
+  pub lowest : (s : ℕ) → s < r % wordBits → bitOf word s ≡ false
 
 -- Of all bits of so many columns, in the words of counts up to `most`, relay x has one with the greatest count, and of
 -- those with this count it is the lowest relay. Nothing is said of x where no bit is set.
 pub record Leads (columns most : ℕ) (bits : List ℕ) (x : ℕ) : Type 0 where
-  pub leads : (count r : ℕ) → 0 < count → count ≤ most → r / 64 < columns → marked bits (slotOf count r) ≡ true
+  pub leads : (count r : ℕ) → 0 < count → count ≤ most → columnOf r < columns → marked bits (slotOf count r) ≡ true
       → (top : ℕ)
       × (count ≤ top)
       × (top ≤ most)
-      × (x / 64 < columns)
+      × (columnOf x < columns)
       × (marked bits (slotOf top x) ≡ true)
       × (top ≡ count → x ≤ r)

@@ -1,8 +1,9 @@
 -- What the scan promises: order, places and forest numbers of an accepted table; and its steps. Assumes nothing.
 use Prim.Native.Nat.{ℕ, suc, _-_, _*_, _≤_, _<_}
-use mathlib.Core.Bool.{true, false}
+use mathlib.Core.Bool.{Bool, true, false, _&&_}
 use mathlib.Core.List.{List}
 use mathlib.Core.Path.{_≡_}
+use lib.Dec.{leb}
 use lib.ListN.{length, getD, set}
 use Rattle.definitions.specs.Outcome.{pick}
 use Rattle.definitions.specs.Lists.{table, overwrite, has, position}
@@ -11,7 +12,7 @@ use Rattle.definitions.specs.Order.{weight, nextRelay, placedAfter, allRelays, 
 use Rattle.definitions.specs.Forests.{forestsOf}
 use Rattle.forests.specs.Chains.{ChainedFrom}
 use Rattle.forests.specs.Counts.{StartCounts}
-use Rattle.forests.specs.Buckets.{Buckets}
+use Rattle.forests.specs.Buckets.{columnWords, Buckets}
 use Rattle.forests.specs.Walk.{Walkable, Walked}
 
 -- The first k relays of the order, and the one that comes after them.
@@ -37,7 +38,7 @@ pub record Placeable (n v most : ℕ) (lows highs first nexts counts bits relays
   pub placeRoom : n ≤ length places
   pub countsAt : CountsAt n lows highs (v - 1) counts
   pub bounded : (r : ℕ) → getD counts r 0 ≤ most
-  pub mostFew : most < 80
+  pub mostFew : most < columnWords
   pub walkable : Walkable (following n lows highs (v - 1)) lows highs first nexts counts bits forests
 
 -- What it does; most′ is a bound for the counts afterwards.
@@ -49,7 +50,7 @@ pub record PlacedOne (n v : ℕ) (lows highs counts counts′ bits′ relays rel
     pub walked : Walked (following n lows highs (v - 1)) lows highs counts counts′ forests forests′
     pub sorted : Buckets counts′ bits′
     pub bounded : (r : ℕ) → getD counts′ r 0 ≤ most′
-    pub mostFew : most′ < 80
+    pub mostFew : most′ < columnWords
 
 -- The places when k relays are placed.
 pub record PlacesAt (n : ℕ) (lows highs : List ℕ) (k : ℕ) (places places′ : List ℕ) : Type 0 where
@@ -92,6 +93,10 @@ pub record Workspace (n : ℕ) (lows first nexts counts bits : List ℕ) : Type 
   pub countRoom : length first ≤ length counts
   pub noCounts : StartCounts 0 counts
   pub sorted : Buckets counts bits
+
+-- A small network, which is worked on in small arrays.
+unfoldable pub isSmall : ℕ → ℕ → Bool
+isSmall n m = leb n 128 && leb m 384
 
 -- The same, with chains and counts made, and without forest numbers.
 pub record Startable (n : ℕ) (lows highs first nexts counts bits relays places forests : List ℕ) : Type 0 where

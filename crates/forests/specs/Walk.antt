@@ -12,7 +12,7 @@ use Rattle.definitions.specs.Network.{joins}
 use Rattle.theory.specs.Accepted.{ProperTable}
 use Rattle.forests.specs.Chains.{touches, ChainedFrom}
 use Rattle.forests.specs.Counts.{raisedCount, numberOf}
-use Rattle.forests.specs.Buckets.{Buckets}
+use Rattle.forests.specs.Buckets.{mostCount, Buckets}
 
 -- The end of a link that is not x.
 unfoldable pub otherEnd : ℕ → ℕ → ℕ → ℕ
@@ -39,7 +39,7 @@ pub record Visitable (h : ℕ) (lows highs nexts counts bits forests : List ℕ)
   pub nextRoom : 2 * length lows ≤ length nexts
   pub far : across lows highs h < length counts
   pub sorted : Buckets counts bits
-  pub bound : getD counts (across lows highs h) 0 < 77
+  pub bound : getD counts (across lows highs h) 0 < mostCount
   pub fresh : 0 < getD counts (across lows highs h) 0 → getD forests (h / 2) 0 ≡ 0
 
 -- What a visit does.
@@ -67,7 +67,7 @@ pub record Walkable (x : ℕ) (lows highs first nexts counts bits forests : List
   pub countRoom : length first ≤ length counts
   pub room : length lows ≤ length forests
   pub sorted : Buckets counts bits
-  pub bound : (j : ℕ) → j < length lows → touches lows highs x j ≡ true → getD (set counts x 0) (farEnd lows highs x j) 0 < 77
+  pub bound : (j : ℕ) → j < length lows → touches lows highs x j ≡ true → getD (set counts x 0) (farEnd lows highs x j) 0 < mostCount
   pub fresh : (j : ℕ) → j < length lows → touches lows highs x j ≡ true → 0 < getD (set counts x 0) (farEnd lows highs x j) 0
       → getD forests j 0 ≡ 0
 

@@ -1,44 +1,66 @@
-// The waiting relays by their count, as bits: each 64 relays have a column of 80 words, one for each count, and a relay's bit
-// is set in the word of its count alone. So the next relay is the lowest bit of the highest word that is not 0. No relay waits
-// with more than 76 links to placed ones, since there are at most 3,000 links.
+// The waiting relays by their count, as bits: relays have columns of words, one word for each count, and a relay's bit is set in
+// the word of its count alone. So the next relay is the lowest bit of the highest word that is not 0. No relay waits with more
+// than 76 links to placed ones, since there are at most 3,000 links.
 use crate::counts::raised;
 use network::Relay;
-ghost use Prim.Native.Nat.{_+_, _*_, _/_, _%_, _^_, _<_, _≤_};
+ghost use Prim.Native.Nat.{_*_, _<_, _≤_};
 ghost use mathlib.Core.Path.{_≡_};
 ghost use lib.Bits.{bitXor};
-ghost use lib.Dec.{eqb};
 ghost use lib.ListN.{length, getD, set, replicate};
-ghost use Rattle.definitions.specs.Outcome.{pick};
 ghost use Rattle.forests.specs.Counts.{raisedCount, StartCounts};
-ghost use Rattle.forests.specs.Buckets.{wordOf, Buckets, Moved, FirstColumn, LowestBit, Leads};
+ghost use Rattle.forests.specs.Buckets.{
+  columnWords,
+  mostColumns,
+  fewColumns,
+  mostCount,
+  columnsFor,
+  bitFor,
+  wordOf,
+  Buckets,
+  Moved,
+  FirstColumn,
+  LowestBit,
+  Leads,
+};
 
-// No relay waits: columns for 1,024 relays.
-pub fn no_bits() -> [u64; 1280]
-    ensures { λ r. ⌜ r ≡ replicate 1280 0 ⌝ }
+// A word has a bit for each relay of its column.
+const WORD_BITS: usize = 64;
+
+// A column has a word for each count.
+const COLUMN_WORDS: usize = 80;
+
+// Columns for 1,000 relays, and for 128.
+const MOST_COLUMNS: usize = 16;
+
+const FEW_COLUMNS: usize = 2;
+
+// No relay waits.
+pub(crate) fn no_bits() -> [u64; MOST_COLUMNS * COLUMN_WORDS]
+    ensures { λ r. ⌜ r ≡ replicate (mostColumns * columnWords) 0 ⌝ }
 {
-    [0; 1280]
+    [0; MOST_COLUMNS * COLUMN_WORDS]
 }
 
 // The same for 128 relays.
-pub fn few_bits() -> [u64; 160]
-    ensures { λ r. ⌜ r ≡ replicate 160 0 ⌝ }
+pub(crate) fn few_bits() -> [u64; FEW_COLUMNS * COLUMN_WORDS]
+    ensures { λ r. ⌜ r ≡ replicate (fewColumns * columnWords) 0 ⌝ }
 {
-    [0; 160]
+    [0; FEW_COLUMNS * COLUMN_WORDS]
 }
 
 // The word of a count in the column of a relay.
 fn word_of(count: u16, r: Relay) -> usize
     ensures { λ at. ⌜ at ≡ wordOf count (r .0) ⌝ }
 {
-    let column = r.0 as usize / 64;
-    column * 80 + count as usize
+    let column = r.0 as usize / WORD_BITS;
+    column * COLUMN_WORDS + count as usize
 }
 
 // The bit of a relay in its words; none of a placed relay, whose count is 0.
 fn bit_of(count: u16, r: Relay) -> u64
-    ensures { λ bit. ⌜ bit ≡ pick (eqb count 0) 0 (2 ^ (r .0 % 64)) ⌝ }
+    ensures { λ bit. ⌜ bit ≡ bitFor count (r .0) ⌝ }
 {
-    let shift = r.0 % 64;
+    let shift = r.0 as usize % WORD_BITS;
     if count == 0 { 0 } else { 1u64 << shift }
 }
 
@@ -62,7 +84,7 @@ fn enter(r: Relay, counts: &mut [u16], bits: &mut [u64])
 }
 
 // Relays 0 to n − 1 wait for their places.
-pub fn start_counts(n: u16, counts: &mut [u16], bits: &mut [u64])
+pub(crate) fn start_counts(n: u16, counts: &mut [u16], bits: &mut [u64])
     requires { ⌜ (n ≤ length (now counts)) × StartCounts 0 (now counts) × Buckets (now counts) (now bits) ⌝ }
     ensures { λ _. ⌜ StartCounts n (now (counts .exit)) × Buckets (now (counts .exit)) (now (bits .exit)) ⌝ }
 {
@@ -74,7 +96,7 @@ pub fn start_counts(n: u16, counts: &mut [u16], bits: &mut [u64])
 }
 
 // Relay r is placed and waits no more. Gives its count before.
-pub fn leave(r: Relay, counts: &mut [u16], bits: &mut [u64]) -> u16
+pub(crate) fn leave(r: Relay, counts: &mut [u16], bits: &mut [u64]) -> u16
     requires { ⌜ (r .0 < length (now counts)) × Buckets (now counts) (now bits) ⌝ }
     ensures { λ count. ⌜ count ≡ getD (now (counts .entry)) (r .0) 0 ⌝ }
     ensures { λ _. ⌜ Moved (r .0) 0 (now (counts .entry)) (now (counts .exit)) (now (bits .exit)) ⌝ }
@@ -87,8 +109,8 @@ pub fn leave(r: Relay, counts: &mut [u16], bits: &mut [u64]) -> u16
 }
 
 // Relay r has one more link to a placed relay, if it waits. Gives its count before.
-pub fn raise(r: Relay, counts: &mut [u16], bits: &mut [u64]) -> u16
-    requires { ⌜ (r .0 < length (now counts)) × (getD (now counts) (r .0) 0 < 77) × Buckets (now counts) (now bits) ⌝ }
+pub(crate) fn raise(r: Relay, counts: &mut [u16], bits: &mut [u64]) -> u16
+    requires { ⌜ (r .0 < length (now counts)) × (getD (now counts) (r .0) 0 < mostCount) × Buckets (now counts) (now bits) ⌝ }
     ensures { λ count. ⌜ count ≡ getD (now (counts .entry)) (r .0) 0 ⌝ }
     ensures { λ count. ⌜ Moved (r .0) (raisedCount count) (now (counts .entry)) (now (counts .exit)) (now (bits .exit)) ⌝ }
 {
@@ -104,12 +126,12 @@ pub fn raise(r: Relay, counts: &mut [u16], bits: &mut [u64]) -> u16
 
 // Of so many columns the first with a bit in the word of this count; their number if there is none.
 fn first_column(columns: usize, count: usize, bits: &[u64]) -> usize
-    requires { ⌜ (count < 80) × (columns ≤ 16) × (columns * 80 ≤ length (now bits)) ⌝ }
+    requires { ⌜ (count < columnWords) × (columns ≤ mostColumns) × (columns * columnWords ≤ length (now bits)) ⌝ }
     ensures { λ g. ⌜ FirstColumn columns count (now (bits .entry)) g ⌝ }
 {
     let mut g = 0;
     while g < columns {
-        if bits[g * 80 + count] != 0 {
+        if bits[g * COLUMN_WORDS + count] != 0 {
             return g;
         }
         g += 1;
@@ -119,31 +141,31 @@ fn first_column(columns: usize, count: usize, bits: &[u64]) -> usize
 
 // The relay of the lowest bit of a word in column g.
 fn lowest_of(g: usize, word: u64) -> Relay
-    requires { ⌜ (g < 16) × (0 < word) ⌝ }
+    requires { ⌜ (g < mostColumns) × (0 < word) ⌝ }
     ensures { λ r. ⌜ LowestBit g word (r .0) ⌝ }
 {
     let low = u64::trailing_zeros(word) as usize;
-    Relay((g * 64 + low) as u16)
+    Relay((g * WORD_BITS + low) as u16)
 }
 
 // How many columns n relays have.
-pub fn columns_of(n: u16) -> usize
-    ensures { λ r. ⌜ r ≡ (n + 63) / 64 ⌝ }
+pub(crate) fn columns_of(n: u16) -> usize
+    ensures { λ r. ⌜ r ≡ columnsFor n ⌝ }
 {
     let size = n as usize;
-    (size + 63) / 64
+    (size + WORD_BITS - 1) / WORD_BITS
 }
 
 // The lowest of the waiting relays with the greatest count, where all counts are at most `most`.
-pub fn leading(columns: usize, most: u16, bits: &[u64]) -> Relay
-    requires { ⌜ (most < 80) × (columns ≤ 16) × (columns * 80 ≤ length (now bits)) ⌝ }
+pub(crate) fn leading(columns: usize, most: u16, bits: &[u64]) -> Relay
+    requires { ⌜ (most < columnWords) × (columns ≤ mostColumns) × (columns * columnWords ≤ length (now bits)) ⌝ }
     ensures { λ r. ⌜ Leads columns most (now (bits .entry)) (r .0) ⌝ }
 {
     let mut count = most as usize;
     while 0 < count {
         let g = first_column(columns, count, bits);
         if g < columns {
-            let word = bits[g * 80 + count];
+            let word = bits[g * COLUMN_WORDS + count];
             return lowest_of(g, word);
         }
         count -= 1;

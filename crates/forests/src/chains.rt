@@ -5,34 +5,34 @@ ghost use lib.ListN.{replicate};
 ghost use Rattle.forests.specs.Chains.{Chainable, ChainedFrom};
 
 // One number for each of 1,000 relays.
-pub fn for_relays(x: u16) -> [u16; 1000]
+pub(crate) fn for_relays(x: u16) -> [u16; 1000]
     ensures { λ r. ⌜ r ≡ replicate 1000 x ⌝ }
 {
     [x; 1000]
 }
 
 // A number for each half of 3,000 links.
-pub fn no_nexts() -> [u16; 6000]
+pub(crate) fn no_nexts() -> [u16; 6000]
     ensures { λ r. ⌜ r ≡ replicate 6000 0 ⌝ }
 {
     [0; 6000]
 }
 
 // The same for a small network, of 128 relays and 384 links.
-pub fn for_few_relays(x: u16) -> [u16; 128]
+pub(crate) fn for_few_relays(x: u16) -> [u16; 128]
     ensures { λ r. ⌜ r ≡ replicate 128 x ⌝ }
 {
     [x; 128]
 }
 
-pub fn few_nexts() -> [u16; 768]
+pub(crate) fn few_nexts() -> [u16; 768]
     ensures { λ r. ⌜ r ≡ replicate 768 0 ⌝ }
 {
     [0; 768]
 }
 
 // From the last link down, so that what stands in `first` is the next half-link.
-pub fn link_up(lows: &[u16], highs: &[u16], first: &mut [u16], nexts: &mut [u16])
+pub(crate) fn link_up(lows: &[u16], highs: &[u16], first: &mut [u16], nexts: &mut [u16])
     requires { ⌜ Chainable (now lows) (now highs) (now first) (now nexts) ⌝ }
     ensures { λ _. ⌜ ChainedFrom (now (lows .entry)) (now (highs .entry)) 0 (now (first .exit)) (now (nexts .exit)) ⌝ }
 {

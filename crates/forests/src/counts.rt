@@ -4,7 +4,7 @@ ghost use mathlib.Core.Path.{_≡_};
 ghost use Rattle.forests.specs.Counts.{raisedCount, numberOf};
 
 // The count with one more link to a placed relay; a placed relay's count stays.
-pub fn raised(count: u16) -> u16
+pub(crate) fn raised(count: u16) -> u16
     requires { ⌜ count < 1000 ⌝ }
     ensures { λ r. ⌜ r ≡ raisedCount count ⌝ }
 {
@@ -12,7 +12,7 @@ pub fn raised(count: u16) -> u16
 }
 
 // The forest number of a link to a relay with this count, `old` if that relay is placed; a sum, since one of the two is 0.
-pub fn number(count: u16, old: u16) -> u16
+pub(crate) fn number(count: u16, old: u16) -> u16
     requires { ⌜ (0 < count → old ≡ 0) ⌝ }
     ensures { λ r. ⌜ r ≡ numberOf count old ⌝ }
 {

@@ -13,7 +13,7 @@ fn higher(a: u16, b: u16) -> u16
 }
 
 // The highest of the first `count` numbers, 0 of none.
-pub fn highest(count: usize, forests: &[u16]) -> u16
+pub(crate) fn highest(count: usize, forests: &[u16]) -> u16
     requires { ⌜ count ≤ length (now forests) ⌝ }
     ensures { λ r. ⌜ r ≡ greatest (take count (now (forests .entry))) ⌝ }
 {
@@ -37,7 +37,7 @@ fn mark(k: u16, forest: u16) -> u16
 }
 
 // The first m forest numbers become marks; gives how many are kept.
-pub fn mark_links(m: usize, k: u16, marks: &mut [u16]) -> u16
+pub(crate) fn mark_links(m: usize, k: u16, marks: &mut [u16]) -> u16
     requires { ⌜ (m ≤ 3000) × (m ≤ length (now marks)) ⌝ }
     ensures { λ r. ⌜ r ≡ total (map (markOf k) (take m (now (marks .entry)))) ⌝ }
     ensures { λ _. ⌜ now (marks .exit) ≡ map (markOf k) (take m (now (marks .entry))) ++ drop m (now (marks .entry)) ⌝ }

@@ -14,14 +14,13 @@ use crate::walk::walk;
 use network::Place;
 use network::Relay;
 ghost use Prim.Native.Nat.{_-_, _<_, _≤_};
-ghost use mathlib.Core.Bool.{true};
 ghost use mathlib.Core.Path.{_≡_};
 ghost use lib.ListN.{length, getD, set, replicate};
 ghost use Rattle.definitions.specs.Lists.{overwrite};
 ghost use Rattle.definitions.specs.Network.{Accepted};
 ghost use Rattle.definitions.specs.Order.{orderOf, placesOf};
 ghost use Rattle.definitions.specs.Forests.{forestsOf};
-ghost use Rattle.forests.specs.Scan.{Placeable, PlacedOne, Startable, Scannable, Workspace, Scanned};
+ghost use Rattle.forests.specs.Scan.{Placeable, PlacedOne, Startable, Scannable, Workspace, isSmall, Scanned};
 
 // The place of a relay, from the list of places.
 pub fn place_of(places: &[u16], r: Relay) -> Place
@@ -160,7 +159,7 @@ fn scan_in(
 
 // A small network is worked on in small arrays, so that little is cleared.
 pub fn is_small(n: u16, m: usize) -> bool
-    ensures { λ r. ⌜ (r ≡ true → (n ≤ 128) × (m ≤ 384)) ⌝ }
+    ensures { λ r. ⌜ r ≡ isSmall n m ⌝ }
 {
     if n <= 128 { m <= 384 } else { false }
 }
@@ -248,7 +247,13 @@ pub fn scan(
 }
 
 // The order and the places alone.
-pub fn place_relays(n: u16, lows: &[u16], highs: &[u16], relays: &mut [u16], places: &mut [u16])
+pub(crate) fn place_relays(
+    n: u16,
+    lows: &[u16],
+    highs: &[u16],
+    relays: &mut [u16],
+    places: &mut [u16],
+)
     requires { ⌜ Accepted n (now lows) (now highs) × (n ≤ length (now relays)) × (n ≤ length (now places)) ⌝ }
     ensures { λ _. ⌜ now (relays .exit) ≡ overwrite (orderOf n (now (lows .entry)) (now (highs .entry))) (now (relays .entry)) ⌝ }
     ensures { λ _. ⌜ now (places .exit)
@@ -264,7 +269,7 @@ pub fn place_relays(n: u16, lows: &[u16], highs: &[u16], relays: &mut [u16], pla
 }
 
 // The forest numbers alone.
-pub fn number_links(n: u16, lows: &[u16], highs: &[u16], forests: &mut [u16])
+pub(crate) fn number_links(n: u16, lows: &[u16], highs: &[u16], forests: &mut [u16])
     requires { ⌜ Accepted n (now lows) (now highs) × (length (now lows) ≤ length (now forests)) ⌝ }
     ensures { λ _. ⌜ now (forests .exit) ≡ overwrite (forestsOf n (now (lows .entry)) (now (highs .entry))) (now (forests .entry)) ⌝ }
 {

@@ -45,7 +45,7 @@ fn visit(
 }
 
 // x gets its place: it waits no more, and its links are walked. Gives its count before.
-pub fn walk(
+pub(crate) fn walk(
     x: Relay,
     lows: &[u16],
     highs: &[u16],

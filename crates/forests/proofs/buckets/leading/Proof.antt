@@ -1,8 +1,9 @@
 -- Before each turn no word of a higher count has a bit. Assumes nothing.
-use Prim.Native.Nat.{_+_, _*_, _-_, _≤_}
+use Prim.Native.Nat.{_≤_}
 use mathlib.Core.Path.{_≡_, refl}
 use native.Mathlib.Omega.{arith}
 use lib.ListN.{getD}
+use Rattle.forests.specs.Buckets.{wordIn}
 use Rattle.forests.proofs.LeadLaws.{NoneAbove, none-above, none-lead, first-leads}
 use Rattle.forests.proofs.buckets.leading.Statement.{statement}
 use Rattle.forests.proofs.buckets.leading.Tie as tie
@@ -40,7 +41,7 @@ returns c =
     let found = c .before .before .before in
     let at = found .before .before in
     first-leads (at .before .before .args .bits .now) (at .loop .count) (found .first-column .result)
-    (getD (at .before .before .args .bits .now) (found .first-column .result * 80 + at .loop .count) 0) (c .lowest-of .result .0)
+    (getD (at .before .before .args .bits .now) (wordIn (found .first-column .result) (at .loop .count)) 0) (c .lowest-of .result .0)
     (omega arith) (at .loop .inv .0) (at .loop .inv .1) (found .first-column .ensures) (omega arith) refl (c .lowest-of .ensures)
 
 sub-count : tie.Need-sub-count Inv-loop μ-loop

@@ -11,11 +11,11 @@ returns c = rw (below 1 (c .before .args .k) (c .before .args .forest) (c .if1 .
 
 returns-2 : tie.Need-returns-2
 unfolding markOf
-returns-2 c = rw (inside 1 (c .before .before .args .k) (c .before .before .args .forest) (omega arith) (c .if2 .taken))
+returns-2 c = rw (inside 1 (c .before .before .args .k) (c .before .before .args .forest) (omega arith) (omega arith))
 
 returns-3 : tie.Need-returns-3
 unfolding markOf
-returns-3 c = rw (above 1 (c .before .before .args .k) (c .before .before .args .forest) (omega arith) (c .if2 .left))
+returns-3 c = rw (above 1 (c .before .before .args .k) (c .before .before .args .forest) (omega arith) (omega arith))
 
 pub mark-spec : {M : Type 1} → statement M
 mark-spec = tie.close (tie.spec returns returns-2 returns-3)

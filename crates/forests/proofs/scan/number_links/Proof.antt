@@ -1,5 +1,5 @@
 -- The scan with lists of its own for the order. Assumes nothing.
-use Rattle.forests.proofs.AnswerLaws.{relay-room}
+use Rattle.forests.proofs.SizeLaws.{relay-room}
 use borrow.Author.Needs.{needs}
 use Rattle.forests.proofs.scan.number_links.Statement.{statement}
 use Rattle.forests.proofs.scan.number_links.Tie as tie

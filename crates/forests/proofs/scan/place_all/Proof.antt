@@ -3,7 +3,7 @@ use Prim.Native.Nat.{ℕ, _-_, _≤_, _<_}
 use mathlib.Core.Path.{_≡_, refl, _∙_}
 use native.Mathlib.Omega.{arith}
 use lib.ListN.{length, getD, length-set}
-use Rattle.forests.specs.Buckets.{Buckets}
+use Rattle.forests.specs.Buckets.{columnWords, Buckets}
 use Rattle.forests.specs.Scan.{ScannedTo}
 use Rattle.forests.proofs.ScanLaws.{relays-long, first-most, scan-starts, scan-places, scan-moves, scan-ends}
 use Rattle.forests.proofs.scan.place_all.Statement.{statement}
@@ -15,7 +15,7 @@ Inv-loop n lows highs first nexts counts₀ bits₀ relays₀ places₀ forests�
     × ScannedTo n lows highs v counts relays₀ relays places₀ places forests₀ forests
     × Buckets counts bits
     × ((r : ℕ) → getD counts r 0 ≤ most)
-    × (most < 80)
+    × (most < columnWords)
     × (length counts ≡ length counts₀)
     × (length bits ≡ length bits₀)
 

@@ -1,5 +1,5 @@
 -- The scan with a list of its own for the forest numbers. Assumes nothing.
-use Rattle.forests.proofs.AnswerLaws.{link-room}
+use Rattle.forests.proofs.SizeLaws.{link-room}
 use borrow.Author.Needs.{needs}
 use Rattle.forests.proofs.scan.place_relays.Statement.{statement}
 use Rattle.forests.proofs.scan.place_relays.Tie as tie

@@ -1,5 +1,6 @@
 -- The scan in small or in large arrays. Assumes nothing.
 use borrow.Author.Needs.{needs}
+use Rattle.forests.proofs.SizeLaws.{small-sizes}
 use Rattle.forests.proofs.scan.scan.Statement.{statement}
 use Rattle.forests.proofs.scan.scan.Tie as tie
 
@@ -9,7 +10,7 @@ is-small-requires c κs = search needs
 scan-small-requires : tie.Need-scan-small-requires
 scan-small-requires c κs =
     let case = c .before .before .before in
-    let small = case .before .is-small .ensures (case .if1 .taken) in
+    let small = small-sizes _ _ (case .before .is-small .ensures) (case .if1 .taken) in
     (c .before .before .before .before .before .before .before .before .before .before .pre, small .0, small .1)
 
 scan-large-requires : tie.Need-scan-large-requires

@@ -1,7 +1,7 @@
 -- The scan in large arrays. Assumes nothing.
 use native.Mathlib.Omega.{arith}
 use Rattle.theory.specs.Accepted.{accepted}
-use Rattle.forests.specs.Buckets.{wordOf}
+use Rattle.forests.specs.Buckets.{mostColumns}
 use Rattle.forests.proofs.ScanLaws.{workspace}
 use borrow.Author.Needs.{needs}
 use Rattle.forests.proofs.scan.scan_large.Statement.{statement}
@@ -42,7 +42,6 @@ slice-aggregate-scan-in-4 : tie.Need-slice-aggregate-scan-in-4
 slice-aggregate-scan-in-4 c = search needs
 
 scan-in-requires : tie.Need-scan-in-requires
-unfolding wordOf
 scan-in-requires c κs =
     let bits = c .before .before .before .before .before .before .before in
     let counts = bits .before in
@@ -51,7 +50,7 @@ scan-in-requires c κs =
     let s = first .before .before .before .before .before .before in
     let t = accepted (s .args .n) (s .args .lows .now) (s .args .highs .now) (s .pre .accepted) in (
       s .pre,
-      workspace 1000 6000 1280 (s .args .n) (t .few) (omega arith) (omega (arith, t .short)) (λ r h. omega arith)
+      workspace 1000 6000 mostColumns (s .args .n) (t .few) (omega arith) (omega (arith, t .short)) (omega arith)
           (first .for-relays .ensures) (nexts .no-nexts .ensures) (counts .for-relays2 .ensures) (bits .no-bits .ensures),
     )
 

@@ -1,6 +1,6 @@
 -- The scan in small arrays. Assumes nothing.
 use native.Mathlib.Omega.{arith}
-use Rattle.forests.specs.Buckets.{wordOf}
+use Rattle.forests.specs.Buckets.{fewColumns}
 use Rattle.forests.proofs.ScanLaws.{workspace}
 use borrow.Author.Needs.{needs}
 use Rattle.forests.proofs.scan.scan_small.Statement.{statement}
@@ -37,7 +37,6 @@ slice-aggregate-scan-in-4 : tie.Need-slice-aggregate-scan-in-4
 slice-aggregate-scan-in-4 c = search needs
 
 scan-in-requires : tie.Need-scan-in-requires
-unfolding wordOf
 scan-in-requires c κs =
     let bits = c .before .before .before .before .before .before .before in
     let counts = bits .before in
@@ -45,7 +44,7 @@ scan-in-requires c κs =
     let first = nexts .before in
     let s = first .before .before .before .before .before .before in (
       s .pre .0,
-      workspace 128 768 160 (s .args .n) (s .pre .1) (omega arith) (omega (arith, s .pre .2)) (λ r h. omega arith)
+      workspace 128 768 fewColumns (s .args .n) (s .pre .1) (omega arith) (omega (arith, s .pre .2)) (omega arith)
           (first .for-few-relays .ensures) (nexts .few-nexts .ensures) (counts .for-few-relays2 .ensures) (bits .few-bits .ensures),
     )
 
