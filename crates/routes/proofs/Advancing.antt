@@ -8,23 +8,23 @@ use mathlib.Core.Path.{_≡_, refl, sym, _∙_, ap, subst}
 use native.Mathlib.Decide.{ℕ-discrete}
 use native.Mathlib.Omega.{arith}
 use lib.Dec.{eqb}
-use lib.ListN.{length, set, length-set}
+use lib.ListN.{length}
 use borrow.Author.Tests.{eqb-true, eqb-false}
 use Rattle.definitions.specs.Outcome.{pick}
 use Rattle.definitions.specs.Lists.{has}
 use Rattle.definitions.specs.Sweep.{endOf}
-use Rattle.routes.specs.Side.{endIn, secondIn, priorIn, extendPath, advance}
-use Rattle.routes.proofs.Held.{Chain, HeldPath, SideHeld, held-end, held-chain, chain-same, held-same, length-setPath, prior-setPath, held-setPath-other, held-setPath, end-setPrior, second-setPrior, prior-setPrior, prior-setPrior-other}
+use Rattle.routes.specs.Side.{priorStart, endIn, secondIn, priorIn, setPrior, extendPath, advance}
+use Rattle.routes.proofs.Held.{Chain, HeldPath, SideHeld, held-end, held-chain, chain-same, held-same, length-setPath, prior-setPath, held-setPath-other, held-setPath, length-setPrior, end-setPrior, second-setPrior, prior-setPrior, prior-setPrior-other}
 use Rattle.routes.proofs.Trades.{held-whole}
 
 module _ (look : ℕ → ℕ → ℕ) (reach k c v j : ℕ) (side : List ℕ) (paths : ℕ → List ℕ) (small : k ≤ 32) (some : 0 < v) (high : v ≤ reach)
     (off : v ≢ c) (one : 1 ≤ j) (bound : j ≤ k) (held : SideHeld reach k c side paths)
     (tails : (i : ℕ) → 1 ≤ i → i ≤ k → (w : ℕ) → has (tail (paths i)) w ≡ true → v < w) where
   abbrev stored : List ℕ
-  stored = set side (66 + v) (secondIn side j)
+  stored = setPrior side v (secondIn side j)
 
-  stored-long : 66 + reach < length stored
-  stored-long = omega (arith, length-set side (66 + v) (secondIn side j), held .long)
+  stored-long : priorStart + reach < length stored
+  stored-long = omega (arith, length-setPrior side v (secondIn side j), held .long)
 
   -- A store at v changes no path that has v as its end at most.
   stored-held : (i : ℕ) → 1 ≤ i → i ≤ k → HeldPath stored i (paths i)
@@ -56,7 +56,7 @@ module _ (look : ℕ → ℕ → ℕ) (reach k c v j : ℕ) (side : List ℕ) (p
       ∙ held-whole side j (paths j) (held .held j one bound))
       (held-setPath stored j (look j v) v (omega (arith, stored-long)) (omega arith) (v ∷ tail (paths j)) extend-chain)
 
-  extend-long : 66 + reach < length (extendPath look v j side)
+  extend-long : priorStart + reach < length (extendPath look v j side)
   unfolding extendPath
   extend-long = omega (arith, length-setPath stored j (look j v) v, stored-long)
 

@@ -19,7 +19,7 @@ use Rattle.theory.specs.Places.{relay-placed}
 use Rattle.forests.specs.Scan.{Scannable, Scanned}
 use Rattle.forests.specs.Left.{LeftInput}
 use Rattle.forests.proofs.ClearLaws.{cleared}
-use Rattle.routes.specs.Side.{leftIn}
+use Rattle.routes.specs.Side.{priorStart, leftIn}
 use Rattle.routes.specs.Writing.{Written, written}
 use Rattle.routes.specs.Between.{joinedIn, betweenIn}
 use Rattle.routes.specs.Answers.{Answered, answered, answerIn, treeAnswer, Routable, Workspace, Prepared}
@@ -33,7 +33,7 @@ zeros-at size list e i = ap (λ (l : List ℕ). getD l i 0) e ∙ zeros-entry si
 zeros-long : (size : ℕ) (list : List ℕ) → list ≡ replicate size 0 → length list ≡ size
 zeros-long size list e = ap length e ∙ length-replicate {A = ℕ} size 0
 
-pub workspace : (size links wide n : ℕ) {lows order places numbers a b : List ℕ} → n ≤ size → length lows ≤ links → 66 + n < wide
+pub workspace : (size links wide n : ℕ) {lows order places numbers a b : List ℕ} → n ≤ size → length lows ≤ links → priorStart + n < wide
     → order ≡ replicate size 0 → places ≡ replicate size 0 → numbers ≡ replicate links 0 → a ≡ replicate wide 0 → b ≡ replicate wide 0
     → Workspace n lows order places numbers a b
 workspace size links wide n {lows} {order} {places} {numbers} {a} {b} few short broad eo ep en ea eb =

@@ -1,6 +1,6 @@
 -- A path of the sweep in the list of its side: its end and last but one at its index, and from there each relay's predecessor
 -- up to the start, which has none. What the two stores into a side, a path's end and last but one and a relay's predecessor,
--- leave as it was. Over sides of at least 66 entries and indices up to 32.
+-- leave as it was. Over sides of at least priorStart entries and indices up to 32.
 use Prim.Native.Nat.{ℕ, _+_, _≤_, _<_}
 use mathlib.Core.Bool.{true}
 use mathlib.Core.List.{List, [], _∷_, tail}
@@ -12,7 +12,7 @@ use lib.Seq.{getD-set-same, getD-set-other}
 use Rattle.definitions.specs.Lists.{has}
 use Rattle.definitions.specs.Sweep.{endOf, beforeEnd}
 use Rattle.lists.specs.Cases.{has-here, has-there}
-use Rattle.routes.specs.Side.{endIn, secondIn, priorIn, setPath}
+use Rattle.routes.specs.Side.{secondStart, priorStart, endIn, secondIn, priorIn, setPath, setPrior}
 
 -- From x back to the start of its path stand these relays.
 abbrev pub Chain : List ℕ → ℕ → List ℕ → Type 0
@@ -27,7 +27,7 @@ HeldPath side i (x ∷ rest) = (endIn side i ≡ x) × Chain side (secondIn side
 -- The side has room for the places up to `reach` and these paths at the indices 1 to k, and its start c is the first relay of
 -- its path.
 pub record SideHeld (reach k c : ℕ) (side : List ℕ) (paths : ℕ → List ℕ) : Type 0 where
-  pub long : 66 + reach < length side
+  pub long : priorStart + reach < length side
   pub base : priorIn side c ≡ 0
   pub held : (i : ℕ) → 1 ≤ i → i ≤ k → HeldPath side i (paths i)
 
@@ -67,34 +67,34 @@ held-same side side′ i (x ∷ rest) e u same h =
 module _ (side : List ℕ) (i end second : ℕ) where
   pub length-setPath : length (setPath side i end second) ≡ length side
   unfolding setPath
-  length-setPath = length-set (set side i end) (33 + i) second ∙ length-set side i end
+  length-setPath = length-set (set side i end) (secondStart + i) second ∙ length-set side i end
 
   pub prior-setPath : i ≤ 32 → (x : ℕ) → priorIn (setPath side i end second) x ≡ priorIn side x
   unfolding setPath priorIn
   prior-setPath small x =
-      getD-set-other (set side i end) (33 + i) (66 + x) second 0 (λ e. omega arith)
-      ∙ getD-set-other side i (66 + x) end 0 (λ e. omega arith)
+      getD-set-other (set side i end) (secondStart + i) (priorStart + x) second 0 (λ e. omega arith)
+      ∙ getD-set-other side i (priorStart + x) end 0 (λ e. omega arith)
 
-  pub end-setPath : 66 ≤ length side → i ≤ 32 → endIn (setPath side i end second) i ≡ end
+  pub end-setPath : priorStart ≤ length side → i ≤ 32 → endIn (setPath side i end second) i ≡ end
   unfolding setPath endIn
   end-setPath long small =
-      getD-set-other (set side i end) (33 + i) i second 0 (λ e. omega arith) ∙ getD-set-same side i end 0 (omega arith)
+      getD-set-other (set side i end) (secondStart + i) i second 0 (λ e. omega arith) ∙ getD-set-same side i end 0 (omega arith)
 
-  pub second-setPath : 66 ≤ length side → i ≤ 32 → secondIn (setPath side i end second) i ≡ second
+  pub second-setPath : priorStart ≤ length side → i ≤ 32 → secondIn (setPath side i end second) i ≡ second
   unfolding setPath secondIn
-  second-setPath long small = getD-set-same (set side i end) (33 + i) second 0 (omega (arith, length-set side i end))
+  second-setPath long small = getD-set-same (set side i end) (secondStart + i) second 0 (omega (arith, length-set side i end))
 
   module _ (h : ℕ) (other : h ≢ i) (small : i ≤ 32) (within : h ≤ 32) where
     pub end-setPath-other : endIn (setPath side i end second) h ≡ endIn side h
     unfolding setPath endIn
     end-setPath-other =
-        getD-set-other (set side i end) (33 + i) h second 0 (λ e. omega arith) ∙ getD-set-other side i h end 0 other
+        getD-set-other (set side i end) (secondStart + i) h second 0 (λ e. omega arith) ∙ getD-set-other side i h end 0 other
 
     pub second-setPath-other : secondIn (setPath side i end second) h ≡ secondIn side h
     unfolding setPath secondIn
     second-setPath-other =
-        getD-set-other (set side i end) (33 + i) (33 + h) second 0 (λ e. other (omega arith))
-        ∙ getD-set-other side i (33 + h) end 0 (λ e. omega arith)
+        getD-set-other (set side i end) (secondStart + i) (secondStart + h) second 0 (λ e. other (omega arith))
+        ∙ getD-set-other side i (secondStart + h) end 0 (λ e. omega arith)
 
     -- The paths of the other indices stay.
     pub held-setPath-other : (path : List ℕ) → HeldPath side h path → HeldPath (setPath side i end second) h path
@@ -102,7 +102,7 @@ module _ (side : List ℕ) (i end second : ℕ) where
         held-same side (setPath side i end second) h path end-setPath-other second-setPath-other (λ y _. prior-setPath small y)
 
   -- The path that was set.
-  pub held-setPath : 66 ≤ length side → i ≤ 32 → (rest : List ℕ) → Chain side second rest
+  pub held-setPath : priorStart ≤ length side → i ≤ 32 → (rest : List ℕ) → Chain side second rest
       → HeldPath (setPath side i end second) i (end ∷ rest)
   held-setPath long small rest chain =
       let new : List ℕ = setPath side i end second in (
@@ -113,18 +113,22 @@ module _ (side : List ℕ) (i end second : ℕ) where
 
 -- The relay before v is stored.
 module _ (side : List ℕ) (v second : ℕ) where
-  pub end-setPrior : (i : ℕ) → i ≤ 32 → endIn (set side (66 + v) second) i ≡ endIn side i
-  unfolding endIn
-  end-setPrior i small = getD-set-other side (66 + v) i second 0 (λ e. omega arith)
+  pub length-setPrior : length (setPrior side v second) ≡ length side
+  unfolding setPrior
+  length-setPrior = length-set side (priorStart + v) second
 
-  pub second-setPrior : (i : ℕ) → i ≤ 32 → secondIn (set side (66 + v) second) i ≡ secondIn side i
-  unfolding secondIn
-  second-setPrior i small = getD-set-other side (66 + v) (33 + i) second 0 (λ e. omega arith)
+  pub end-setPrior : (i : ℕ) → i ≤ 32 → endIn (setPrior side v second) i ≡ endIn side i
+  unfolding setPrior endIn
+  end-setPrior i small = getD-set-other side (priorStart + v) i second 0 (λ e. omega arith)
 
-  pub prior-setPrior : 66 + v < length side → priorIn (set side (66 + v) second) v ≡ second
-  unfolding priorIn
-  prior-setPrior long = getD-set-same side (66 + v) second 0 long
+  pub second-setPrior : (i : ℕ) → i ≤ 32 → secondIn (setPrior side v second) i ≡ secondIn side i
+  unfolding setPrior secondIn
+  second-setPrior i small = getD-set-other side (priorStart + v) (secondStart + i) second 0 (λ e. omega arith)
 
-  pub prior-setPrior-other : (x : ℕ) → x ≢ v → priorIn (set side (66 + v) second) x ≡ priorIn side x
-  unfolding priorIn
-  prior-setPrior-other x other = getD-set-other side (66 + v) (66 + x) second 0 (λ e. other (omega arith))
+  pub prior-setPrior : priorStart + v < length side → priorIn (setPrior side v second) v ≡ second
+  unfolding setPrior priorIn
+  prior-setPrior long = getD-set-same side (priorStart + v) second 0 long
+
+  pub prior-setPrior-other : (x : ℕ) → x ≢ v → priorIn (setPrior side v second) x ≡ priorIn side x
+  unfolding setPrior priorIn
+  prior-setPrior-other x other = getD-set-other side (priorStart + v) (priorStart + x) second 0 (λ e. other (omega arith))

@@ -12,13 +12,13 @@ use lib.ListN.{length}
 use borrow.Author.Tests.{eqb-true, eqb-false}
 use Rattle.definitions.specs.Outcome.{pick}
 use Rattle.lists.specs.Searches.{clash}
-use Rattle.routes.specs.Side.{endIn, priorIn, setPath}
+use Rattle.routes.specs.Side.{priorStart, endIn, priorIn, setPath}
 use Rattle.routes.specs.Sides.{startA, startB, leaveAt, leaveFrom}
 use Rattle.routes.proofs.Held.{Chain, HeldPath, SideHeld, held-setPath, held-setPath-other, length-setPath, prior-setPath}
 
 -- The indices i, …, 1 are left to do: they have their old paths, if they had any, and the others have their new ones.
 record Filling (reach k c : ℕ) (any : Bool) (old new : ℕ → List ℕ) (i : ℕ) (side : List ℕ) : Type 0 where
-  long : 66 + reach < length side
+  long : priorStart + reach < length side
   base : priorIn side c ≡ 0
   lower : any ≡ true → (h : ℕ) → 1 ≤ h → h ≤ i → HeldPath side h (old h)
   higher : (h : ℕ) → i < h → h ≤ k → HeldPath side h (new h)
@@ -76,7 +76,7 @@ module _ (left look : ℕ → ℕ → ℕ) (reach k : ℕ) (small : k ≤ 32) (a
         (fill-set reach k s small false startPathA startPathA i (look (suc i) s) s (s ∷ []) le a
         (ap (λ (x : ℕ). x ∷ s ∷ []) (sym (agree (suc i) s (omega arith) le))) (refl, some, now .base) now)
 
-    pub startA-held : (a : List ℕ) → 66 + reach < length a → priorIn a s ≡ 0 → SideHeld reach k s (startA look s k a) startPathA
+    pub startA-held : (a : List ℕ) → priorStart + reach < length a → priorIn a s ≡ 0 → SideHeld reach k s (startA look s k a) startPathA
     startA-held a long base =
         fill-done reach k s small false startPathA startPathA (startA look s k a)
         (startA-fills k (omega arith) a
@@ -94,7 +94,7 @@ module _ (left look : ℕ → ℕ → ℕ) (reach k : ℕ) (small : k ≤ 32) (a
     startB-fills (suc i) le b now =
         startB-fills i (omega arith) (setPath b (suc i) t 0) (fill-set reach k t small false startPathB startPathB i t 0 [] le b refl refl now)
 
-    pub startB-held : (b : List ℕ) → 66 + reach < length b → priorIn b t ≡ 0 → SideHeld reach k t (startB t k b) startPathB
+    pub startB-held : (b : List ℕ) → priorStart + reach < length b → priorIn b t ≡ 0 → SideHeld reach k t (startB t k b) startPathB
     startB-held b long base =
         fill-done reach k t small false startPathB startPathB (startB t k b)
         (startB-fills k (omega arith) b

@@ -12,7 +12,7 @@ use lib.ListN.{length}
 use Rattle.definitions.specs.Outcome.{pick}
 use Rattle.definitions.specs.Sweep.{endOf, beforeEnd, together, downshift}
 use Rattle.lists.specs.Searches.{First}
-use Rattle.routes.specs.Side.{endIn, priorIn, trade, tradeAt, tradeFrom}
+use Rattle.routes.specs.Side.{priorStart, endIn, priorIn, trade, tradeAt, tradeFrom}
 use Rattle.routes.proofs.Held.{HeldPath, SideHeld, held-end}
 use Rattle.routes.proofs.Trades.{trade-long, trade-prior, trade-lower, trade-higher, trade-other}
 use Rattle.routes.proofs.Shifts.{set-ends, set-at, set-high, after-stays, after-low, after-high}
@@ -20,7 +20,7 @@ use Rattle.routes.proofs.Shifts.{set-ends, set-at, set-high, after-stay
 -- The indices i, …, 1 are left to do: they have their old paths, the indices from i + 1 on have their new ones, and j has
 -- the path of the lowest index above i that takes part.
 record Shifting (left : ℕ → ℕ → ℕ) (reach k c j : ℕ) (ends : ℕ → Bool) (paths : ℕ → List ℕ) (i : ℕ) (side : List ℕ) : Type 0 where
-  long : 66 + reach < length side
+  long : priorStart + reach < length side
   base : priorIn side c ≡ 0
   lower : (h : ℕ) → 1 ≤ h → h ≤ i → HeldPath side h (paths h)
   higher : (h : ℕ) → i < h → h ≤ k → h ≢ j → HeldPath side h (downshift left k j ends paths h)
@@ -33,7 +33,7 @@ module _ (left look : ℕ → ℕ → ℕ) (reach k c j v : ℕ) (ends : ℕ →
     (agree : (i x : ℕ) → 1 ≤ i → i ≤ k → look i x ≡ left i x)
     (same : (i : ℕ) → 1 ≤ i → i ≤ k → ends i ≡ eqb (endOf (paths i)) v) where
   module _ (i : ℕ) (less : suc i < j) (side : List ℕ) (now : Shifting left reach k c j ends paths (suc i) side) where
-    wide : 66 ≤ length side
+    wide : priorStart ≤ length side
     wide = omega (arith, now .long)
 
     here : HeldPath side (suc i) (paths (suc i))

@@ -11,7 +11,7 @@ use Rattle.theory.specs.LeftLaws.{LeftLaws}
 use Rattle.theory.specs.Trees.{Alive}
 use Rattle.theory.specs.SweepInvariant.{Sweeping}
 use Rattle.theory.specs.SweepHolds.{slotAt-table, sweep-starts, sweep-step}
-use Rattle.routes.specs.Side.{priorIn, NoPaths}
+use Rattle.routes.specs.Side.{priorStart, priorIn, NoPaths}
 use Rattle.routes.specs.Sides.{Sides, sides, startA, startB, stepIn, sweepIn, sweptIn}
 use Rattle.routes.proofs.Leaving.{startA-held, startB-held}
 use Rattle.routes.proofs.Stepping.{Holds, side-same, step-held}
@@ -31,7 +31,7 @@ zeros-entry (suc n) (suc i) = zeros-entry n i
 
 prior-none : (n : ℕ) (side : List ℕ) → NoPaths n side → (x : ℕ) → priorIn side x ≡ 0
 unfolding priorIn
-prior-none n side empty x = empty .none (66 + x)
+prior-none n side empty x = empty .none (priorStart + x)
 
 module _ (left look : ℕ → ℕ → ℕ) (laws : LeftLaws left) (k s t : ℕ) (less : t < s) (alive : Alive left k t s) (positive : 1 ≤ t)
     (small : k ≤ 32) (agree : (i x : ℕ) → 1 ≤ i → i ≤ k → look i x ≡ left i x) where

@@ -1,4 +1,4 @@
--- What a trade between two indices of a side does to the paths that it holds. Over sides of at least 66 entries and indices up to 32.
+-- What a trade between two indices of a side does to the paths that it holds. Over sides of at least priorStart entries and indices up to 32.
 use Prim.Native.Nat.{ℕ, _≤_}
 use mathlib.Core.List.{List, [], _∷_, tail}
 use mathlib.Core.Logic.{_≢_}
@@ -6,7 +6,7 @@ use mathlib.Core.Path.{_≡_, sym, _∙_, ap, subst}
 use native.Mathlib.Omega.{arith}
 use lib.ListN.{length}
 use Rattle.definitions.specs.Sweep.{beforeEnd}
-use Rattle.routes.specs.Side.{endIn, secondIn, priorIn, setPath, trade}
+use Rattle.routes.specs.Side.{priorStart, endIn, secondIn, priorIn, setPath, trade}
 use Rattle.routes.proofs.Held.{HeldPath, held-before, held-chain, chain-same, length-setPath, prior-setPath, held-setPath-other, held-setPath}
 
 -- A path with one more relay known of it: its end is its first.
@@ -14,11 +14,11 @@ pub held-whole : (side : List ℕ) (i : ℕ) (path : List ℕ) → HeldPath side
 held-whole side i [] h = absurd h
 held-whole side i (x ∷ rest) h = ap (λ (y : ℕ). y ∷ rest) (h .0)
 
-module _ (look : ℕ → ℕ → ℕ) (j i : ℕ) (side : List ℕ) (long : 66 ≤ length side) (smallJ : j ≤ 32) (smallI : i ≤ 32) (apart : i ≢ j) where
+module _ (look : ℕ → ℕ → ℕ) (j i : ℕ) (side : List ℕ) (long : priorStart ≤ length side) (smallJ : j ≤ 32) (smallI : i ≤ 32) (apart : i ≢ j) where
   abbrev first : List ℕ
   first = setPath side j (endIn side i) (secondIn side i)
 
-  first-long : 66 ≤ length first
+  first-long : priorStart ≤ length first
   first-long = omega (arith, length-setPath side j (endIn side i) (secondIn side i))
 
   pub trade-long : length (trade look j i side) ≡ length side

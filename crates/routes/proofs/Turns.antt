@@ -101,8 +101,8 @@ stepped-pass left k t v j a b a₁ b₁ off e some passes =
     rw (ne-eqb v t off, ne-eqb (highestIn k v a b) 0 (λ z. some (e ∙ z)), ← e) passes
 
 -- The calls of the sweep, one after another.
-pub swept : (left : ℕ → ℕ → ℕ) (k s t : ℕ) (a b a₁ b₁ a₂ b₂ : List ℕ)
-    → a₁ ≡ startA left s k a → b₁ ≡ startB t k b → sides a₂ b₂ ≡ sweepIn left k t (s - 1) a₁ b₁
+pub swept : (left : ℕ → ℕ → ℕ) (k s t last : ℕ) (a b a₁ b₁ a₂ b₂ : List ℕ)
+    → last ≡ s - 1 → a₁ ≡ startA left s k a → b₁ ≡ startB t k b → sides a₂ b₂ ≡ sweepIn left k t last a₁ b₁
     → sides a₂ b₂ ≡ sweptIn left k s t a b
 unfolding sweptIn
-swept left k s t a b a₁ b₁ a₂ b₂ ea eb e = rw (← sub-one s, ← ea, ← eb) e
+swept left k s t last a b a₁ b₁ a₂ b₂ el ea eb e = rw (← sub-one s, ← el, ← ea, ← eb) e

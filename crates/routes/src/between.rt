@@ -5,21 +5,22 @@ ghost use Rattle.routes.specs.Side.{leftIn};
 ghost use Rattle.routes.specs.Writing.{written};
 ghost use Rattle.routes.specs.Between.{aliveIn, joinedIn, fallIn, riseIn, betweenIn};
 use crate::side::left;
+use crate::side::one_before;
 use crate::sweep::sweep;
 use crate::write::write_routes;
 use network::Place;
 
 // Each place after t up to s has a left entry of index k.
-fn alive(table: &[u16], n: u16, k: u16, t: u16, s: u16) -> bool
-    requires { ⌜ t ≤ s ⌝ }
-    ensures { λ r. ⌜ r ≡ aliveIn (leftIn (now (table .entry)) n) k t (s - t) ⌝ }
+fn alive(table: &[u16], n: u16, k: u16, t: Place, s: Place) -> bool
+    requires { ⌜ t .0 ≤ s .0 ⌝ }
+    ensures { λ r. ⌜ r ≡ aliveIn (leftIn (now (table .entry)) n) k (t .0) (s .0 - t .0) ⌝ }
 {
     let mut v = s;
-    while t < v {
-        if left(table, n, k, v) == 0 {
+    while t.0 < v.0 {
+        if left(table, n, k, v).0 == 0 {
             return false;
         }
-        v -= 1;
+        v = one_before(v);
     }
     true
 }
@@ -29,9 +30,9 @@ pub(crate) fn joined(table: &[u16], n: u16, k: u16, p: Place, q: Place) -> bool
     ensures { λ r. ⌜ r ≡ joinedIn (leftIn (now (table .entry)) n) k (p .0) (q .0) ⌝ }
 {
     if q.0 < p.0 {
-        alive(table, n, k, q.0, p.0)
+        alive(table, n, k, q, p)
     } else {
-        alive(table, n, k, p.0, q.0)
+        alive(table, n, k, p, q)
     }
 }
 
@@ -53,7 +54,7 @@ fn fall(
         ≡ fallIn (now (a .entry)) (now (b .entry)) (leftIn (now (table .entry)) n) k (s .0) (t .0) (now (order .entry))
         (now (counts .entry)) (now (relays .entry)) ⌝ }
 {
-    sweep(a, b, table, n, k, s.0, t.0);
+    sweep(a, b, table, n, k, s, t);
     write_routes(counts, relays, a, b, order, k)
 }
 
@@ -75,7 +76,7 @@ fn rise(
         ≡ riseIn (now (a .entry)) (now (b .entry)) (leftIn (now (table .entry)) n) k (s .0) (t .0) (now (order .entry))
         (now (counts .entry)) (now (relays .entry)) ⌝ }
 {
-    sweep(a, b, table, n, k, s.0, t.0);
+    sweep(a, b, table, n, k, s, t);
     write_routes(counts, relays, b, a, order, k)
 }
 

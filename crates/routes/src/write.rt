@@ -31,7 +31,7 @@ fn count(side: &[u16], i: u16) -> usize
     let mut x = second_of(side, i);
     let mut c = 0;
     while c < 1000 {
-        if x == 0 {
+        if x.0 == 0 {
             return c;
         }
         x = prior_of(side, x);
@@ -50,7 +50,7 @@ fn write_down(relays: &mut [u16], side: &[u16], order: &[u16], i: u16, count: us
     let mut c = count;
     while 0 < c {
         c -= 1;
-        put(relays, from + c, relay_at(order, Place(x)).0);
+        put(relays, from + c, relay_at(order, x).0);
         x = prior_of(side, x);
     }
 }
@@ -65,7 +65,7 @@ fn write_up(relays: &mut [u16], side: &[u16], order: &[u16], i: u16, count: usiz
     let mut c = count;
     let mut p = at;
     while 0 < c {
-        put(relays, p, relay_at(order, Place(x)).0);
+        put(relays, p, relay_at(order, x).0);
         x = prior_of(side, x);
         p += 1;
         c -= 1;
@@ -91,7 +91,7 @@ fn write_route(
     let high = count(second, i);
     let meeting = end_of(first, i);
     write_down(relays, first, order, i, low, from);
-    put(relays, from + low, relay_at(order, Place(meeting)).0);
+    put(relays, from + low, relay_at(order, meeting).0);
     write_up(relays, second, order, i, high, from + low + 1);
     low + 1 + high
 }

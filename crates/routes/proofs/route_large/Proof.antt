@@ -1,7 +1,9 @@
 -- `route_large` meets its contract. Assumes nothing.
 use native.Mathlib.Omega.{arith}
 use Rattle.routes.proofs.Answering.{workspace}
+use Prim.Native.Nat.{_+_}
 use Rattle.theory.specs.Accepted.{accepted}
+use Rattle.routes.specs.Side.{priorStart}
 use borrow.Author.Needs.{needs}
 use Rattle.routes.proofs.route_large.Statement.{statement}
 use Rattle.routes.proofs.route_large.Tie as tie
@@ -46,7 +48,7 @@ route-in-requires c κs =
     let s = atNoRelays .before .before .before .before .before .before in
     let t = accepted (s .args .n) (s .args .lows .now) (s .args .highs .now) (s .pre .accepted) in (
       s .pre,
-      workspace 1000 3000 1067 (s .args .n) (t .few) (t .short) (omega (arith, t .few))
+      workspace 1000 3000 (priorStart + 1001) (s .args .n) (t .few) (t .short) (omega (arith, t .few))
           (atNoRelays .no-relays .ensures) (atNoRelays2 .no-relays2 .ensures) (atNoLinks .no-links .ensures)
           (atNoPaths .no-paths .ensures) (atNoPaths2 .no-paths2 .ensures),
     )

@@ -1,5 +1,7 @@
 -- `route_small` meets its contract. Assumes nothing.
 use native.Mathlib.Omega.{arith}
+use Prim.Native.Nat.{_+_}
+use Rattle.routes.specs.Side.{priorStart}
 use Rattle.routes.proofs.Answering.{workspace}
 use borrow.Author.Needs.{needs}
 use Rattle.routes.proofs.route_small.Statement.{statement}
@@ -44,7 +46,7 @@ route-in-requires c κs =
     let atFewRelays = atFewRelays2 .before in
     let s = atFewRelays .before .before .before .before .before .before in (
       s .pre .0,
-      workspace 128 384 195 (s .args .n) (s .pre .1) (s .pre .2) (omega (arith, s .pre .1))
+      workspace 128 384 (priorStart + 129) (s .args .n) (s .pre .1) (s .pre .2) (omega (arith, s .pre .1))
           (atFewRelays .few-relays .ensures) (atFewRelays2 .few-relays2 .ensures) (atFewLinks .few-links .ensures)
           (atFewPaths .few-paths .ensures) (atFewPaths2 .few-paths2 .ensures),
     )

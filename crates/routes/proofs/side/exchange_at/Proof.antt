@@ -19,10 +19,10 @@ returns : tie.Need-returns
 unfolding tradeAt
 returns c =
     let atIf1 = c .before .before .before .before in
-    let atEndOf = atIf1 .before in
+    let atEndOf = atIf1 .before .before .before in
     let start = atEndOf .before .before .before .before in
     let a = start .args in
-    rw (eq-eqb (endIn (a .side .now) (a .i)) (a .v) (sym (atEndOf .end-of .ensures) ∙ atIf1 .if1 .taken))
+    rw (eq-eqb (endIn (a .side .now) (a .i)) (a .v .0) (sym (atEndOf .end-of .ensures) ∙ atIf1 .if1 .taken))
     (c .before .before .exchange .ensures)
 
 same-length-2 : tie.Need-same-length-2
@@ -31,8 +31,9 @@ same-length-2 c = search needs
 returns-2 : tie.Need-returns-2
 unfolding tradeAt
 returns-2 c =
-    let a = c .before .before .before .before .before .args in
-    rw (ne-eqb (endIn (a .side .now) (a .i)) (a .v) (λ e. c .if1 .left (c .before .end-of .ensures ∙ e)))
+    let atEndOf = c .before .before .before in
+    let a = atEndOf .before .before .before .before .args in
+    rw (ne-eqb (endIn (a .side .now) (a .i)) (a .v .0) (λ e. c .if1 .left (atEndOf .end-of .ensures ∙ e)))
 
 pub exchange-at-spec : {M : Type 1} → statement M
 exchange-at-spec =

@@ -10,7 +10,7 @@ use Rattle.routes.proofs.side.make_room.Statement.{statement}
 use Rattle.routes.proofs.side.make_room.Tie as tie
 
 abbrev Inv-loop : tie.InvT-loop
-Inv-loop side₀ table n v j i₀ side i = (length side ≡ length side₀) × (tradeFrom (leftIn table n) v j i₀ side₀ ≡ tradeFrom (leftIn table n) v j i side)
+Inv-loop side₀ table n v j i₀ side i = (length side ≡ length side₀) × (tradeFrom (leftIn table n) (v .0) j i₀ side₀ ≡ tradeFrom (leftIn table n) (v .0) j i side)
 
 abbrev μ-loop : tie.MeasureT-loop
 μ-loop side₀ table n v j i₀ side i = i
@@ -38,8 +38,8 @@ loop-again c =
     let L = leftIn (a .table .now) (a .n) in (
       c .before .before .exchange-at .kept .0 ∙ atLoop .loop .inv .0,
       atLoop .loop .inv .1
-          ∙ trade-turn L (a .v) (a .j) (atLoop .loop .i) (atLoop .loop .side) (omega arith)
-          ∙ ap (tradeFrom L (a .v) (a .j) (atLoop .loop .i - 1)) (sym (c .before .before .exchange-at .ensures)),
+          ∙ trade-turn L (a .v .0) (a .j) (atLoop .loop .i) (atLoop .loop .side) (omega arith)
+          ∙ ap (tradeFrom L (a .v .0) (a .j) (atLoop .loop .i - 1)) (sym (c .before .before .exchange-at .ensures)),
     )
 
 same-length : tie.Need-same-length Inv-loop μ-loop
@@ -51,7 +51,7 @@ returns c =
     let a = start .args in
     let L = leftIn (a .table .now) (a .n) in
     sym
-    (rw (← sub-one (a .j)) (c .before .loop .inv .1 ∙ trade-end L (a .v) (a .j) (c .before .loop .i) (c .before .loop .side) (omega arith)))
+    (rw (← sub-one (a .j)) (c .before .loop .inv .1 ∙ trade-end L (a .v .0) (a .j) (c .before .loop .i) (c .before .loop .side) (omega arith)))
 
 pub make-room-spec : {M : Type 1} → statement M
 make-room-spec =

@@ -10,7 +10,7 @@ use Rattle.routes.proofs.sweep.leave.Statement.{statement}
 use Rattle.routes.proofs.sweep.leave.Tie as tie
 
 abbrev Inv-loop : tie.InvT-loop
-Inv-loop b₀ a table n k t i₀ b i = (length b ≡ length b₀) × (leaveFrom (leftIn table n) t a i₀ b₀ ≡ leaveFrom (leftIn table n) t a i b)
+Inv-loop b₀ a table n k t i₀ b i = (length b ≡ length b₀) × (leaveFrom (leftIn table n) (t .0) a i₀ b₀ ≡ leaveFrom (leftIn table n) (t .0) a i b)
 
 abbrev μ-loop : tie.MeasureT-loop
 μ-loop b₀ a table n k t i₀ b i = i
@@ -35,8 +35,8 @@ loop-again c =
     let L = leftIn (a .table .now) (a .n) in (
       c .before .before .leave-at .kept .0 ∙ atLoop .loop .inv .0,
       atLoop .loop .inv .1
-          ∙ leave-turn L (a .t) (a .a .now) (atLoop .loop .i) (atLoop .loop .b) (omega arith)
-          ∙ ap (leaveFrom L (a .t) (a .a .now) (atLoop .loop .i - 1)) (sym (c .before .before .leave-at .ensures)),
+          ∙ leave-turn L (a .t .0) (a .a .now) (atLoop .loop .i) (atLoop .loop .b) (omega arith)
+          ∙ ap (leaveFrom L (a .t .0) (a .a .now) (atLoop .loop .i - 1)) (sym (c .before .before .leave-at .ensures)),
     )
 
 same-length : tie.Need-same-length Inv-loop μ-loop
@@ -46,7 +46,7 @@ returns : tie.Need-returns Inv-loop μ-loop
 returns c =
     let a = c .before .before .before .before .before .args in
     let L = leftIn (a .table .now) (a .n) in
-    sym (c .before .loop .inv .1 ∙ leave-end L (a .t) (a .a .now) (c .before .loop .i) (c .before .loop .b) (omega arith))
+    sym (c .before .loop .inv .1 ∙ leave-end L (a .t .0) (a .a .now) (c .before .loop .i) (c .before .loop .b) (omega arith))
 
 pub leave-spec : {M : Type 1} → statement M
 leave-spec =

@@ -38,7 +38,7 @@ returns c =
     let atMakeRoom = atMakeRoom2 .before .before .before .before in
     let start = atMakeRoom .before .before .before .before .before in
     let a = start .args in
-    passed (leftIn (a .table .now) (a .n)) (a .v) (a .j) (a .a .now) (a .b .now) _ _ _ _ _ _
+    passed (leftIn (a .table .now) (a .n)) (a .v .0) (a .j) (a .a .now) (a .b .now) _ _ _ _ _ _
     (atMakeRoom .make-room .ensures) (atMakeRoom2 .make-room2 .ensures) (atEndOf .end-of .ensures) (atEndOf2 .end-of2 .ensures)
     (atGoOn .go-on .ensures) (c .before .before .go-on2 .ensures)
 

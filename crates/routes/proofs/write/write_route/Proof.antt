@@ -93,7 +93,7 @@ returns c =
       route-length (a .first .now) (a .second .now) (a .i) (atCount .count .result) (atCount2 .count2 .result)
           (atCount .count .ensures) (atCount2 .count2 .ensures),
       route-written (a .first .now) (a .second .now) (a .order .now) (a .i) (a .from) (atCount .count .result) (atCount2 .count2 .result)
-          (atEndOf .end-of .result) (atRelayAt .relay-at .result .0) (a .relays .now) (atWriteDown .write-down .last .0)
+          (atEndOf .end-of .result .0) (atRelayAt .relay-at .result .0) (a .relays .now) (atWriteDown .write-down .last .0)
           (atPut .put .last .0) (c .before .before .write-up .last .0)
           (atCount .count .ensures) (atCount2 .count2 .ensures) (atEndOf .end-of .ensures) (atRelayAt .relay-at .ensures)
           (atWriteDown .write-down .ensures) (atPut .put .ensures) (c .before .before .write-up .ensures),
