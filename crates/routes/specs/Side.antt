@@ -1,17 +1,18 @@
 -- The paths of one side of the sweep, A or B, in one list of places: entry i is the end of path i, entry secondStart + i its
 -- last but one, and entry priorStart + x the place before x on its path; 0 means none. What the functions on a side do to it.
 -- Assumes nothing.
-use Prim.Native.Nat.{ℕ, zero, suc, _+_, _-_, _*_, _<_}
+use Prim.Native.Nat.{ℕ, zero, suc, _+_, _<_}
 use mathlib.Core.List.{List}
 use mathlib.Core.Path.{_≡_}
 use lib.Dec.{eqb, ltb}
 use lib.ListN.{length, getD, set}
 use Rattle.definitions.specs.Outcome.{pick}
+use Rattle.forests.specs.Left.{leftIndex}
 
--- Entry (i − 1) × n + (v − 1) of a left table, i and v from 1, v up to n; 0 for any other.
-unfoldable pub leftIn : List ℕ → ℕ → ℕ → ℕ → ℕ
-leftIn table n i v =
-    pick (eqb i 0) 0 (pick (eqb v 0) 0 (pick (ltb n v) 0 (getD table ((i - 1) * n + (v - 1)) 0)))
+-- left(i, v) as a left table has it, i and v from 1, v up to n; 0 for any other.
+unfoldable pub tableLeft : List ℕ → ℕ → ℕ → ℕ → ℕ
+tableLeft table n i v =
+    pick (eqb i 0) 0 (pick (eqb v 0) 0 (pick (ltb n v) 0 (getD table (leftIndex n i v) 0)))
 
 -- Where the last but ones start, behind the ends of the indices 0 to 32, and where the places before each place start.
 abbrev pub secondStart : ℕ

@@ -4,7 +4,7 @@ use network::Place;
 ghost use mathlib.Core.Path.{_≡_};
 ghost use Prim.Native.Nat.{_-_, _<_, pred};
 ghost use lib.ListN.{getD, set};
-ghost use Rattle.routes.specs.Side.{leftIn, endIn, secondIn, priorIn, setPath, setPrior, extendPath, advance, trade, tradeAt, tradeFrom};
+ghost use Rattle.routes.specs.Side.{tableLeft, endIn, secondIn, priorIn, setPath, setPrior, extendPath, advance, trade, tradeAt, tradeFrom};
 
 // Where the last but ones start, and where the places before each place start.
 const SECONDS: usize = 33;
@@ -35,7 +35,7 @@ pub(crate) fn one_before(v: Place) -> Place
 
 // left(i, v) of a left table of n entries for each index.
 pub(crate) fn left(table: &[u16], n: u16, i: u16, v: Place) -> Place
-    ensures { λ r. ⌜ r .0 ≡ leftIn (now (table .entry)) n i (v .0) ⌝ }
+    ensures { λ r. ⌜ r .0 ≡ tableLeft (now (table .entry)) n i (v .0) ⌝ }
 {
     if i == 0 {
         return Place(0);
@@ -83,7 +83,7 @@ fn set_prior(side: &mut [u16], x: Place, prior: Place)
 
 // Path j goes on from its end v to left(j, v).
 fn extend(side: &mut [u16], table: &[u16], n: u16, v: Place, j: u16)
-    ensures { λ _. ⌜ now (side .exit) ≡ extendPath (leftIn (now (table .entry)) n) (v .0) j (now (side .entry)) ⌝ }
+    ensures { λ _. ⌜ now (side .exit) ≡ extendPath (tableLeft (now (table .entry)) n) (v .0) j (now (side .entry)) ⌝ }
 {
     let second = second_of(side, j);
     set_prior(side, v, second);
@@ -93,7 +93,7 @@ fn extend(side: &mut [u16], table: &[u16], n: u16, v: Place, j: u16)
 
 // The same where path j ends at v and the other side's path j, which ends at `other`, does not.
 pub(crate) fn go_on(side: &mut [u16], table: &[u16], n: u16, v: Place, j: u16, other: Place)
-    ensures { λ _. ⌜ now (side .exit) ≡ advance (leftIn (now (table .entry)) n) (v .0) j (other .0) (now (side .entry)) ⌝ }
+    ensures { λ _. ⌜ now (side .exit) ≡ advance (tableLeft (now (table .entry)) n) (v .0) j (other .0) (now (side .entry)) ⌝ }
 {
     let end = end_of(side, j);
     if end.0 != v.0 {
@@ -105,35 +105,35 @@ pub(crate) fn go_on(side: &mut [u16], table: &[u16], n: u16, v: Place, j: u16, o
     extend(side, table, n, v, j);
 }
 
-// Index i gets the path of index j with left(i, its last but one) as its end, and j gets the path of i.
-fn exchange(side: &mut [u16], table: &[u16], n: u16, j: u16, i: u16)
-    ensures { λ _. ⌜ now (side .exit) ≡ trade (leftIn (now (table .entry)) n) j i (now (side .entry)) ⌝ }
+// Index i, whose path ends at v, gets the path of index j with left(i, its last but one) as its end, and j gets the path of i.
+fn trade(side: &mut [u16], table: &[u16], n: u16, v: Place, j: u16, i: u16)
+    requires { ⌜ endIn (now side) i ≡ v .0 ⌝ }
+    ensures { λ _. ⌜ now (side .exit) ≡ trade (tableLeft (now (table .entry)) n) j i (now (side .entry)) ⌝ }
 {
-    let end = end_of(side, i);
     let second = second_of(side, i);
     let moved = second_of(side, j);
     let next = left(table, n, i, moved);
-    set_path(side, j, end, second);
+    set_path(side, j, v, second);
     set_path(side, i, next, moved);
 }
 
-fn exchange_at(side: &mut [u16], table: &[u16], n: u16, v: Place, j: u16, i: u16)
-    ensures { λ _. ⌜ now (side .exit) ≡ tradeAt (leftIn (now (table .entry)) n) (v .0) j i (now (side .entry)) ⌝ }
+fn trade_at(side: &mut [u16], table: &[u16], n: u16, v: Place, j: u16, i: u16)
+    ensures { λ _. ⌜ now (side .exit) ≡ tradeAt (tableLeft (now (table .entry)) n) (v .0) j i (now (side .entry)) ⌝ }
 {
     let end = end_of(side, i);
     if end.0 == v.0 {
-        exchange(side, table, n, j, i);
+        trade(side, table, n, v, j, i);
     }
 }
 
 // Going down through the indices below j, each whose path ends at v trades with j.
-pub(crate) fn make_room(side: &mut [u16], table: &[u16], n: u16, v: Place, j: u16)
+pub(crate) fn trade_below(side: &mut [u16], table: &[u16], n: u16, v: Place, j: u16)
     requires { ⌜ 0 < j ⌝ }
-    ensures { λ _. ⌜ now (side .exit) ≡ tradeFrom (leftIn (now (table .entry)) n) (v .0) j (pred j) (now (side .entry)) ⌝ }
+    ensures { λ _. ⌜ now (side .exit) ≡ tradeFrom (tableLeft (now (table .entry)) n) (v .0) j (pred j) (now (side .entry)) ⌝ }
 {
     let mut i = j - 1;
     while 0 < i {
-        exchange_at(side, table, n, v, j, i);
+        trade_at(side, table, n, v, j, i);
         i -= 1;
     }
 }

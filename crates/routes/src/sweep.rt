@@ -1,14 +1,14 @@
 // The sweep over a left table, on the lists of the two sides (`side`): A starts at s, the later place, B at t.
 ghost use mathlib.Core.Path.{_≡_};
 ghost use Prim.Native.Nat.{_<_};
-ghost use Rattle.routes.specs.Side.{leftIn};
+ghost use Rattle.routes.specs.Side.{tableLeft};
 ghost use Rattle.routes.specs.Sides.{sides, highestIn, startA, startB, leaveAt, leaveFrom, passAt, stepIn, sweepIn, sweptIn};
 use crate::side::end_of;
 use crate::side::go_on;
 use crate::side::left;
-use crate::side::make_room;
 use crate::side::one_before;
 use crate::side::set_path;
+use crate::side::trade_below;
 use network::Place;
 
 // The largest index up to k whose A-path or B-path ends at v, or 0.
@@ -30,7 +30,7 @@ fn highest(a: &[u16], b: &[u16], k: u16, v: Place) -> u16
 
 // Path i of side A starts as s, left(i, s).
 fn start_a(a: &mut [u16], table: &[u16], n: u16, k: u16, s: Place)
-    ensures { λ _. ⌜ now (a .exit) ≡ startA (leftIn (now (table .entry)) n) (s .0) k (now (a .entry)) ⌝ }
+    ensures { λ _. ⌜ now (a .exit) ≡ startA (tableLeft (now (table .entry)) n) (s .0) k (now (a .entry)) ⌝ }
 {
     let mut i = k;
     while 0 < i {
@@ -53,7 +53,7 @@ fn start_b(b: &mut [u16], k: u16, t: Place)
 
 // At t: B-path i goes on to left(i, t), unless A-path i ends there.
 fn leave_at(b: &mut [u16], a: &[u16], table: &[u16], n: u16, t: Place, i: u16)
-    ensures { λ _. ⌜ now (b .exit) ≡ leaveAt (leftIn (now (table .entry)) n) (t .0) (now (a .entry)) i (now (b .entry)) ⌝ }
+    ensures { λ _. ⌜ now (b .exit) ≡ leaveAt (tableLeft (now (table .entry)) n) (t .0) (now (a .entry)) i (now (b .entry)) ⌝ }
 {
     let end = end_of(a, i);
     if end.0 != t.0 {
@@ -63,7 +63,7 @@ fn leave_at(b: &mut [u16], a: &[u16], table: &[u16], n: u16, t: Place, i: u16)
 }
 
 fn leave(b: &mut [u16], a: &[u16], table: &[u16], n: u16, k: u16, t: Place)
-    ensures { λ _. ⌜ now (b .exit) ≡ leaveFrom (leftIn (now (table .entry)) n) (t .0) (now (a .entry)) k (now (b .entry)) ⌝ }
+    ensures { λ _. ⌜ now (b .exit) ≡ leaveFrom (tableLeft (now (table .entry)) n) (t .0) (now (a .entry)) k (now (b .entry)) ⌝ }
 {
     let mut i = k;
     while 0 < i {
@@ -72,15 +72,15 @@ fn leave(b: &mut [u16], a: &[u16], table: &[u16], n: u16, k: u16, t: Place)
     }
 }
 
-// At another place v, where j is the highest index that ends there: both sides make room for j, and its paths meet or one
-// of them goes on.
+// At another place v, where j is the highest index that ends there: both sides trade for j, and its paths meet or one of
+// them goes on.
 fn pass(a: &mut [u16], b: &mut [u16], table: &[u16], n: u16, v: Place, j: u16)
     requires { ⌜ 0 < j ⌝ }
     ensures { λ _. ⌜ sides (now (a .exit)) (now (b .exit))
-        ≡ passAt (leftIn (now (table .entry)) n) (v .0) j (now (a .entry)) (now (b .entry)) ⌝ }
+        ≡ passAt (tableLeft (now (table .entry)) n) (v .0) j (now (a .entry)) (now (b .entry)) ⌝ }
 {
-    make_room(a, table, n, v, j);
-    make_room(b, table, n, v, j);
+    trade_below(a, table, n, v, j);
+    trade_below(b, table, n, v, j);
     let end_a = end_of(a, j);
     let end_b = end_of(b, j);
     go_on(a, table, n, v, j, end_b);
@@ -89,7 +89,7 @@ fn pass(a: &mut [u16], b: &mut [u16], table: &[u16], n: u16, v: Place, j: u16)
 
 fn step(a: &mut [u16], b: &mut [u16], table: &[u16], n: u16, k: u16, t: Place, v: Place)
     ensures { λ _. ⌜ sides (now (a .exit)) (now (b .exit))
-        ≡ stepIn (leftIn (now (table .entry)) n) k (t .0) (v .0) (now (a .entry)) (now (b .entry)) ⌝ }
+        ≡ stepIn (tableLeft (now (table .entry)) n) k (t .0) (v .0) (now (a .entry)) (now (b .entry)) ⌝ }
 {
     if v.0 == t.0 {
         leave(b, a, table, n, k, t);
@@ -105,7 +105,7 @@ fn step(a: &mut [u16], b: &mut [u16], table: &[u16], n: u16, k: u16, t: Place, v
 // The steps at v, ..., 1, where v is `from`.
 fn steps(a: &mut [u16], b: &mut [u16], table: &[u16], n: u16, k: u16, t: Place, from: Place)
     ensures { λ _. ⌜ sides (now (a .exit)) (now (b .exit))
-        ≡ sweepIn (leftIn (now (table .entry)) n) k (t .0) (from .0) (now (a .entry)) (now (b .entry)) ⌝ }
+        ≡ sweepIn (tableLeft (now (table .entry)) n) k (t .0) (from .0) (now (a .entry)) (now (b .entry)) ⌝ }
 {
     let mut v = from;
     while 0 < v.0 {
@@ -118,7 +118,7 @@ fn steps(a: &mut [u16], b: &mut [u16], table: &[u16], n: u16, k: u16, t: Place, 
 pub(crate) fn sweep(a: &mut [u16], b: &mut [u16], table: &[u16], n: u16, k: u16, s: Place, t: Place)
     requires { ⌜ 0 < s .0 ⌝ }
     ensures { λ _. ⌜ sides (now (a .exit)) (now (b .exit))
-        ≡ sweptIn (leftIn (now (table .entry)) n) k (s .0) (t .0) (now (a .entry)) (now (b .entry)) ⌝ }
+        ≡ sweptIn (tableLeft (now (table .entry)) n) k (s .0) (t .0) (now (a .entry)) (now (b .entry)) ⌝ }
 {
     start_a(a, table, n, k, s);
     start_b(b, k, t);

@@ -1,7 +1,7 @@
 -- `alive` meets its contract. The loop's invariant: what is left to do gives what the whole gives. Assumes nothing.
-use Rattle.routes.proofs.BetweenTurns.{alive-turn, alive-stop, alive-end}
+use Rattle.routes.proofs.Loops.Between.{alive-turn, alive-stop, alive-end}
 use Rattle.routes.specs.Between.{aliveIn}
-use Rattle.routes.specs.Side.{leftIn}
+use Rattle.routes.specs.Side.{tableLeft}
 use native.Mathlib.Omega.{arith}
 use mathlib.Core.Path.{_≡_, refl, sym, _∙_, ap}
 use Prim.Native.Nat.{ℕ, _-_}
@@ -9,7 +9,7 @@ use Rattle.routes.proofs.between.alive.Statement.{statement}
 use Rattle.routes.proofs.between.alive.Tie as tie
 
 abbrev Inv-loop : tie.InvT-loop
-Inv-loop table n k t s v = aliveIn (leftIn table n) k (t .0) (s .0 - t .0) ≡ aliveIn (leftIn table n) k (t .0) (v .0 - t .0)
+Inv-loop table n k t s v = aliveIn (tableLeft table n) k (t .0) (s .0 - t .0) ≡ aliveIn (tableLeft table n) k (t .0) (v .0 - t .0)
 
 abbrev μ-loop : tie.MeasureT-loop
 μ-loop table n k t s v = v .0
@@ -25,7 +25,7 @@ returns c =
     let atLeft = c .before .before in
     let atLoop = atLeft .before .before .before .before in
     let a = atLoop .before .before .args in
-    sym (atLoop .loop .inv ∙ alive-stop (leftIn (a .table .now) (a .n)) (a .k) (a .t .0) (atLoop .loop .v .0) (atLeft .left .result .0)
+    sym (atLoop .loop .inv ∙ alive-stop (tableLeft (a .table .now) (a .n)) (a .k) (a .t .0) (atLoop .loop .v .0) (atLeft .left .result .0)
     (omega arith) (atLeft .left .ensures) (c .if2 .taken))
 
 one-before-requires : tie.Need-one-before-requires Inv-loop μ-loop
@@ -40,7 +40,7 @@ loop-again c =
     let atLeft = atIf2 .before .before in
     let atLoop = atLeft .before .before .before .before in
     let a = atLoop .before .before .args in
-    let look = leftIn (a .table .now) (a .n) in
+    let look = tableLeft (a .table .now) (a .n) in
     atLoop .loop .inv ∙ alive-turn look (a .k) (a .t .0) (atLoop .loop .v .0) (atLeft .left .result .0)
     (omega arith) (atLeft .left .ensures) (atIf2 .if2 .left)
     ∙ ap (λ (x : ℕ). aliveIn look (a .k) (a .t .0) (x - a .t .0)) (sym (c .one-before .ensures))
@@ -49,7 +49,7 @@ returns-2 : tie.Need-returns-2 Inv-loop μ-loop
 returns-2 c =
     let atLoop = c .before .before .before in
     let a = atLoop .before .before .args in
-    sym (atLoop .loop .inv ∙ alive-end (leftIn (a .table .now) (a .n)) (a .k) (a .t .0) (atLoop .loop .v .0) (omega arith))
+    sym (atLoop .loop .inv ∙ alive-end (tableLeft (a .table .now) (a .n)) (a .k) (a .t .0) (atLoop .loop .v .0) (omega arith))
 
 pub alive-spec : {M : Type 1} → statement M
 alive-spec =

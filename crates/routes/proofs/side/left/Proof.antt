@@ -1,6 +1,6 @@
 -- `left` meets its contract. Assumes nothing.
 use native.Mathlib.Nat.{mul-le-mul}
-use Rattle.routes.specs.Side.{leftIn}
+use Rattle.routes.specs.Side.{tableLeft}
 use borrow.Author.Tests.{eq-eqb, ne-eqb, lt-ltb, le-ltb}
 use Prim.Native.Nat.{_-_}
 use native.Mathlib.Omega.{arith}
@@ -9,17 +9,17 @@ use Rattle.routes.proofs.side.left.Statement.{statement}
 use Rattle.routes.proofs.side.left.Tie as tie
 
 returns : tie.Need-returns
-unfolding leftIn
+unfolding tableLeft
 returns c = rw (eq-eqb (c .before .before .args .i) 0 (c .if1 .taken))
 
 returns-2 : tie.Need-returns-2
-unfolding leftIn
+unfolding tableLeft
 returns-2 c =
     let a = c .before .before .before .before .args in
     rw (ne-eqb (a .i) 0 (c .before .before .if1 .left), eq-eqb (a .v .0) 0 (c .if2 .taken))
 
 returns-3 : tie.Need-returns-3
-unfolding leftIn
+unfolding tableLeft
 returns-3 c =
     let atIf1 = c .before .before .before .before in
     let a = atIf1 .before .before .args in
@@ -48,7 +48,7 @@ get-requires : tie.Need-get-requires
 get-requires c κs = search needs
 
 returns-4 : tie.Need-returns-4
-unfolding leftIn
+unfolding tableLeft
 returns-4 c =
     let atIf3 = c .before .before in
     let atIf2 = atIf3 .before .before in

@@ -1,5 +1,5 @@
 -- `highest` meets its contract. The loop's invariant: what is left to do gives what the whole gives. Assumes nothing.
-use Rattle.routes.proofs.Turns.{highest-found, highest-turn, highest-end}
+use Rattle.routes.proofs.Loops.Sweep.{highest-found, highest-turn, highest-end}
 use Rattle.routes.specs.Sides.{highestIn}
 use Rattle.routes.specs.Side.{endIn}
 use native.Mathlib.Omega.{arith}

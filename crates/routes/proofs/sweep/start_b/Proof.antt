@@ -1,5 +1,5 @@
 -- `start_b` meets its contract. The loop's invariant: what is left to do gives what the whole gives. Assumes nothing.
-use Rattle.routes.proofs.Turns.{start-b-turn, start-b-end}
+use Rattle.routes.proofs.Loops.Sweep.{start-b-turn, start-b-end}
 use Rattle.routes.specs.Sides.{startB}
 use native.Mathlib.Omega.{arith}
 use lib.ListN.{length}

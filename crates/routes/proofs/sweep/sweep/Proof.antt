@@ -1,6 +1,6 @@
 -- `sweep` meets its contract. Assumes nothing.
-use Rattle.routes.proofs.Turns.{swept}
-use Rattle.routes.specs.Side.{leftIn}
+use Rattle.routes.proofs.Loops.Sweep.{swept}
+use Rattle.routes.specs.Side.{tableLeft}
 use borrow.Author.Needs.{needs}
 use Rattle.routes.proofs.sweep.sweep.Statement.{statement}
 use Rattle.routes.proofs.sweep.sweep.Tie as tie
@@ -30,7 +30,7 @@ returns c =
     let atStartA = atStartB .before .before .before .before in
     let start = atStartA .before .before .before .before .before in
     let a = start .args in
-    swept (leftIn (a .table .now) (a .n)) (a .k) (a .s .0) (a .t .0) _ (a .a .now) (a .b .now) _ _ _ _
+    swept (tableLeft (a .table .now) (a .n)) (a .k) (a .s .0) (a .t .0) _ (a .a .now) (a .b .now) _ _ _ _
     (atSteps .before .one-before .ensures) (atStartA .start-a .ensures) (atStartB .start-b .ensures) (atSteps .steps .ensures)
 
 pub sweep-spec : {M : Type 1} → statement M

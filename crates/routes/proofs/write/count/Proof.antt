@@ -1,5 +1,5 @@
 -- `count` meets its contract. The loop's invariant: what is left to do gives what the whole gives. Assumes nothing.
-use Rattle.routes.proofs.WriteTurns.{count-stops, count-full, count-turn}
+use Rattle.routes.proofs.Loops.Write.{count-stops, count-full, count-turn}
 use Rattle.routes.specs.Writing.{chainLength}
 use native.Mathlib.Omega.{arith}
 use native.Mathlib.Nat.{zero-add}

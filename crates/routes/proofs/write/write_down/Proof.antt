@@ -1,5 +1,5 @@
 -- `write_down` meets its contract. The loop's invariant: what is left to do gives what the whole gives. Assumes nothing.
-use Rattle.routes.proofs.WriteTurns.{down-turn, down-end}
+use Rattle.routes.proofs.Loops.Write.{down-turn, down-end}
 use Rattle.routes.specs.Writing.{writeDown}
 use native.Mathlib.Omega.{arith}
 use lib.ListN.{length}

@@ -1,5 +1,5 @@
 -- `write_up` meets its contract. The loop's invariant: what is left to do gives what the whole gives. Assumes nothing.
-use Rattle.routes.proofs.WriteTurns.{up-turn, up-end}
+use Rattle.routes.proofs.Loops.Write.{up-turn, up-end}
 use Rattle.routes.specs.Writing.{writeUp}
 use native.Mathlib.Omega.{arith}
 use lib.ListN.{length}
