@@ -1,11 +1,17 @@
--- Runs of stores: one behind another, and the last store of a run first. Assumes nothing.
+-- Runs of stores: from the front, one behind another, and the last store of a run first. Assumes nothing.
 use Prim.Native.Nat.{ℕ, suc, _+_, _≤_}
 use mathlib.Core.List.{List, [], _∷_, _++_}
 use mathlib.Core.Path.{_≡_, refl, sym, _∙_}
-use native.Mathlib.Nat.{add-zero}
+use native.Mathlib.Nat.{add-zero, zero-add}
 use native.Mathlib.Omega.{arith}
 use lib.ListN.{length, set}
-use lib.Seq.{sets, set-comm}
+use lib.Seq.{sets, sets-eq, set-comm}
+use Rattle.definitions.specs.Lists.{overwrite}
+
+-- A run from the front is written over the list.
+pub sets-overwrite : (new old : List ℕ) → length new ≤ length old → sets old 0 new ≡ overwrite new old
+unfolding overwrite
+sets-overwrite new old h = sets-eq new old 0 (omega arith) ∙ rw (zero-add (length new))
 
 -- A run of stores, and another behind it.
 pub sets-append : (s t l : List ℕ) (i : ℕ) → sets l i (s ++ t) ≡ sets (sets l i s) (i + length s) t

@@ -1,10 +1,10 @@
 -- Entries and lengths of a `table`, of a list of zeros and of an overwritten list.
-use Prim.Native.Nat.{ℕ, zero, suc, _+_, _-_, _≤_, _<_}
+use Prim.Native.Nat.{ℕ, zero, suc, _+_, _≤_, _<_}
 use mathlib.Core.List.{List}
 use mathlib.Core.Path.{_≡_, refl, sym, _∙_, ap}
 use native.Mathlib.Nat.{add-zero}
 use native.Mathlib.Omega.{arith}
-use lib.ListN.{length, getD, drop, length-append, length-drop}
+use lib.ListN.{length, getD, drop, replicate, length-append, length-drop}
 use Rattle.definitions.specs.Lists.{table, overwrite}
 
 pub length-table : {A : Type 0} (f : ℕ → A) (i count : ℕ) → length (table f i count) ≡ count
@@ -19,6 +19,11 @@ getD-table f i (suc count) zero d h = ap f (sym (add-zero i))
 getD-table f i (suc count) (suc j) d h =
     let e : i + 1 + j ≡ i + suc j = omega arith in
     getD-table f (i + 1) count j d (omega arith) ∙ ap f e
+
+pub getD-zeros : (count i : ℕ) → _≡_ {A = ℕ} (getD (replicate count 0) i 0) 0
+getD-zeros zero i = refl
+getD-zeros (suc count) zero = refl
+getD-zeros (suc count) (suc i) = getD-zeros count i
 
 pub length-overwrite : (new old : List ℕ) → length new ≤ length old → length (overwrite new old) ≡ length old
 unfolding overwrite

@@ -1,21 +1,11 @@
--- Laws that the functions' proofs share.
-pub mod Turns
-pub mod WriteTurns
-pub mod Held
-pub mod Trades
-pub mod Shifts
-pub mod Shifting
-pub mod Advancing
-pub mod Readiness
-pub mod Slots
-pub mod Leaving
-pub mod Stepping
-pub mod Swept
-pub mod Stores
-pub mod WrittenOut
-pub mod Routed
-pub mod BetweenTurns
-pub mod OneTree
-pub mod Answered
-pub mod Answering
-pub mod RouteAnswers
+-- Why Route's code gives the definition's routes. From the definition down to the code, a folder for each step:
+--   definitions/Sweep has the sweep on paths, as lists of places; theory/SweepTrades has its exchange as trades, one by one.
+--   Paths: the sweep on the two sides' lists (specs/Side, specs/Sides) keeps lists that hold the paths of the definition.
+--   Routes: what is written out of such lists (specs/Writing, specs/Between) are the definition's routes.
+--   Answers: over the left table of an accepted network that is Route's answer; the test of one tree decides refusal 13.
+--   Loops: each loop and each row of calls of the code does what specs/ says. The proofs of the functions rest on it; they stand
+--   in the folders that have the names of the source's modules.
+pub mod Paths
+pub mod Routes
+pub mod Answers
+pub mod Loops

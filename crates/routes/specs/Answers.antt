@@ -10,14 +10,14 @@ use lib.ListN.{length, getD}
 use Rattle.definitions.specs.Outcome.{pick, refused, done, Answer, refuseIf}
 use Rattle.definitions.specs.Lists.{overwrite, outside, joinAll}
 use Rattle.definitions.specs.Network.{Accepted}
-use Rattle.definitions.specs.Order.{orderOf, placesOf}
 use Rattle.definitions.specs.Route.{routesOf, endsInOneTree}
 use Rattle.network.specs.Answers.{refusalOf}
+use Rattle.forests.specs.Scan.{Scanned}
 use Rattle.forests.specs.Left.{LeftTable}
 use Rattle.routes.specs.declared.RouteAnswer.{RouteAnswer}
 use Rattle.routes.specs.declared.RouteAnswer.the-variants.{Written}
 use Rattle.routes.specs.Side.{NoPaths}
-use Rattle.routes.specs.Between.{joinedIn, betweenIn}
+use Rattle.routes.specs.Between.{oneTreeIn, betweenIn}
 
 -- The count of relays written, or a refusal.
 abbrev pub routeOutcome : RouteAnswer → Answer
@@ -26,11 +26,11 @@ routeOutcome (RouteAnswer.Refused refusal) = refusalOf refusal
 
 -- 9 to 12, from the lengths of the three lists.
 unfoldable pub wishCheck : ℕ → ℕ → ℕ → ℕ → ℕ → ℕ → ℕ → Answer
-wishCheck n k from to counts relays scratch =
+wishCheck n k from to countsLength relaysLength scratchLength =
     refuseIf (outside 1 32 k) 9 0
     (refuseIf (leb n from || leb n to) 10 0
     (refuseIf (eqb from to) 11 0
-    (refuseIf (ltb counts k || (ltb relays (n - 2 + 2 * k) || ltb scratch (k * n))) 12 0
+    (refuseIf (ltb countsLength k || (ltb relaysLength (n - 2 + 2 * k) || ltb scratchLength (k * n))) 12 0
     (done []))))
 
 -- The two lists afterwards, and the answer.
@@ -46,7 +46,7 @@ answered counts relays answer = record { countList = counts; relayList = relays;
 unfoldable pub answerIn : List ℕ → List ℕ → (ℕ → ℕ → ℕ) → ℕ → ℕ → ℕ → List ℕ → List ℕ → List ℕ → Answered
 answerIn a b left k p q order counts relays =
     let all = betweenIn a b left k p q order counts relays in
-    pick (joinedIn left k p q) (answered (all .countList) (all .relayList) (done (all .upto ∷ []))) (answered counts relays (refused 13 0))
+    pick (oneTreeIn left k p q) (answered (all .countList) (all .relayList) (done (all .upto ∷ []))) (answered counts relays (refused 13 0))
 
 -- The same as the definition has it.
 unfoldable pub treeAnswer : ℕ → List ℕ → List ℕ → ℕ → ℕ → ℕ → List ℕ → List ℕ → Answered
@@ -69,7 +69,7 @@ pub record Routable (n : ℕ) (lows highs : List ℕ) (k from to : ℕ) (counts 
   pub scratchRoom : k * n ≤ length scratch
 
 -- Lists with room for the work on n relays and the links of `lows`: the order and the sides are zeros.
-pub record Workspace (n : ℕ) (lows order places numbers a b : List ℕ) : Type 0 where
+pub record RouteArrays (n : ℕ) (lows order places numbers a b : List ℕ) : Type 0 where
   pub relayRoom : n ≤ length order
   pub placeRoom : n ≤ length places
   pub linkRoom : length lows ≤ length numbers
@@ -77,8 +77,7 @@ pub record Workspace (n : ℕ) (lows order places numbers a b : List ℕ) : Type
   pub noA : NoPaths n a
   pub noB : NoPaths n b
 
--- The order, the places and the left table made.
-pub record Prepared (n k : ℕ) (lows highs order order′ places places′ table table′ : List ℕ) : Type 0 where
-  pub theOrder : order′ ≡ overwrite (orderOf n lows highs) order
-  pub thePlaces : places′ ≡ overwrite (placesOf n (orderOf n lows highs)) places
+-- What the scan gives, and the left table made from it.
+pub record Prepared (n k : ℕ) (lows highs order order′ places places′ numbers numbers′ table table′ : List ℕ) : Type 0 where
+  pub scanned : Scanned n lows highs order order′ places places′ numbers numbers′
   pub theTable : LeftTable n k lows highs table table′

@@ -12,22 +12,15 @@ unfoldable pub aliveIn : (ℕ → ℕ → ℕ) → ℕ → ℕ → ℕ → Bool
 aliveIn left k t zero = true
 aliveIn left k t (suc gap) = pick (eqb (left k (t + suc gap)) 0) false (aliveIn left k t gap)
 
--- The same for the places after the earlier of p and q, up to the later.
-unfoldable pub joinedIn : (ℕ → ℕ → ℕ) → ℕ → ℕ → ℕ → Bool
-joinedIn left k p q = pick (ltb q p) (aliveIn left k q (p - q)) (aliveIn left k p (q - p))
+-- The test of one tree: the same for the places after the earlier of p and q, up to the later.
+unfoldable pub oneTreeIn : (ℕ → ℕ → ℕ) → ℕ → ℕ → ℕ → Bool
+oneTreeIn left k p q = pick (ltb q p) (aliveIn left k q (p - q)) (aliveIn left k p (q - p))
 
--- The routes from s down to t, and those from t up to s, swept on the sides a and b.
-unfoldable pub fallIn : List ℕ → List ℕ → (ℕ → ℕ → ℕ) → ℕ → ℕ → ℕ → List ℕ → List ℕ → List ℕ → Written
-fallIn a b left k s t order counts relays =
-    let both = sweptIn left k s t a b in
-    writeFrom (both .sideA) (both .sideB) order k 0 0 counts relays
-
-unfoldable pub riseIn : List ℕ → List ℕ → (ℕ → ℕ → ℕ) → ℕ → ℕ → ℕ → List ℕ → List ℕ → List ℕ → Written
-riseIn a b left k s t order counts relays =
-    let both = sweptIn left k s t a b in
-    writeFrom (both .sideB) (both .sideA) order k 0 0 counts relays
-
--- The routes from p to q.
+-- The routes from p to q: swept on the sides a and b from the later of the two, written from p on.
 unfoldable pub betweenIn : List ℕ → List ℕ → (ℕ → ℕ → ℕ) → ℕ → ℕ → ℕ → List ℕ → List ℕ → List ℕ → Written
 betweenIn a b left k p q order counts relays =
-    pick (ltb q p) (fallIn a b left k p q order counts relays) (riseIn a b left k q p order counts relays)
+    let falls = sweptIn left k p q a b in
+    let rises = sweptIn left k q p a b in
+    pick (ltb q p)
+    (writeFrom (falls .sideA) (falls .sideB) order k 0 0 counts relays)
+    (writeFrom (rises .sideB) (rises .sideA) order k 0 0 counts relays)

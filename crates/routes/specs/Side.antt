@@ -1,39 +1,52 @@
--- The paths of one side of the sweep, A or B, in one list: entry i is the end of path i, entry 33 + i its last but one, and
--- entry 66 + x the relay before x on its path; 0 means none. What the functions on a side do to it. Assumes nothing.
-use Prim.Native.Nat.{ℕ, zero, suc, _+_, _-_, _*_, _<_}
+-- The paths of one side of the sweep, A or B, in one list of places: entry i is the end of path i, entry secondStart + i its
+-- last but one, and entry priorStart + x the place before x on its path; 0 means none. What the functions on a side do to it.
+-- Assumes nothing.
+use Prim.Native.Nat.{ℕ, zero, suc, _+_, _<_}
 use mathlib.Core.List.{List}
 use mathlib.Core.Path.{_≡_}
 use lib.Dec.{eqb, ltb}
 use lib.ListN.{length, getD, set}
 use Rattle.definitions.specs.Outcome.{pick}
+use Rattle.forests.specs.Left.{leftIndex}
 
--- Entry (i − 1) × n + (v − 1) of a left table, i and v from 1, v up to n; 0 for any other.
-unfoldable pub leftIn : List ℕ → ℕ → ℕ → ℕ → ℕ
-leftIn table n i v =
-    pick (eqb i 0) 0 (pick (eqb v 0) 0 (pick (ltb n v) 0 (getD table ((i - 1) * n + (v - 1)) 0)))
+-- left(i, v) as a left table has it, i and v from 1, v up to n; 0 for any other.
+unfoldable pub tableLeft : List ℕ → ℕ → ℕ → ℕ → ℕ
+tableLeft table n i v =
+    pick (eqb i 0) 0 (pick (eqb v 0) 0 (pick (ltb n v) 0 (getD table (leftIndex n i v) 0)))
 
--- The end of path i, its last but one, and the relay before x.
+-- Where the last but ones start, behind the ends of the indices 0 to 32, and where the places before each place start.
+abbrev pub secondStart : ℕ
+secondStart = 33
+
+abbrev pub priorStart : ℕ
+priorStart = 66
+
+-- The end of path i, its last but one, and the place before x.
 unfoldable pub endIn : List ℕ → ℕ → ℕ
 endIn side i = getD side i 0
 
 unfoldable pub secondIn : List ℕ → ℕ → ℕ
-secondIn side i = getD side (33 + i) 0
+secondIn side i = getD side (secondStart + i) 0
 
 unfoldable pub priorIn : List ℕ → ℕ → ℕ
-priorIn side x = getD side (66 + x) 0
+priorIn side x = getD side (priorStart + x) 0
 
 -- A side with room for the places up to n, and no path yet.
 pub record NoPaths (n : ℕ) (side : List ℕ) : Type 0 where
-  pub room : 66 + n < length side
+  pub room : priorStart + n < length side
   pub none : (i : ℕ) → getD side i 0 ≡ 0
 
 -- The side after a new end and last but one for path i.
 unfoldable pub setPath : List ℕ → ℕ → ℕ → ℕ → List ℕ
-setPath side i end second = set (set side i end) (33 + i) second
+setPath side i end second = set (set side i end) (secondStart + i) second
+
+-- The side with another place before x.
+unfoldable pub setPrior : List ℕ → ℕ → ℕ → List ℕ
+setPrior side x prior = set side (priorStart + x) prior
 
 -- Path j goes on from its end v to left(j, v).
 unfoldable pub extendPath : (ℕ → ℕ → ℕ) → ℕ → ℕ → List ℕ → List ℕ
-extendPath left v j side = setPath (set side (66 + v) (secondIn side j)) j (left j v) v
+extendPath left v j side = setPath (setPrior side v (secondIn side j)) j (left j v) v
 
 -- The same where path j ends at v and the other side's path j, which ends at `other`, does not.
 unfoldable pub advance : (ℕ → ℕ → ℕ) → ℕ → ℕ → ℕ → List ℕ → List ℕ

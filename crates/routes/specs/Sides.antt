@@ -36,7 +36,7 @@ unfoldable pub leaveFrom : (ℕ → ℕ → ℕ) → ℕ → List ℕ → ℕ �
 leaveFrom left t a zero b = b
 leaveFrom left t a (suc i) b = leaveFrom left t a i (leaveAt left t a (suc i) b)
 
--- At v both sides make room for j, and its two paths meet or go on.
+-- At v both sides trade for j, and its two paths meet or go on.
 unfoldable pub passAt : (ℕ → ℕ → ℕ) → ℕ → ℕ → List ℕ → List ℕ → Sides
 passAt left v j a b =
     let a′ = tradeFrom left v j (pred j) a in

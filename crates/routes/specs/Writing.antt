@@ -31,15 +31,15 @@ writeUp side order at (suc count) x relays =
 
 -- How many relays route i has.
 unfoldable pub routeLength : List ℕ → List ℕ → ℕ → ℕ
-routeLength first second i = countIn first i + 1 + countIn second i
+routeLength front back i = countIn front i + 1 + countIn back i
 
--- Route i, written from `from` on: the first side's path down from the meeting relay, the second side's up from it.
+-- Route i, written from `from` on: the front side's path down from the meeting relay, the back side's up from it.
 unfoldable pub writeRoute : List ℕ → List ℕ → List ℕ → ℕ → ℕ → List ℕ → List ℕ
-writeRoute first second order i from relays =
-    let count = countIn first i in
-    let low = writeDown first order from count (secondIn first i) relays in
-    let met = set low (from + count) (relayAt order (endIn first i)) in
-    writeUp second order (from + count + 1) (countIn second i) (secondIn second i) met
+writeRoute front back order i from relays =
+    let count = countIn front i in
+    let low = writeDown front order from count (secondIn front i) relays in
+    let met = set low (from + count) (relayAt order (endIn front i)) in
+    writeUp back order (from + count + 1) (countIn back i) (secondIn back i) met
 
 -- The lists of counts and relays, and how many relays have been written.
 pub record Written : Type 0 where
@@ -52,8 +52,8 @@ written counts relays upto = record { countList = counts; relayList = relays; up
 
 -- The `more` routes after route i, written from `from` on.
 unfoldable pub writeFrom : List ℕ → List ℕ → List ℕ → ℕ → ℕ → ℕ → List ℕ → List ℕ → Written
-writeFrom first second order zero i from counts relays = written counts relays from
-writeFrom first second order (suc more) i from counts relays =
-    let length = routeLength first second (i + 1) in
-    writeFrom first second order more (i + 1) (from + length) (set counts i length)
-    (writeRoute first second order (i + 1) from relays)
+writeFrom front back order zero i from counts relays = written counts relays from
+writeFrom front back order (suc more) i from counts relays =
+    let length = routeLength front back (i + 1) in
+    writeFrom front back order more (i + 1) (from + length) (set counts i length)
+    (writeRoute front back order (i + 1) from relays)

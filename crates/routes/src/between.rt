@@ -1,85 +1,42 @@
 // The routes between two places, over a left table.
 ghost use mathlib.Core.Path.{_≡_};
 ghost use Prim.Native.Nat.{_-_, _<_, _≤_};
-ghost use Rattle.routes.specs.Side.{leftIn};
+ghost use Rattle.routes.specs.Side.{tableLeft};
 ghost use Rattle.routes.specs.Writing.{written};
-ghost use Rattle.routes.specs.Between.{aliveIn, joinedIn, fallIn, riseIn, betweenIn};
+ghost use Rattle.routes.specs.Between.{aliveIn, oneTreeIn, betweenIn};
 use crate::side::left;
+use crate::side::one_before;
 use crate::sweep::sweep;
 use crate::write::write_routes;
 use network::Place;
 
 // Each place after t up to s has a left entry of index k.
-fn alive(table: &[u16], n: u16, k: u16, t: u16, s: u16) -> bool
-    requires { ⌜ t ≤ s ⌝ }
-    ensures { λ r. ⌜ r ≡ aliveIn (leftIn (now (table .entry)) n) k t (s - t) ⌝ }
+fn alive(table: &[u16], n: u16, k: u16, t: Place, s: Place) -> bool
+    requires { ⌜ t .0 ≤ s .0 ⌝ }
+    ensures { λ r. ⌜ r ≡ aliveIn (tableLeft (now (table .entry)) n) k (t .0) (s .0 - t .0) ⌝ }
 {
     let mut v = s;
-    while t < v {
-        if left(table, n, k, v) == 0 {
+    while t.0 < v.0 {
+        if left(table, n, k, v).0 == 0 {
             return false;
         }
-        v -= 1;
+        v = one_before(v);
     }
     true
 }
 
 // p and q are in one tree of forest k.
-pub(crate) fn joined(table: &[u16], n: u16, k: u16, p: Place, q: Place) -> bool
-    ensures { λ r. ⌜ r ≡ joinedIn (leftIn (now (table .entry)) n) k (p .0) (q .0) ⌝ }
+pub(crate) fn one_tree(table: &[u16], n: u16, k: u16, p: Place, q: Place) -> bool
+    ensures { λ r. ⌜ r ≡ oneTreeIn (tableLeft (now (table .entry)) n) k (p .0) (q .0) ⌝ }
 {
     if q.0 < p.0 {
-        alive(table, n, k, q.0, p.0)
+        alive(table, n, k, q, p)
     } else {
-        alive(table, n, k, p.0, q.0)
+        alive(table, n, k, p, q)
     }
 }
 
-// The routes from s down to t, swept on the sides a and b.
-fn fall(
-    a: &mut [u16],
-    b: &mut [u16],
-    table: &[u16],
-    n: u16,
-    k: u16,
-    s: Place,
-    t: Place,
-    order: &[u16],
-    counts: &mut [u16],
-    relays: &mut [u16],
-) -> usize
-    requires { ⌜ (0 < s .0) × (k ≤ 32) ⌝ }
-    ensures { λ r. ⌜ written (now (counts .exit)) (now (relays .exit)) r
-        ≡ fallIn (now (a .entry)) (now (b .entry)) (leftIn (now (table .entry)) n) k (s .0) (t .0) (now (order .entry))
-        (now (counts .entry)) (now (relays .entry)) ⌝ }
-{
-    sweep(a, b, table, n, k, s.0, t.0);
-    write_routes(counts, relays, a, b, order, k)
-}
-
-// The routes from t up to s.
-fn rise(
-    a: &mut [u16],
-    b: &mut [u16],
-    table: &[u16],
-    n: u16,
-    k: u16,
-    s: Place,
-    t: Place,
-    order: &[u16],
-    counts: &mut [u16],
-    relays: &mut [u16],
-) -> usize
-    requires { ⌜ (0 < s .0) × (k ≤ 32) ⌝ }
-    ensures { λ r. ⌜ written (now (counts .exit)) (now (relays .exit)) r
-        ≡ riseIn (now (a .entry)) (now (b .entry)) (leftIn (now (table .entry)) n) k (s .0) (t .0) (now (order .entry))
-        (now (counts .entry)) (now (relays .entry)) ⌝ }
-{
-    sweep(a, b, table, n, k, s.0, t.0);
-    write_routes(counts, relays, b, a, order, k)
-}
-
-// The routes from p to q. Gives the number of relays written.
+// The routes from p to q: swept from the later of the two, written from p on. Gives the number of relays written.
 pub(crate) fn between(
     a: &mut [u16],
     b: &mut [u16],
@@ -94,12 +51,14 @@ pub(crate) fn between(
 ) -> usize
     requires { ⌜ (0 < p .0) × (0 < q .0) × (k ≤ 32) ⌝ }
     ensures { λ r. ⌜ written (now (counts .exit)) (now (relays .exit)) r
-        ≡ betweenIn (now (a .entry)) (now (b .entry)) (leftIn (now (table .entry)) n) k (p .0) (q .0) (now (order .entry))
+        ≡ betweenIn (now (a .entry)) (now (b .entry)) (tableLeft (now (table .entry)) n) k (p .0) (q .0) (now (order .entry))
         (now (counts .entry)) (now (relays .entry)) ⌝ }
 {
     if q.0 < p.0 {
-        fall(a, b, table, n, k, p, q, order, counts, relays)
+        sweep(a, b, table, n, k, p, q);
+        write_routes(counts, relays, a, b, order, k)
     } else {
-        rise(a, b, table, n, k, q, p, order, counts, relays)
+        sweep(a, b, table, n, k, q, p);
+        write_routes(counts, relays, b, a, order, k)
     }
 }

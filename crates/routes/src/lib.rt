@@ -1,7 +1,7 @@
 // Route of document 01: the sweep over the left table of a network, and the routes written out. What its answer stands for
 // is said in specs/Answers.antt.
 use between::between;
-use between::joined;
+use between::one_tree;
 use forests::clear::clear;
 use forests::left::left_table;
 use forests::scan::is_small;
@@ -13,20 +13,20 @@ use network::Refusal;
 use network::Relay;
 use network::table_check;
 use wish::wish_check;
-use zeros::few_links;
-use zeros::few_paths;
-use zeros::few_relays;
-use zeros::no_links;
-use zeros::no_paths;
-use zeros::no_relays;
+use zeros::side_for_128_relays;
+use zeros::side_for_1000_relays;
+use zeros::zeros_for_128_relays;
+use zeros::zeros_for_384_links;
+use zeros::zeros_for_1000_relays;
+use zeros::zeros_for_3000_links;
 ghost use mathlib.Core.Path.{_≡_};
 ghost use Prim.Native.Nat.{ℕ, _*_, _≤_, _<_};
 ghost use lib.ListN.{length, getD};
 ghost use Rattle.definitions.specs.Lists.{zeroed};
 ghost use Rattle.definitions.specs.Route.{routeAnswer, countsAfter, routeRelaysAfter, scratchAfter};
 ghost use Rattle.forests.specs.Scan.{Scannable};
-ghost use Rattle.routes.specs.Side.{leftIn};
-ghost use Rattle.routes.specs.Answers.{routeOutcome, answered, answerIn, treeAnswer, Routable, Workspace, Prepared};
+ghost use Rattle.routes.specs.Side.{tableLeft};
+ghost use Rattle.routes.specs.Answers.{routeOutcome, answered, answerIn, treeAnswer, Routable, RouteArrays, Prepared};
 
 mod between;
 mod side;
@@ -55,7 +55,8 @@ fn prepare(
     requires { ⌜ Scannable n (now lows) (now highs) (now order) (now places) (now numbers) ⌝ }
     requires { ⌜ (k * n ≤ length (now table)) × ((j : ℕ) → j < k * n → getD (now table) j 0 ≡ 0) ⌝ }
     ensures { λ _. ⌜ Prepared n k (now (lows .entry)) (now (highs .entry)) (now (order .entry)) (now (order .exit))
-        (now (places .entry)) (now (places .exit)) (now (table .entry)) (now (table .exit)) ⌝ }
+        (now (places .entry)) (now (places .exit)) (now (numbers .entry)) (now (numbers .exit)) (now (table .entry))
+        (now (table .exit)) ⌝ }
 {
     scan(n, lows, highs, order, places, numbers);
     left_table(table, n, k, lows, highs, places, numbers);
@@ -76,10 +77,10 @@ fn answer(
 ) -> RouteAnswer
     requires { ⌜ (0 < p .0) × (0 < q .0) × (k ≤ 32) ⌝ }
     ensures { λ r. ⌜ answered (now (counts .exit)) (now (relays .exit)) (routeOutcome r)
-        ≡ answerIn (now (a .entry)) (now (b .entry)) (leftIn (now (table .entry)) n) k (p .0) (q .0) (now (order .entry))
+        ≡ answerIn (now (a .entry)) (now (b .entry)) (tableLeft (now (table .entry)) n) k (p .0) (q .0) (now (order .entry))
         (now (counts .entry)) (now (relays .entry)) ⌝ }
 {
-    if joined(table, n, k, p, q) {
+    if one_tree(table, n, k, p, q) {
         return RouteAnswer::Written(between(a, b, table, n, k, p, q, order, counts, relays));
     }
     RouteAnswer::Refused(Refusal::NotOneTree)
@@ -103,7 +104,7 @@ fn route_in(
     scratch: &mut [u16],
 ) -> RouteAnswer
     requires { ⌜ Routable n (now lows) (now highs) k from to (now counts) (now relays) (now scratch)
-        × Workspace n (now lows) (now order) (now places) (now numbers) (now a) (now b) ⌝ }
+        × RouteArrays n (now lows) (now order) (now places) (now numbers) (now a) (now b) ⌝ }
     ensures { λ r. ⌜ answered (now (counts .exit)) (now (relays .exit)) (routeOutcome r)
         ≡ treeAnswer n (now (lows .entry)) (now (highs .entry)) k from to (now (counts .entry)) (now (relays .entry)) ⌝ }
     ensures { λ _. ⌜ now (scratch .exit) ≡ zeroed (now (scratch .entry)) ⌝ }
@@ -137,11 +138,11 @@ fn route_small(
         ≡ treeAnswer n (now (lows .entry)) (now (highs .entry)) k from to (now (counts .entry)) (now (relays .entry)) ⌝ }
     ensures { λ _. ⌜ now (scratch .exit) ≡ zeroed (now (scratch .entry)) ⌝ }
 {
-    let mut order = few_relays();
-    let mut places = few_relays();
-    let mut numbers = few_links();
-    let mut a = few_paths();
-    let mut b = few_paths();
+    let mut order = zeros_for_128_relays();
+    let mut places = zeros_for_128_relays();
+    let mut numbers = zeros_for_384_links();
+    let mut a = side_for_128_relays();
+    let mut b = side_for_128_relays();
     route_in(
         n,
         lows,
@@ -177,11 +178,11 @@ fn route_large(
         ≡ treeAnswer n (now (lows .entry)) (now (highs .entry)) k from to (now (counts .entry)) (now (relays .entry)) ⌝ }
     ensures { λ _. ⌜ now (scratch .exit) ≡ zeroed (now (scratch .entry)) ⌝ }
 {
-    let mut order = no_relays();
-    let mut places = no_relays();
-    let mut numbers = no_links();
-    let mut a = no_paths();
-    let mut b = no_paths();
+    let mut order = zeros_for_1000_relays();
+    let mut places = zeros_for_1000_relays();
+    let mut numbers = zeros_for_3000_links();
+    let mut a = side_for_1000_relays();
+    let mut b = side_for_1000_relays();
     route_in(
         n,
         lows,

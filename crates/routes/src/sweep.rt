@@ -1,24 +1,26 @@
 // The sweep over a left table, on the lists of the two sides (`side`): A starts at s, the later place, B at t.
 ghost use mathlib.Core.Path.{_≡_};
 ghost use Prim.Native.Nat.{_<_};
-ghost use Rattle.routes.specs.Side.{leftIn};
+ghost use Rattle.routes.specs.Side.{tableLeft};
 ghost use Rattle.routes.specs.Sides.{sides, highestIn, startA, startB, leaveAt, leaveFrom, passAt, stepIn, sweepIn, sweptIn};
 use crate::side::end_of;
 use crate::side::go_on;
 use crate::side::left;
-use crate::side::make_room;
+use crate::side::one_before;
 use crate::side::set_path;
+use crate::side::trade_below;
+use network::Place;
 
 // The largest index up to k whose A-path or B-path ends at v, or 0.
-fn highest(a: &[u16], b: &[u16], k: u16, v: u16) -> u16
-    ensures { λ r. ⌜ r ≡ highestIn k v (now (a .entry)) (now (b .entry)) ⌝ }
+fn highest(a: &[u16], b: &[u16], k: u16, v: Place) -> u16
+    ensures { λ r. ⌜ r ≡ highestIn k (v .0) (now (a .entry)) (now (b .entry)) ⌝ }
 {
     let mut i = k;
     while 0 < i {
-        if end_of(a, i) == v {
+        if end_of(a, i).0 == v.0 {
             return i;
         }
-        if end_of(b, i) == v {
+        if end_of(b, i).0 == v.0 {
             return i;
         }
         i -= 1;
@@ -27,8 +29,8 @@ fn highest(a: &[u16], b: &[u16], k: u16, v: u16) -> u16
 }
 
 // Path i of side A starts as s, left(i, s).
-fn start_a(a: &mut [u16], table: &[u16], n: u16, k: u16, s: u16)
-    ensures { λ _. ⌜ now (a .exit) ≡ startA (leftIn (now (table .entry)) n) s k (now (a .entry)) ⌝ }
+fn start_a(a: &mut [u16], table: &[u16], n: u16, k: u16, s: Place)
+    ensures { λ _. ⌜ now (a .exit) ≡ startA (tableLeft (now (table .entry)) n) (s .0) k (now (a .entry)) ⌝ }
 {
     let mut i = k;
     while 0 < i {
@@ -39,29 +41,29 @@ fn start_a(a: &mut [u16], table: &[u16], n: u16, k: u16, s: u16)
 }
 
 // Path i of side B starts as t alone.
-fn start_b(b: &mut [u16], k: u16, t: u16)
-    ensures { λ _. ⌜ now (b .exit) ≡ startB t k (now (b .entry)) ⌝ }
+fn start_b(b: &mut [u16], k: u16, t: Place)
+    ensures { λ _. ⌜ now (b .exit) ≡ startB (t .0) k (now (b .entry)) ⌝ }
 {
     let mut i = k;
     while 0 < i {
-        set_path(b, i, t, 0);
+        set_path(b, i, t, Place(0));
         i -= 1;
     }
 }
 
 // At t: B-path i goes on to left(i, t), unless A-path i ends there.
-fn leave_at(b: &mut [u16], a: &[u16], table: &[u16], n: u16, t: u16, i: u16)
-    ensures { λ _. ⌜ now (b .exit) ≡ leaveAt (leftIn (now (table .entry)) n) t (now (a .entry)) i (now (b .entry)) ⌝ }
+fn leave_at(b: &mut [u16], a: &[u16], table: &[u16], n: u16, t: Place, i: u16)
+    ensures { λ _. ⌜ now (b .exit) ≡ leaveAt (tableLeft (now (table .entry)) n) (t .0) (now (a .entry)) i (now (b .entry)) ⌝ }
 {
     let end = end_of(a, i);
-    if end != t {
+    if end.0 != t.0 {
         let next = left(table, n, i, t);
         set_path(b, i, next, t);
     }
 }
 
-fn leave(b: &mut [u16], a: &[u16], table: &[u16], n: u16, k: u16, t: u16)
-    ensures { λ _. ⌜ now (b .exit) ≡ leaveFrom (leftIn (now (table .entry)) n) t (now (a .entry)) k (now (b .entry)) ⌝ }
+fn leave(b: &mut [u16], a: &[u16], table: &[u16], n: u16, k: u16, t: Place)
+    ensures { λ _. ⌜ now (b .exit) ≡ leaveFrom (tableLeft (now (table .entry)) n) (t .0) (now (a .entry)) k (now (b .entry)) ⌝ }
 {
     let mut i = k;
     while 0 < i {
@@ -70,26 +72,26 @@ fn leave(b: &mut [u16], a: &[u16], table: &[u16], n: u16, k: u16, t: u16)
     }
 }
 
-// At another place v, where j is the highest index that ends there: both sides make room for j, and its paths meet or one
-// of them goes on.
-fn pass(a: &mut [u16], b: &mut [u16], table: &[u16], n: u16, v: u16, j: u16)
+// At another place v, where j is the highest index that ends there: both sides trade for j, and its paths meet or one of
+// them goes on.
+fn pass(a: &mut [u16], b: &mut [u16], table: &[u16], n: u16, v: Place, j: u16)
     requires { ⌜ 0 < j ⌝ }
     ensures { λ _. ⌜ sides (now (a .exit)) (now (b .exit))
-        ≡ passAt (leftIn (now (table .entry)) n) v j (now (a .entry)) (now (b .entry)) ⌝ }
+        ≡ passAt (tableLeft (now (table .entry)) n) (v .0) j (now (a .entry)) (now (b .entry)) ⌝ }
 {
-    make_room(a, table, n, v, j);
-    make_room(b, table, n, v, j);
+    trade_below(a, table, n, v, j);
+    trade_below(b, table, n, v, j);
     let end_a = end_of(a, j);
     let end_b = end_of(b, j);
     go_on(a, table, n, v, j, end_b);
     go_on(b, table, n, v, j, end_a);
 }
 
-fn step(a: &mut [u16], b: &mut [u16], table: &[u16], n: u16, k: u16, t: u16, v: u16)
+fn step(a: &mut [u16], b: &mut [u16], table: &[u16], n: u16, k: u16, t: Place, v: Place)
     ensures { λ _. ⌜ sides (now (a .exit)) (now (b .exit))
-        ≡ stepIn (leftIn (now (table .entry)) n) k t v (now (a .entry)) (now (b .entry)) ⌝ }
+        ≡ stepIn (tableLeft (now (table .entry)) n) k (t .0) (v .0) (now (a .entry)) (now (b .entry)) ⌝ }
 {
-    if v == t {
+    if v.0 == t.0 {
         leave(b, a, table, n, k, t);
         return;
     }
@@ -101,24 +103,24 @@ fn step(a: &mut [u16], b: &mut [u16], table: &[u16], n: u16, k: u16, t: u16, v: 
 }
 
 // The steps at v, ..., 1, where v is `from`.
-fn steps(a: &mut [u16], b: &mut [u16], table: &[u16], n: u16, k: u16, t: u16, from: u16)
+fn steps(a: &mut [u16], b: &mut [u16], table: &[u16], n: u16, k: u16, t: Place, from: Place)
     ensures { λ _. ⌜ sides (now (a .exit)) (now (b .exit))
-        ≡ sweepIn (leftIn (now (table .entry)) n) k t from (now (a .entry)) (now (b .entry)) ⌝ }
+        ≡ sweepIn (tableLeft (now (table .entry)) n) k (t .0) (from .0) (now (a .entry)) (now (b .entry)) ⌝ }
 {
     let mut v = from;
-    while 0 < v {
+    while 0 < v.0 {
         step(a, b, table, n, k, t, v);
-        v -= 1;
+        v = one_before(v);
     }
 }
 
 // The whole sweep: from the start through the steps at s - 1, ..., 1.
-pub(crate) fn sweep(a: &mut [u16], b: &mut [u16], table: &[u16], n: u16, k: u16, s: u16, t: u16)
-    requires { ⌜ 0 < s ⌝ }
+pub(crate) fn sweep(a: &mut [u16], b: &mut [u16], table: &[u16], n: u16, k: u16, s: Place, t: Place)
+    requires { ⌜ 0 < s .0 ⌝ }
     ensures { λ _. ⌜ sides (now (a .exit)) (now (b .exit))
-        ≡ sweptIn (leftIn (now (table .entry)) n) k s t (now (a .entry)) (now (b .entry)) ⌝ }
+        ≡ sweptIn (tableLeft (now (table .entry)) n) k (s .0) (t .0) (now (a .entry)) (now (b .entry)) ⌝ }
 {
     start_a(a, table, n, k, s);
     start_b(b, k, t);
-    steps(a, b, table, n, k, t, s - 1);
+    steps(a, b, table, n, k, t, one_before(s));
 }

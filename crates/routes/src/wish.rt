@@ -12,12 +12,12 @@ pub(crate) fn wish_check(
     k: u16,
     from: u16,
     to: u16,
-    counts: usize,
-    relays: usize,
-    scratch: usize,
+    counts_length: usize,
+    relays_length: usize,
+    scratch_length: usize,
 ) -> Check
     requires { ⌜ n ≤ 1000 ⌝ }
-    ensures { λ r. ⌜ checkOutcome r ≡ wishCheck n k from to counts relays scratch ⌝ }
+    ensures { λ r. ⌜ checkOutcome r ≡ wishCheck n k from to «counts_length» «relays_length» «scratch_length» ⌝ }
 {
     if k < 1 {
         return Check::Refused(Refusal::RouteCount);
@@ -36,13 +36,13 @@ pub(crate) fn wish_check(
     }
     let routes = k as usize;
     let size = n as usize;
-    if counts < routes {
+    if counts_length < routes {
         return Check::Refused(Refusal::Room);
     }
-    if relays < size - 2 + 2 * routes {
+    if relays_length < size - 2 + 2 * routes {
         return Check::Refused(Refusal::Room);
     }
-    if scratch < routes * size {
+    if scratch_length < routes * size {
         return Check::Refused(Refusal::Room);
     }
     Check::Accepted

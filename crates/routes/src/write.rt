@@ -2,7 +2,7 @@
 ghost use mathlib.Core.Path.{_≡_};
 ghost use Prim.Native.Nat.{_≤_};
 ghost use Rattle.definitions.specs.Order.{relayAt};
-ghost use Rattle.routes.specs.Side.{endIn, secondIn};
+ghost use Rattle.routes.specs.Side.{secondIn};
 ghost use Rattle.routes.specs.Writing.{countIn, writeDown, writeUp, routeLength, writeRoute, written, writeFrom};
 use crate::side::end_of;
 use crate::side::get;
@@ -31,7 +31,7 @@ fn count(side: &[u16], i: u16) -> usize
     let mut x = second_of(side, i);
     let mut c = 0;
     while c < 1000 {
-        if x == 0 {
+        if x.0 == 0 {
             return c;
         }
         x = prior_of(side, x);
@@ -50,7 +50,7 @@ fn write_down(relays: &mut [u16], side: &[u16], order: &[u16], i: u16, count: us
     let mut c = count;
     while 0 < c {
         c -= 1;
-        put(relays, from + c, relay_at(order, Place(x)).0);
+        put(relays, from + c, relay_at(order, x).0);
         x = prior_of(side, x);
     }
 }
@@ -65,34 +65,34 @@ fn write_up(relays: &mut [u16], side: &[u16], order: &[u16], i: u16, count: usiz
     let mut c = count;
     let mut p = at;
     while 0 < c {
-        put(relays, p, relay_at(order, Place(x)).0);
+        put(relays, p, relay_at(order, x).0);
         x = prior_of(side, x);
         p += 1;
         c -= 1;
     }
 }
 
-// Route i, written from `from` on: the first side's path down from the meeting relay, the second side's up from it.
+// Route i, written from `from` on: the front side's path down from the meeting relay, the back side's up from it.
 // Gives the number of its relays.
 fn write_route(
     relays: &mut [u16],
-    first: &[u16],
-    second: &[u16],
+    front: &[u16],
+    back: &[u16],
     order: &[u16],
     i: u16,
     from: usize,
 ) -> usize
     requires { ⌜ from ≤ 70000 ⌝ }
-    ensures { λ r. ⌜ r ≡ routeLength (now (first .entry)) (now (second .entry)) i ⌝ }
-    ensures { λ _. ⌜ now (relays .exit) ≡ writeRoute (now (first .entry)) (now (second .entry)) (now (order .entry)) i from
+    ensures { λ r. ⌜ r ≡ routeLength (now (front .entry)) (now (back .entry)) i ⌝ }
+    ensures { λ _. ⌜ now (relays .exit) ≡ writeRoute (now (front .entry)) (now (back .entry)) (now (order .entry)) i from
         (now (relays .entry)) ⌝ }
 {
-    let low = count(first, i);
-    let high = count(second, i);
-    let meeting = end_of(first, i);
-    write_down(relays, first, order, i, low, from);
-    put(relays, from + low, relay_at(order, Place(meeting)).0);
-    write_up(relays, second, order, i, high, from + low + 1);
+    let low = count(front, i);
+    let high = count(back, i);
+    let meeting = end_of(front, i);
+    write_down(relays, front, order, i, low, from);
+    put(relays, from + low, relay_at(order, meeting).0);
+    write_up(relays, back, order, i, high, from + low + 1);
     low + 1 + high
 }
 
@@ -100,19 +100,19 @@ fn write_route(
 pub(crate) fn write_routes(
     counts: &mut [u16],
     relays: &mut [u16],
-    first: &[u16],
-    second: &[u16],
+    front: &[u16],
+    back: &[u16],
     order: &[u16],
     k: u16,
 ) -> usize
     requires { ⌜ k ≤ 32 ⌝ }
     ensures { λ r. ⌜ written (now (counts .exit)) (now (relays .exit)) r
-        ≡ writeFrom (now (first .entry)) (now (second .entry)) (now (order .entry)) k 0 0 (now (counts .entry)) (now (relays .entry)) ⌝ }
+        ≡ writeFrom (now (front .entry)) (now (back .entry)) (now (order .entry)) k 0 0 (now (counts .entry)) (now (relays .entry)) ⌝ }
 {
     let mut i = 0;
     let mut from = 0;
     while i < k {
-        let length = write_route(relays, first, second, order, i + 1, from);
+        let length = write_route(relays, front, back, order, i + 1, from);
         put(counts, i as usize, length as u16);
         from += length;
         i += 1;

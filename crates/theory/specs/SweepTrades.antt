@@ -21,13 +21,13 @@ abbrev pub ownEnd : (ℕ → ℕ → ℕ) → ℕ → List ℕ → List ℕ
 ownEnd left i path = left i (beforeEnd path) ∷ tail path
 
 -- Index i gets the path of index j with its own end, and j gets the path of i.
-unfoldable pub trade : (ℕ → ℕ → ℕ) → ℕ → ℕ → (ℕ → List ℕ) → ℕ → List ℕ
-trade left j i paths h = pick (eqb h i) (ownEnd left i (paths j)) (pick (eqb h j) (paths i) (paths h))
+unfoldable pub tradePaths : (ℕ → ℕ → ℕ) → ℕ → ℕ → (ℕ → List ℕ) → ℕ → List ℕ
+tradePaths left j i paths h = pick (eqb h i) (ownEnd left i (paths j)) (pick (eqb h j) (paths i) (paths h))
 
 -- The same for those of the indices i, …, 1 that end at v, one after another.
 unfoldable pub tradesFrom : (ℕ → ℕ → ℕ) → ℕ → (ℕ → Bool) → ℕ → (ℕ → List ℕ) → ℕ → List ℕ
 tradesFrom left j ends zero paths = paths
-tradesFrom left j ends (suc i) paths = tradesFrom left j ends i (pick (ends (suc i)) (trade left j (suc i) paths) paths)
+tradesFrom left j ends (suc i) paths = tradesFrom left j ends i (pick (ends (suc i)) (tradePaths left j (suc i) paths) paths)
 
 module _ (left : ℕ → ℕ → ℕ) (k j : ℕ) (ends : ℕ → Bool) (paths : ℕ → List ℕ) (one : 1 ≤ j) (bound : j ≤ k)
     (top : (h : ℕ) → 1 ≤ h → h ≤ k → ends h ≡ true → h ≤ j) where
@@ -46,18 +46,18 @@ module _ (left : ℕ → ℕ → ℕ) (k j : ℕ) (ends : ℕ → Bool) (paths :
     high : now j ≡ paths (nextUp i)
 
   trade-step : (i : ℕ) (now : ℕ → List ℕ) → suc i < j → Traded (suc i) now
-      → Traded i (pick (ends (suc i)) (trade left j (suc i) now) now)
-  unfolding trade
+      → Traded i (pick (ends (suc i)) (tradePaths left j (suc i) now) now)
+  unfolding tradePaths
   trade-step i now less before = go (ends (suc i)) refl
     where
-      go : (b : Bool) → ends (suc i) ≡ b → Traded i (pick b (trade left j (suc i) now) now)
+      go : (b : Bool) → ends (suc i) ≡ b → Traded i (pick b (tradePaths left j (suc i) now) now)
       go true e =
           record {
             lower = λ h le. rw (ne-eqb h (suc i) (omega arith), ne-eqb h j (omega arith)) (before .lower h (omega arith));
             ended = λ h above under at.
                 by-cases (ℕ-discrete h (suc i))
                 (λ same.
-                subst (λ (x : ℕ). trade left j (suc i) now x ≡ ownEnd left x (paths (nextUp x))) (sym same)
+                subst (λ (x : ℕ). tradePaths left j (suc i) now x ≡ ownEnd left x (paths (nextUp x))) (sym same)
                 (rw (eq-eqb (suc i) (suc i) refl) (ap (ownEnd left (suc i)) (before .high))))
                 (λ differ. rw (ne-eqb h (suc i) differ, ne-eqb h j (omega arith)) (before .ended h (omega arith) under at));
             others = λ h above other off.
@@ -106,7 +106,7 @@ module _ (left : ℕ → ℕ → ℕ) (k j : ℕ) (ends : ℕ → Bool) (paths :
   unfolding tradesFrom
   trades-hold zero now less before = before
   trades-hold (suc i) now less before =
-      trades-hold i (pick (ends (suc i)) (trade left j (suc i) now) now) (omega arith) (trade-step i now less before)
+      trades-hold i (pick (ends (suc i)) (tradePaths left j (suc i) now) now) (omega arith) (trade-step i now less before)
 
   -- The source of j is the lowest, and of an index below j that ends at v the next higher one.
   source-high : source k j ends j ≡ nextUp 0

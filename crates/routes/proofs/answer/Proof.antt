@@ -1,12 +1,12 @@
 -- `answer` meets its contract. Assumes nothing.
-use Rattle.routes.proofs.Answering.{answer-some, answer-none}
-use Rattle.routes.specs.Side.{leftIn}
+use Rattle.routes.proofs.Answers.Inner.{answer-some, answer-none}
+use Rattle.routes.specs.Side.{tableLeft}
 use borrow.Author.Needs.{needs}
 use Rattle.routes.proofs.answer.Statement.{statement}
 use Rattle.routes.proofs.answer.Tie as tie
 
-joined-requires : tie.Need-joined-requires
-joined-requires c κs = search needs
+one-tree-requires : tie.Need-one-tree-requires
+one-tree-requires c κs = search needs
 
 between-requires : tie.Need-between-requires
 between-requires c κs = search needs
@@ -27,27 +27,27 @@ returns : tie.Need-returns
 returns c =
     let atBetween = c .before .before .before .before .before .before .before .before in
     let atIf1 = atBetween .before .before .before .before .before in
-    let atJoined = atIf1 .before in
-    let start = atJoined .before .before .before .before .before .before .before in
+    let atOneTree = atIf1 .before in
+    let start = atOneTree .before .before .before .before .before .before .before in
     let a = start .args in
-    answer-some (a .a .now) (a .b .now) (leftIn (a .table .now) (a .n)) (a .k) (a .p .0) (a .q .0) (a .order .now) (a .counts .now)
+    answer-some (a .a .now) (a .b .now) (tableLeft (a .table .now) (a .n)) (a .k) (a .p .0) (a .q .0) (a .order .now) (a .counts .now)
     (a .relays .now)
-    (atJoined .joined .result) (atJoined .joined .ensures) (atBetween .between .last .1 .1 .1 .1 .1 .1 .1 .1 .0)
+    (atOneTree .one-tree .result) (atOneTree .one-tree .ensures) (atBetween .between .last .1 .1 .1 .1 .1 .1 .1 .1 .0)
     (atBetween .between .last .1 .1 .1 .1 .1 .1 .1 .1 .1 .0) (atBetween .between .result)
     (atIf1 .if1 .taken) (atBetween .between .ensures)
 
 returns-2 : tie.Need-returns-2
 returns-2 c =
     let a = c .before .before .before .before .before .before .before .before .args in
-    answer-none (a .a .now) (a .b .now) (leftIn (a .table .now) (a .n)) (a .k) (a .p .0) (a .q .0) (a .order .now) (a .counts .now)
+    answer-none (a .a .now) (a .b .now) (tableLeft (a .table .now) (a .n)) (a .k) (a .p .0) (a .q .0) (a .order .now) (a .counts .now)
     (a .relays .now)
-    (c .before .joined .result) (c .before .joined .ensures) (c .if1 .left)
+    (c .before .one-tree .result) (c .before .one-tree .ensures) (c .if1 .left)
 
 pub answer-spec : {M : Type 1} → statement M
 answer-spec =
     tie.close
     (tie.spec
-    joined-requires
+    one-tree-requires
     between-requires
     same-length
     same-length-2

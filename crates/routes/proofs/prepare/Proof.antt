@@ -1,6 +1,6 @@
 -- `prepare` meets its contract. Assumes nothing.
 use native.Mathlib.Omega.{arith}
-use Rattle.routes.proofs.Answering.{table-asks}
+use Rattle.routes.proofs.Answers.Inner.{table-asks}
 use borrow.Author.Needs.{needs}
 use Rattle.routes.proofs.prepare.Statement.{statement}
 use Rattle.routes.proofs.prepare.Tie as tie

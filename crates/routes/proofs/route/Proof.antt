@@ -1,5 +1,5 @@
 -- `route` meets its contract. Assumes nothing.
-use Rattle.routes.proofs.RouteAnswers.{table-refused, wish-refused, wish-passed, route-answered}
+use Rattle.routes.proofs.Answers.Refusals.{table-refused, wish-refused, wish-passed, route-answered}
 use Rattle.routes.specs.Answers.{routeOutcome}
 use Rattle.network.specs.Answers.{checkOutcome}
 use Rattle.theory.specs.Accepted.{accepted}

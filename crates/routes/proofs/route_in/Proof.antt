@@ -1,5 +1,5 @@
 -- `route_in` meets its contract. Assumes nothing.
-use Rattle.routes.proofs.Answering.{prepare-asks, places-some, answers-tree, clear-whole}
+use Rattle.routes.proofs.Answers.Inner.{prepare-asks, places-some, answers-tree, clear-whole}
 use Rattle.routes.specs.Answers.{routeOutcome, answered}
 use mathlib.Core.Path.{_∙_}
 use native.Mathlib.Omega.{arith}
@@ -48,7 +48,7 @@ answer-requires c κs =
     places-some (a .n) (a .lows .now) (a .highs .now) (a .k) (a .from) (a .to) (a .counts .now) (a .relays .now) (a .scratch .now)
     (start .pre .0)
     (a .order .now) (made .last .1 .1 .1 .1 .0) (a .places .now) (made .last .1 .1 .1 .1 .1 .0)
-    (atClear .clear .last .0) (made .last .1 .1 .1 .1 .1 .1 .1 .0) (made .ensures) (a .numbers .now) (a .a .now) (a .b .now) (start .pre .1)
+    (a .numbers .now) (made .last .1 .1 .1 .1 .1 .1 .0) (atClear .clear .last .0) (made .last .1 .1 .1 .1 .1 .1 .1 .0) (made .ensures) (a .a .now) (a .b .now) (start .pre .1)
     (atPlaceOf .place-of .result .0) (atPlaceOf2 .place-of2 .result .0)
     (atPlaceOf .place-of .ensures) (atPlaceOf2 .place-of2 .ensures)
 
@@ -97,8 +97,8 @@ returns c =
       answers-tree (a .n) (a .lows .now) (a .highs .now) (a .k) (a .from) (a .to) (a .counts .now) (a .relays .now) (a .scratch .now)
           (start .pre .0)
           (a .order .now) (made .last .1 .1 .1 .1 .0) (a .places .now) (made .last .1 .1 .1 .1 .1 .0)
-          (atClear .clear .last .0) (made .last .1 .1 .1 .1 .1 .1 .1 .0) (made .ensures)
-          (a .numbers .now) (a .a .now) (a .b .now) (start .pre .1)
+          (a .numbers .now) (made .last .1 .1 .1 .1 .1 .1 .0) (atClear .clear .last .0) (made .last .1 .1 .1 .1 .1 .1 .1 .0) (made .ensures)
+          (a .a .now) (a .b .now) (start .pre .1)
           (atPlaceOf .place-of .result .0) (atPlaceOf2 .place-of2 .result .0)
           (answered (atAnswer .answer .last .1 .1 .1 .1 .1 .1 .1 .1 .0) (atAnswer .answer .last .1 .1 .1 .1 .1 .1 .1 .1 .1 .0)
           (routeOutcome (atAnswer .answer .result)))

@@ -1,25 +1,27 @@
 -- `route_large` meets its contract. Assumes nothing.
 use native.Mathlib.Omega.{arith}
-use Rattle.routes.proofs.Answering.{workspace}
+use Rattle.routes.proofs.Answers.Inner.{route-arrays}
+use Prim.Native.Nat.{_+_}
 use Rattle.theory.specs.Accepted.{accepted}
+use Rattle.routes.specs.Side.{priorStart}
 use borrow.Author.Needs.{needs}
 use Rattle.routes.proofs.route_large.Statement.{statement}
 use Rattle.routes.proofs.route_large.Tie as tie
 
-no-relays-requires : tie.Need-no-relays-requires
-no-relays-requires c κs = search needs
+zeros-for-1000-relays-requires : tie.Need-zeros-for-1000-relays-requires
+zeros-for-1000-relays-requires c κs = search needs
 
-no-relays-requires-2 : tie.Need-no-relays-requires-2
-no-relays-requires-2 c κs = search needs
+zeros-for-1000-relays-requires-2 : tie.Need-zeros-for-1000-relays-requires-2
+zeros-for-1000-relays-requires-2 c κs = search needs
 
-no-links-requires : tie.Need-no-links-requires
-no-links-requires c κs = search needs
+zeros-for-3000-links-requires : tie.Need-zeros-for-3000-links-requires
+zeros-for-3000-links-requires c κs = search needs
 
-no-paths-requires : tie.Need-no-paths-requires
-no-paths-requires c κs = search needs
+side-for-1000-relays-requires : tie.Need-side-for-1000-relays-requires
+side-for-1000-relays-requires c κs = search needs
 
-no-paths-requires-2 : tie.Need-no-paths-requires-2
-no-paths-requires-2 c κs = search needs
+side-for-1000-relays-requires-2 : tie.Need-side-for-1000-relays-requires-2
+side-for-1000-relays-requires-2 c κs = search needs
 
 slice-aggregate-route-in : tie.Need-slice-aggregate-route-in
 slice-aggregate-route-in c = search needs
@@ -46,9 +48,9 @@ route-in-requires c κs =
     let s = atNoRelays .before .before .before .before .before .before in
     let t = accepted (s .args .n) (s .args .lows .now) (s .args .highs .now) (s .pre .accepted) in (
       s .pre,
-      workspace 1000 3000 1067 (s .args .n) (t .few) (t .short) (omega (arith, t .few))
-          (atNoRelays .no-relays .ensures) (atNoRelays2 .no-relays2 .ensures) (atNoLinks .no-links .ensures)
-          (atNoPaths .no-paths .ensures) (atNoPaths2 .no-paths2 .ensures),
+      route-arrays 1000 3000 (priorStart + 1001) (s .args .n) (t .few) (t .short) (omega (arith, t .few))
+          (atNoRelays .zeros-for-1000-relays .ensures) (atNoRelays2 .zeros-for-1000-relays2 .ensures) (atNoLinks .zeros-for-3000-links .ensures)
+          (atNoPaths .side-for-1000-relays .ensures) (atNoPaths2 .side-for-1000-relays2 .ensures),
     )
 
 same-length : tie.Need-same-length
@@ -67,11 +69,11 @@ pub route-large-spec : {M : Type 1} → statement M
 route-large-spec =
     tie.close
     (tie.spec
-    no-relays-requires
-    no-relays-requires-2
-    no-links-requires
-    no-paths-requires
-    no-paths-requires-2
+    zeros-for-1000-relays-requires
+    zeros-for-1000-relays-requires-2
+    zeros-for-3000-links-requires
+    side-for-1000-relays-requires
+    side-for-1000-relays-requires-2
     slice-aggregate-route-in
     slice-aggregate-route-in-2
     slice-aggregate-route-in-3

@@ -1,24 +1,26 @@
 -- `route_small` meets its contract. Assumes nothing.
 use native.Mathlib.Omega.{arith}
-use Rattle.routes.proofs.Answering.{workspace}
+use Prim.Native.Nat.{_+_}
+use Rattle.routes.specs.Side.{priorStart}
+use Rattle.routes.proofs.Answers.Inner.{route-arrays}
 use borrow.Author.Needs.{needs}
 use Rattle.routes.proofs.route_small.Statement.{statement}
 use Rattle.routes.proofs.route_small.Tie as tie
 
-few-relays-requires : tie.Need-few-relays-requires
-few-relays-requires c κs = search needs
+zeros-for-128-relays-requires : tie.Need-zeros-for-128-relays-requires
+zeros-for-128-relays-requires c κs = search needs
 
-few-relays-requires-2 : tie.Need-few-relays-requires-2
-few-relays-requires-2 c κs = search needs
+zeros-for-128-relays-requires-2 : tie.Need-zeros-for-128-relays-requires-2
+zeros-for-128-relays-requires-2 c κs = search needs
 
-few-links-requires : tie.Need-few-links-requires
-few-links-requires c κs = search needs
+zeros-for-384-links-requires : tie.Need-zeros-for-384-links-requires
+zeros-for-384-links-requires c κs = search needs
 
-few-paths-requires : tie.Need-few-paths-requires
-few-paths-requires c κs = search needs
+side-for-128-relays-requires : tie.Need-side-for-128-relays-requires
+side-for-128-relays-requires c κs = search needs
 
-few-paths-requires-2 : tie.Need-few-paths-requires-2
-few-paths-requires-2 c κs = search needs
+side-for-128-relays-requires-2 : tie.Need-side-for-128-relays-requires-2
+side-for-128-relays-requires-2 c κs = search needs
 
 slice-aggregate-route-in : tie.Need-slice-aggregate-route-in
 slice-aggregate-route-in c = search needs
@@ -44,9 +46,9 @@ route-in-requires c κs =
     let atFewRelays = atFewRelays2 .before in
     let s = atFewRelays .before .before .before .before .before .before in (
       s .pre .0,
-      workspace 128 384 195 (s .args .n) (s .pre .1) (s .pre .2) (omega (arith, s .pre .1))
-          (atFewRelays .few-relays .ensures) (atFewRelays2 .few-relays2 .ensures) (atFewLinks .few-links .ensures)
-          (atFewPaths .few-paths .ensures) (atFewPaths2 .few-paths2 .ensures),
+      route-arrays 128 384 (priorStart + 129) (s .args .n) (s .pre .1) (s .pre .2) (omega (arith, s .pre .1))
+          (atFewRelays .zeros-for-128-relays .ensures) (atFewRelays2 .zeros-for-128-relays2 .ensures) (atFewLinks .zeros-for-384-links .ensures)
+          (atFewPaths .side-for-128-relays .ensures) (atFewPaths2 .side-for-128-relays2 .ensures),
     )
 
 same-length : tie.Need-same-length
@@ -65,11 +67,11 @@ pub route-small-spec : {M : Type 1} → statement M
 route-small-spec =
     tie.close
     (tie.spec
-    few-relays-requires
-    few-relays-requires-2
-    few-links-requires
-    few-paths-requires
-    few-paths-requires-2
+    zeros-for-128-relays-requires
+    zeros-for-128-relays-requires-2
+    zeros-for-384-links-requires
+    side-for-128-relays-requires
+    side-for-128-relays-requires-2
     slice-aggregate-route-in
     slice-aggregate-route-in-2
     slice-aggregate-route-in-3

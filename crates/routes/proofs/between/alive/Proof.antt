@@ -1,18 +1,18 @@
 -- `alive` meets its contract. The loop's invariant: what is left to do gives what the whole gives. Assumes nothing.
-use Rattle.routes.proofs.BetweenTurns.{alive-turn, alive-stop, alive-end}
+use Rattle.routes.proofs.Loops.Between.{alive-turn, alive-stop, alive-end}
 use Rattle.routes.specs.Between.{aliveIn}
-use Rattle.routes.specs.Side.{leftIn}
+use Rattle.routes.specs.Side.{tableLeft}
 use native.Mathlib.Omega.{arith}
-use mathlib.Core.Path.{_≡_, refl, sym, _∙_}
-use Prim.Native.Nat.{_-_}
+use mathlib.Core.Path.{_≡_, refl, sym, _∙_, ap}
+use Prim.Native.Nat.{ℕ, _-_}
 use Rattle.routes.proofs.between.alive.Statement.{statement}
 use Rattle.routes.proofs.between.alive.Tie as tie
 
 abbrev Inv-loop : tie.InvT-loop
-Inv-loop table n k t s v₀ v = aliveIn (leftIn table n) k t (s - t) ≡ aliveIn (leftIn table n) k t (v - t)
+Inv-loop table n k t s v = aliveIn (tableLeft table n) k (t .0) (s .0 - t .0) ≡ aliveIn (tableLeft table n) k (t .0) (v .0 - t .0)
 
 abbrev μ-loop : tie.MeasureT-loop
-μ-loop table n k t s v₀ v = v
+μ-loop table n k t s v = v .0
 
 loop-holds : tie.Need-loop-holds Inv-loop μ-loop
 loop-holds c = refl
@@ -22,30 +22,34 @@ left-requires c κs = tt
 
 returns : tie.Need-returns Inv-loop μ-loop
 returns c =
-    let atLoop = c .before .before .before in
-    let start = atLoop .before .before in
-    let a = start .args in
-    sym (atLoop .loop .inv ∙ alive-stop (leftIn (a .table .now) (a .n)) (a .k) (a .t) (atLoop .loop .v) (c .before .left .result)
-    (omega arith) (c .before .left .ensures) (c .if1 .taken))
+    let atLeft = c .before .before in
+    let atLoop = atLeft .before .before .before .before in
+    let a = atLoop .before .before .args in
+    sym (atLoop .loop .inv ∙ alive-stop (tableLeft (a .table .now) (a .n)) (a .k) (a .t .0) (atLoop .loop .v .0) (atLeft .left .result .0)
+    (omega arith) (atLeft .left .ensures) (c .if2 .taken))
 
-sub-v : tie.Need-sub-v Inv-loop μ-loop
-sub-v c = omega arith
+one-before-requires : tie.Need-one-before-requires Inv-loop μ-loop
+one-before-requires c κs = omega arith
 
 loop-less : tie.Need-loop-less Inv-loop μ-loop
-loop-less c = omega arith
+loop-less c = omega (arith, c .one-before .ensures)
 
 loop-again : tie.Need-loop-again Inv-loop μ-loop
 loop-again c =
-    let atLoop = c .before .before .before in
-    let start = atLoop .before .before in
-    let a = start .args in
-    atLoop .loop .inv ∙ alive-turn (leftIn (a .table .now) (a .n)) (a .k) (a .t) (atLoop .loop .v) (c .before .left .result)
-    (omega arith) (c .before .left .ensures) (c .if1 .left)
+    let atIf2 = c .before in
+    let atLeft = atIf2 .before .before in
+    let atLoop = atLeft .before .before .before .before in
+    let a = atLoop .before .before .args in
+    let look = tableLeft (a .table .now) (a .n) in
+    atLoop .loop .inv ∙ alive-turn look (a .k) (a .t .0) (atLoop .loop .v .0) (atLeft .left .result .0)
+    (omega arith) (atLeft .left .ensures) (atIf2 .if2 .left)
+    ∙ ap (λ (x : ℕ). aliveIn look (a .k) (a .t .0) (x - a .t .0)) (sym (c .one-before .ensures))
 
 returns-2 : tie.Need-returns-2 Inv-loop μ-loop
 returns-2 c =
-    let a = c .before .before .before .args in
-    sym (c .before .loop .inv ∙ alive-end (leftIn (a .table .now) (a .n)) (a .k) (a .t) (c .before .loop .v) (omega arith))
+    let atLoop = c .before .before .before in
+    let a = atLoop .before .before .args in
+    sym (atLoop .loop .inv ∙ alive-end (tableLeft (a .table .now) (a .n)) (a .k) (a .t .0) (atLoop .loop .v .0) (omega arith))
 
 pub alive-spec : {M : Type 1} → statement M
 alive-spec =
@@ -56,7 +60,7 @@ alive-spec =
     loop-holds
     left-requires
     returns
-    sub-v
+    one-before-requires
     loop-less
     loop-again
     returns-2)

@@ -7,11 +7,8 @@ use Rattle.routes.proofs.side.extend.Tie as tie
 second-of-requires : tie.Need-second-of-requires
 second-of-requires c κs = search needs
 
-add-put : tie.Need-add-put
-add-put c = search needs
-
-put-requires : tie.Need-put-requires
-put-requires c κs = search needs
+set-prior-requires : tie.Need-set-prior-requires
+set-prior-requires c κs = search needs
 
 left-requires : tie.Need-left-requires
 left-requires c κs = search needs
@@ -31,8 +28,7 @@ extend-spec =
     tie.close
     (tie.spec
     second-of-requires
-    add-put
-    put-requires
+    set-prior-requires
     left-requires
     set-path-requires
     same-length

@@ -15,8 +15,9 @@ same-length c = search needs
 returns : tie.Need-returns
 unfolding advance
 returns c =
-    let a = c .before .before .before .before .before .args in
-    rw (ne-eqb (endIn (a .side .now) (a .j)) (a .v) (λ e. c .if1 .taken (c .before .end-of .ensures ∙ e)))
+    let atEndOf = c .before .before .before in
+    let a = atEndOf .before .before .before .before .args in
+    rw (ne-eqb (endIn (a .side .now) (a .j)) (a .v .0) (λ e. c .if1 .taken (atEndOf .end-of .ensures ∙ e)))
 
 same-length-2 : tie.Need-same-length-2
 same-length-2 c = search needs
@@ -24,10 +25,12 @@ same-length-2 c = search needs
 returns-2 : tie.Need-returns-2
 unfolding advance
 returns-2 c =
-    let a = c .before .before .before .before .before .before .args in
+    let atIf1 = c .before .before .before in
+    let atEndOf = atIf1 .before .before .before in
+    let a = atEndOf .before .before .before .before .args in
     rw (
-      eq-eqb (endIn (a .side .now) (a .j)) (a .v) (sym (c .before .before .end-of .ensures) ∙ c .before .if1 .left),
-      eq-eqb (a .other) (a .v) (c .if2 .taken),
+      eq-eqb (endIn (a .side .now) (a .j)) (a .v .0) (sym (atEndOf .end-of .ensures) ∙ atIf1 .if1 .left),
+      eq-eqb (a .other .0) (a .v .0) (c .if2 .taken),
     )
 
 extend-requires : tie.Need-extend-requires
@@ -40,13 +43,12 @@ returns-3 : tie.Need-returns-3
 unfolding advance
 returns-3 c =
     let atIf2 = c .before .before .before .before in
-    let atIf1 = atIf2 .before in
-    let atEndOf = atIf1 .before in
-    let start = atEndOf .before .before .before .before in
-    let a = start .args in
+    let atIf1 = atIf2 .before .before .before in
+    let atEndOf = atIf1 .before .before .before in
+    let a = atEndOf .before .before .before .before .args in
     rw (
-      eq-eqb (endIn (a .side .now) (a .j)) (a .v) (sym (atEndOf .end-of .ensures) ∙ atIf1 .if1 .left),
-      ne-eqb (a .other) (a .v) (atIf2 .if2 .left),
+      eq-eqb (endIn (a .side .now) (a .j)) (a .v .0) (sym (atEndOf .end-of .ensures) ∙ atIf1 .if1 .left),
+      ne-eqb (a .other .0) (a .v .0) (atIf2 .if2 .left),
     )
     (c .before .before .extend .ensures)
 

@@ -1,5 +1,5 @@
 -- `highest` meets its contract. The loop's invariant: what is left to do gives what the whole gives. Assumes nothing.
-use Rattle.routes.proofs.Turns.{highest-found, highest-turn, highest-end}
+use Rattle.routes.proofs.Loops.Sweep.{highest-found, highest-turn, highest-end}
 use Rattle.routes.specs.Sides.{highestIn}
 use Rattle.routes.specs.Side.{endIn}
 use native.Mathlib.Omega.{arith}
@@ -26,7 +26,7 @@ none-ends : (a b : List ℕ) (v i : ℕ) → (endIn a i ≡ v → ⊥) → (endI
 none-ends a b v i p q = rw (ne-eqb (endIn a i) v p, ne-eqb (endIn b i) v q)
 
 abbrev Inv-loop : tie.InvT-loop
-Inv-loop a b k v i₀ i = highestIn k v a b ≡ highestIn i v a b
+Inv-loop a b k v i₀ i = highestIn k (v .0) a b ≡ highestIn i (v .0) a b
 
 abbrev μ-loop : tie.MeasureT-loop
 μ-loop a b k v i₀ i = i
@@ -40,10 +40,12 @@ end-of-requires c κs = tt
 returns : tie.Need-returns Inv-loop μ-loop
 unfolding highestIn
 returns c =
-    let a = c .before .before .before .before .before .before .args in
-    let i = c .before .before .before .loop .i in
-    sym (c .before .before .before .loop .inv ∙ highest-found (ends (a .a .now) (a .b .now) (a .v)) i (omega arith)
-    (first-ends (a .a .now) (a .b .now) (a .v) i (sym (c .before .end-of .ensures) ∙ c .if1 .taken)))
+    let atEndOf = c .before .before .before in
+    let atLoop = atEndOf .before .before in
+    let a = atLoop .before .before .before .args in
+    let i = atLoop .loop .i in
+    sym (atLoop .loop .inv ∙ highest-found (ends (a .a .now) (a .b .now) (a .v .0)) i (omega arith)
+    (first-ends (a .a .now) (a .b .now) (a .v .0) i (sym (atEndOf .end-of .ensures) ∙ c .if1 .taken)))
 
 end-of-requires-2 : tie.Need-end-of-requires-2 Inv-loop μ-loop
 end-of-requires-2 c κs = tt
@@ -51,10 +53,13 @@ end-of-requires-2 c κs = tt
 returns-2 : tie.Need-returns-2 Inv-loop μ-loop
 unfolding highestIn
 returns-2 c =
-    let a = c .before .before .before .before .before .before .before .before .args in
-    let i = c .before .before .before .before .before .loop .i in
-    sym (c .before .before .before .before .before .loop .inv ∙ highest-found (ends (a .a .now) (a .b .now) (a .v)) i (omega arith)
-    (second-ends (a .a .now) (a .b .now) (a .v) i (sym (c .before .end-of2 .ensures) ∙ c .if2 .taken)))
+    let atEndOf2 = c .before .before .before in
+    let atEndOf = atEndOf2 .before .before .before .before in
+    let atLoop = atEndOf .before .before in
+    let a = atLoop .before .before .before .args in
+    let i = atLoop .loop .i in
+    sym (atLoop .loop .inv ∙ highest-found (ends (a .a .now) (a .b .now) (a .v .0)) i (omega arith)
+    (second-ends (a .a .now) (a .b .now) (a .v .0) i (sym (atEndOf2 .end-of2 .ensures) ∙ c .if2 .taken)))
 
 sub-i : tie.Need-sub-i Inv-loop μ-loop
 sub-i c = omega arith
@@ -65,20 +70,21 @@ loop-less c = omega arith
 loop-again : tie.Need-loop-again Inv-loop μ-loop
 unfolding highestIn
 loop-again c =
-    let atEndOf = c .before .before .before in
+    let atEndOf2 = c .before .before .before in
+    let atIf1 = atEndOf2 .before in
+    let atEndOf = atIf1 .before .before .before in
     let atLoop = atEndOf .before .before in
-    let start = atLoop .before .before .before in
-    let a = start .args in
+    let a = atLoop .before .before .before .args in
     let i = atLoop .loop .i in
-    atLoop .loop .inv ∙ highest-turn (ends (a .a .now) (a .b .now) (a .v)) i (omega arith)
-    (none-ends (a .a .now) (a .b .now) (a .v) i
-    (λ e. c .before .before .if1 .left (atEndOf .end-of .ensures ∙ e)) (λ e. c .if2 .left (c .before .end-of2 .ensures ∙ e)))
+    atLoop .loop .inv ∙ highest-turn (ends (a .a .now) (a .b .now) (a .v .0)) i (omega arith)
+    (none-ends (a .a .now) (a .b .now) (a .v .0) i
+    (λ e. atIf1 .if1 .left (atEndOf .end-of .ensures ∙ e)) (λ e. c .if2 .left (atEndOf2 .end-of2 .ensures ∙ e)))
 
 returns-3 : tie.Need-returns-3 Inv-loop μ-loop
 unfolding highestIn
 returns-3 c =
     let a = c .before .before .before .before .args in
-    sym (c .before .loop .inv ∙ highest-end (ends (a .a .now) (a .b .now) (a .v)) (c .before .loop .i) (omega arith))
+    sym (c .before .loop .inv ∙ highest-end (ends (a .a .now) (a .b .now) (a .v .0)) (c .before .loop .i) (omega arith))
 
 pub highest-spec : {M : Type 1} → statement M
 highest-spec =

@@ -1,15 +1,15 @@
 -- `pass` meets its contract. Assumes nothing.
-use Rattle.routes.proofs.Turns.{passed}
-use Rattle.routes.specs.Side.{leftIn}
+use Rattle.routes.proofs.Loops.Sweep.{passed}
+use Rattle.routes.specs.Side.{tableLeft}
 use borrow.Author.Needs.{needs}
 use Rattle.routes.proofs.sweep.pass.Statement.{statement}
 use Rattle.routes.proofs.sweep.pass.Tie as tie
 
-make-room-requires : tie.Need-make-room-requires
-make-room-requires c κs = search needs
+trade-below-requires : tie.Need-trade-below-requires
+trade-below-requires c κs = search needs
 
-make-room-requires-2 : tie.Need-make-room-requires-2
-make-room-requires-2 c κs = search needs
+trade-below-requires-2 : tie.Need-trade-below-requires-2
+trade-below-requires-2 c κs = search needs
 
 end-of-requires : tie.Need-end-of-requires
 end-of-requires c κs = search needs
@@ -34,20 +34,20 @@ returns c =
     let atGoOn = c .before .before .before .before .before .before in
     let atEndOf2 = atGoOn .before .before in
     let atEndOf = atEndOf2 .before .before in
-    let atMakeRoom2 = atEndOf .before .before .before .before in
-    let atMakeRoom = atMakeRoom2 .before .before .before .before in
-    let start = atMakeRoom .before .before .before .before .before in
+    let atTradeBelow2 = atEndOf .before .before .before .before in
+    let atTradeBelow = atTradeBelow2 .before .before .before .before in
+    let start = atTradeBelow .before .before .before .before .before in
     let a = start .args in
-    passed (leftIn (a .table .now) (a .n)) (a .v) (a .j) (a .a .now) (a .b .now) _ _ _ _ _ _
-    (atMakeRoom .make-room .ensures) (atMakeRoom2 .make-room2 .ensures) (atEndOf .end-of .ensures) (atEndOf2 .end-of2 .ensures)
+    passed (tableLeft (a .table .now) (a .n)) (a .v .0) (a .j) (a .a .now) (a .b .now) _ _ _ _ _ _
+    (atTradeBelow .trade-below .ensures) (atTradeBelow2 .trade-below2 .ensures) (atEndOf .end-of .ensures) (atEndOf2 .end-of2 .ensures)
     (atGoOn .go-on .ensures) (c .before .before .go-on2 .ensures)
 
 pub pass-spec : {M : Type 1} → statement M
 pass-spec =
     tie.close
     (tie.spec
-    make-room-requires
-    make-room-requires-2
+    trade-below-requires
+    trade-below-requires-2
     end-of-requires
     end-of-requires-2
     go-on-requires

@@ -1,7 +1,7 @@
 -- `start_a` meets its contract. The loop's invariant: what is left to do gives what the whole gives. Assumes nothing.
-use Rattle.routes.proofs.Turns.{start-a-turn, start-a-end}
+use Rattle.routes.proofs.Loops.Sweep.{start-a-turn, start-a-end}
 use Rattle.routes.specs.Sides.{startA}
-use Rattle.routes.specs.Side.{leftIn, setPath}
+use Rattle.routes.specs.Side.{tableLeft, setPath}
 use native.Mathlib.Omega.{arith}
 use lib.ListN.{length}
 use mathlib.Core.Path.{_≡_, refl, sym, _∙_, ap}
@@ -10,7 +10,7 @@ use Rattle.routes.proofs.sweep.start_a.Statement.{statement}
 use Rattle.routes.proofs.sweep.start_a.Tie as tie
 
 abbrev Inv-loop : tie.InvT-loop
-Inv-loop a₀ table n k s i₀ a i = (length a ≡ length a₀) × (startA (leftIn table n) s i₀ a₀ ≡ startA (leftIn table n) s i a)
+Inv-loop a₀ table n k s i₀ a i = (length a ≡ length a₀) × (startA (tableLeft table n) (s .0) i₀ a₀ ≡ startA (tableLeft table n) (s .0) i a)
 
 abbrev μ-loop : tie.MeasureT-loop
 μ-loop a₀ table n k s i₀ a i = i
@@ -36,13 +36,13 @@ loop-again c =
     let atLoop = atLeft .before .before in
     let start = atLoop .before .before .before in
     let a = start .args in
-    let L = leftIn (a .table .now) (a .n) in
+    let L = tableLeft (a .table .now) (a .n) in
     let i = atLoop .loop .i in (
       c .before .before .set-path .kept .0 ∙ atLoop .loop .inv .0,
       atLoop .loop .inv .1
-          ∙ start-a-turn L (a .s) i (atLoop .loop .a) (omega arith)
-          ∙ ap (startA L (a .s) (i - 1))
-          (ap (λ x. setPath (atLoop .loop .a) i x (a .s)) (sym (atLeft .left .ensures)) ∙ sym (c .before .before .set-path .ensures)),
+          ∙ start-a-turn L (a .s .0) i (atLoop .loop .a) (omega arith)
+          ∙ ap (startA L (a .s .0) (i - 1))
+          (ap (λ x. setPath (atLoop .loop .a) i x (a .s .0)) (sym (atLeft .left .ensures)) ∙ sym (c .before .before .set-path .ensures)),
     )
 
 same-length : tie.Need-same-length Inv-loop μ-loop
@@ -51,8 +51,8 @@ same-length c = c .before .loop .inv .0
 returns : tie.Need-returns Inv-loop μ-loop
 returns c =
     let a = c .before .before .before .before .args in
-    let L = leftIn (a .table .now) (a .n) in
-    sym (c .before .loop .inv .1 ∙ start-a-end L (a .s) (c .before .loop .i) (c .before .loop .a) (omega arith))
+    let L = tableLeft (a .table .now) (a .n) in
+    sym (c .before .loop .inv .1 ∙ start-a-end L (a .s .0) (c .before .loop .i) (c .before .loop .a) (omega arith))
 
 pub start-a-spec : {M : Type 1} → statement M
 start-a-spec =

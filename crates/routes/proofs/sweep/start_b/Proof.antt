@@ -1,5 +1,5 @@
 -- `start_b` meets its contract. The loop's invariant: what is left to do gives what the whole gives. Assumes nothing.
-use Rattle.routes.proofs.Turns.{start-b-turn, start-b-end}
+use Rattle.routes.proofs.Loops.Sweep.{start-b-turn, start-b-end}
 use Rattle.routes.specs.Sides.{startB}
 use native.Mathlib.Omega.{arith}
 use lib.ListN.{length}
@@ -9,7 +9,7 @@ use Rattle.routes.proofs.sweep.start_b.Statement.{statement}
 use Rattle.routes.proofs.sweep.start_b.Tie as tie
 
 abbrev Inv-loop : tie.InvT-loop
-Inv-loop b₀ k t i₀ b i = (length b ≡ length b₀) × (startB t i₀ b₀ ≡ startB t i b)
+Inv-loop b₀ k t i₀ b i = (length b ≡ length b₀) × (startB (t .0) i₀ b₀ ≡ startB (t .0) i b)
 
 abbrev μ-loop : tie.MeasureT-loop
 μ-loop b₀ k t i₀ b i = i
@@ -33,8 +33,8 @@ loop-again c =
     let a = start .args in (
       c .before .before .set-path .kept .0 ∙ atLoop .loop .inv .0,
       atLoop .loop .inv .1
-          ∙ start-b-turn (a .t) (atLoop .loop .i) (atLoop .loop .b) (omega arith)
-          ∙ ap (startB (a .t) (atLoop .loop .i - 1)) (sym (c .before .before .set-path .ensures)),
+          ∙ start-b-turn (a .t .0) (atLoop .loop .i) (atLoop .loop .b) (omega arith)
+          ∙ ap (startB (a .t .0) (atLoop .loop .i - 1)) (sym (c .before .before .set-path .ensures)),
     )
 
 same-length : tie.Need-same-length Inv-loop μ-loop
@@ -43,7 +43,7 @@ same-length c = c .before .loop .inv .0
 returns : tie.Need-returns Inv-loop μ-loop
 returns c =
     let a = c .before .before .before .args in
-    sym (c .before .loop .inv .1 ∙ start-b-end (a .t) (c .before .loop .i) (c .before .loop .b) (omega arith))
+    sym (c .before .loop .inv .1 ∙ start-b-end (a .t .0) (c .before .loop .i) (c .before .loop .b) (omega arith))
 
 pub start-b-spec : {M : Type 1} → statement M
 start-b-spec =

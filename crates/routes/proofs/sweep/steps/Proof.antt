@@ -1,20 +1,21 @@
 -- `steps` meets its contract. The loop's invariant: what is left to do gives what the whole gives. Assumes nothing.
-use Rattle.routes.proofs.Turns.{sweep-turn, sweep-end}
+use Rattle.routes.proofs.Loops.Sweep.{sweep-turn, sweep-end}
 use Rattle.routes.specs.Sides.{sweepIn}
-use Rattle.routes.specs.Side.{leftIn}
+use Rattle.routes.specs.Side.{tableLeft}
 use native.Mathlib.Omega.{arith}
 use lib.ListN.{length}
-use mathlib.Core.Path.{_≡_, refl, sym, _∙_}
+use mathlib.Core.Path.{_≡_, refl, sym, _∙_, ap}
+use Prim.Native.Nat.{ℕ}
 use Rattle.routes.proofs.sweep.steps.Statement.{statement}
 use Rattle.routes.proofs.sweep.steps.Tie as tie
 
 abbrev Inv-loop : tie.InvT-loop
-Inv-loop a₀ b₀ table n k t from v₀ a b v =
+Inv-loop a₀ b₀ table n k t from a b v =
     (length a ≡ length a₀) × (length b ≡ length b₀)
-    × (sweepIn (leftIn table n) k t v₀ a₀ b₀ ≡ sweepIn (leftIn table n) k t v a b)
+    × (sweepIn (tableLeft table n) k (t .0) (from .0) a₀ b₀ ≡ sweepIn (tableLeft table n) k (t .0) (v .0) a b)
 
 abbrev μ-loop : tie.MeasureT-loop
-μ-loop a₀ b₀ table n k t from v₀ a b v = v
+μ-loop a₀ b₀ table n k t from a b v = v .0
 
 loop-holds : tie.Need-loop-holds Inv-loop μ-loop
 loop-holds c = (refl, refl, refl)
@@ -22,35 +23,38 @@ loop-holds c = (refl, refl, refl)
 step-requires : tie.Need-step-requires Inv-loop μ-loop
 step-requires c κs = tt
 
-sub-v : tie.Need-sub-v Inv-loop μ-loop
-sub-v c = omega arith
+one-before-requires : tie.Need-one-before-requires Inv-loop μ-loop
+one-before-requires c κs = omega arith
 
 loop-less : tie.Need-loop-less Inv-loop μ-loop
-loop-less c = omega arith
+loop-less c = omega (arith, c .one-before .ensures)
 
 loop-again : tie.Need-loop-again Inv-loop μ-loop
 loop-again c =
-    let atStep = c .before .before .before .before in
-    let atLoop = atStep .before .before .before .before in
-    let start = atLoop .before .before .before .before in
-    let a = start .args in (
+    let atStep = c .before .before .before .before .before in
+    let atLoop = atStep .before .before .before .before .before in
+    let a = atLoop .before .before .before .before .args in
+    let look = tableLeft (a .table .now) (a .n) in (
       atStep .step .kept .0 ∙ atLoop .loop .inv .0,
       atStep .step .kept .1 .0 ∙ atLoop .loop .inv .1,
-      atLoop .loop .inv .2 ∙ sweep-turn (leftIn (a .table .now) (a .n)) (a .k) (a .t) (atLoop .loop .v) (atLoop .loop .a) (atLoop .loop .b)
-          (atStep .step .last .0) (atStep .step .last .1 .0) (omega arith) (atStep .step .ensures),
+      atLoop .loop .inv .2
+          ∙ sweep-turn look (a .k) (a .t .0) (atLoop .loop .v .0) (atLoop .loop .a) (atLoop .loop .b)
+          (atStep .step .last .0) (atStep .step .last .1 .0) (omega arith) (atStep .step .ensures)
+          ∙ ap (λ (x : ℕ). sweepIn look (a .k) (a .t .0) x (atStep .step .last .0) (atStep .step .last .1 .0)) (sym (c .one-before .ensures)),
     )
 
 same-length : tie.Need-same-length Inv-loop μ-loop
-same-length c = c .before .loop .inv .0
+same-length c = c .before .before .loop .inv .0
 
 same-length-2 : tie.Need-same-length-2 Inv-loop μ-loop
-same-length-2 c = c .before .loop .inv .1
+same-length-2 c = c .before .before .loop .inv .1
 
 returns : tie.Need-returns Inv-loop μ-loop
 returns c =
-    let a = c .before .before .before .before .before .args in
-    sym (c .before .loop .inv .2
-    ∙ sweep-end (leftIn (a .table .now) (a .n)) (a .k) (a .t) (c .before .loop .v) (c .before .loop .a) (c .before .loop .b) (omega arith))
+    let atLoop = c .before .before in
+    let a = atLoop .before .before .before .before .args in
+    sym (atLoop .loop .inv .2
+    ∙ sweep-end (tableLeft (a .table .now) (a .n)) (a .k) (a .t .0) (atLoop .loop .v .0) (atLoop .loop .a) (atLoop .loop .b) (omega arith))
 
 pub steps-spec : {M : Type 1} → statement M
 steps-spec =
@@ -60,7 +64,7 @@ steps-spec =
     μ-loop
     loop-holds
     step-requires
-    sub-v
+    one-before-requires
     loop-less
     loop-again
     same-length

@@ -1,6 +1,6 @@
 -- `sweep` meets its contract. Assumes nothing.
-use Rattle.routes.proofs.Turns.{swept}
-use Rattle.routes.specs.Side.{leftIn}
+use Rattle.routes.proofs.Loops.Sweep.{swept}
+use Rattle.routes.specs.Side.{tableLeft}
 use borrow.Author.Needs.{needs}
 use Rattle.routes.proofs.sweep.sweep.Statement.{statement}
 use Rattle.routes.proofs.sweep.sweep.Tie as tie
@@ -11,8 +11,8 @@ start-a-requires c κs = search needs
 start-b-requires : tie.Need-start-b-requires
 start-b-requires c κs = search needs
 
-sub-steps : tie.Need-sub-steps
-sub-steps c = search needs
+one-before-requires : tie.Need-one-before-requires
+one-before-requires c κs = search needs
 
 steps-requires : tie.Need-steps-requires
 steps-requires c κs = search needs
@@ -26,12 +26,12 @@ same-length-2 c = search needs
 returns : tie.Need-returns
 returns c =
     let atSteps = c .before .before .before .before in
-    let atStartB = atSteps .before .before .before .before .before in
+    let atStartB = atSteps .before .before .before .before .before .before in
     let atStartA = atStartB .before .before .before .before in
     let start = atStartA .before .before .before .before .before in
     let a = start .args in
-    swept (leftIn (a .table .now) (a .n)) (a .k) (a .s) (a .t) (a .a .now) (a .b .now) _ _ _ _
-    (atStartA .start-a .ensures) (atStartB .start-b .ensures) (atSteps .steps .ensures)
+    swept (tableLeft (a .table .now) (a .n)) (a .k) (a .s .0) (a .t .0) _ (a .a .now) (a .b .now) _ _ _ _
+    (atSteps .before .one-before .ensures) (atStartA .start-a .ensures) (atStartB .start-b .ensures) (atSteps .steps .ensures)
 
 pub sweep-spec : {M : Type 1} → statement M
 sweep-spec =
@@ -39,7 +39,7 @@ sweep-spec =
     (tie.spec
     start-a-requires
     start-b-requires
-    sub-steps
+    one-before-requires
     steps-requires
     same-length
     same-length-2

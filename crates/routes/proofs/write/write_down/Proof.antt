@@ -1,5 +1,5 @@
 -- `write_down` meets its contract. The loop's invariant: what is left to do gives what the whole gives. Assumes nothing.
-use Rattle.routes.proofs.WriteTurns.{down-turn, down-end}
+use Rattle.routes.proofs.Loops.Write.{down-turn, down-end}
 use Rattle.routes.specs.Writing.{writeDown}
 use native.Mathlib.Omega.{arith}
 use lib.ListN.{length}
@@ -11,7 +11,7 @@ use Rattle.routes.proofs.write.write_down.Tie as tie
 abbrev Inv-loop : tie.InvT-loop
 Inv-loop relays₀ side order i count from x₀ c₀ relays x c =
     (length relays ≡ length relays₀) × (c ≤ 1000)
-    × (writeDown side order from c₀ x₀ relays₀ ≡ writeDown side order from c x relays)
+    × (writeDown side order from c₀ (x₀ .0) relays₀ ≡ writeDown side order from c (x .0) relays)
 
 abbrev μ-loop : tie.MeasureT-loop
 μ-loop relays₀ side order i count from x₀ c₀ relays x c = c
@@ -50,7 +50,7 @@ loop-again c =
       atPut .put .kept .0 ∙ atLoop .loop .inv .0,
       omega arith,
       atLoop .loop .inv .2
-          ∙ down-turn (a .side .now) (a .order .now) (a .from) (atLoop .loop .c) (atLoop .loop .x) (c .prior-of .result)
+          ∙ down-turn (a .side .now) (a .order .now) (a .from) (atLoop .loop .c) (atLoop .loop .x .0) (c .prior-of .result .0)
           (atRelayAt .relay-at .result .0) (atLoop .loop .relays) (atPut .put .last .0)
           (omega arith) (atRelayAt .relay-at .ensures) (atPut .put .ensures) (c .prior-of .ensures),
     )
@@ -63,7 +63,7 @@ returns c =
     let start = c .before .before .before .before .before .before in
     let a = start .args in
     rw (← c .before .before .second-of .ensures)
-    (sym (c .before .loop .inv .2 ∙ down-end (a .side .now) (a .order .now) (a .from) (c .before .loop .c) (c .before .loop .x) (c .before .loop .relays) (omega arith)))
+    (sym (c .before .loop .inv .2 ∙ down-end (a .side .now) (a .order .now) (a .from) (c .before .loop .c) (c .before .loop .x .0) (c .before .loop .relays) (omega arith)))
 
 pub write-down-spec : {M : Type 1} → statement M
 write-down-spec =

@@ -1,5 +1,5 @@
 -- `write_route` meets its contract. Assumes nothing.
-use Rattle.routes.proofs.WriteTurns.{counted, route-length, route-written}
+use Rattle.routes.proofs.Loops.Write.{counted, route-length, route-written}
 use native.Mathlib.Omega.{arith}
 use borrow.Author.Needs.{needs}
 use Rattle.routes.proofs.write.write_route.Statement.{statement}
@@ -18,13 +18,13 @@ write-down-requires : tie.Need-write-down-requires
 write-down-requires c κs =
     let atCount = c .before .before .before in
     let start = atCount .before .before .before .before .before in
-    omega (arith, counted (start .args .first .now) (start .args .i) (atCount .count .result) (atCount .count .ensures), start .pre)
+    omega (arith, counted (start .args .front .now) (start .args .i) (atCount .count .result) (atCount .count .ensures), start .pre)
 
 add-put : tie.Need-add-put
 add-put c =
     let atCount = c .before .before .before .before .before .before .before in
     let start = atCount .before .before .before .before .before in
-    omega (arith, counted (start .args .first .now) (start .args .i) (atCount .count .result) (atCount .count .ensures), start .pre)
+    omega (arith, counted (start .args .front .now) (start .args .i) (atCount .count .result) (atCount .count .ensures), start .pre)
 
 relay-at-requires : tie.Need-relay-at-requires
 relay-at-requires c κs = search needs
@@ -36,13 +36,13 @@ add-write-up : tie.Need-add-write-up
 add-write-up c =
     let atCount = c .before .before .before .before .before .before .before .before .before .before .before .before in
     let start = atCount .before .before .before .before .before in
-    omega (arith, counted (start .args .first .now) (start .args .i) (atCount .count .result) (atCount .count .ensures), start .pre)
+    omega (arith, counted (start .args .front .now) (start .args .i) (atCount .count .result) (atCount .count .ensures), start .pre)
 
 add-write-up-2 : tie.Need-add-write-up-2
 add-write-up-2 c =
     let atCount = c .before .before .before .before .before .before .before .before .before .before .before .before in
     let start = atCount .before .before .before .before .before in
-    omega (arith, counted (start .args .first .now) (start .args .i) (atCount .count .result) (atCount .count .ensures), start .pre)
+    omega (arith, counted (start .args .front .now) (start .args .i) (atCount .count .result) (atCount .count .ensures), start .pre)
 
 write-up-requires : tie.Need-write-up-requires
 write-up-requires c κs =
@@ -52,8 +52,8 @@ write-up-requires c κs =
     let a = start .args in
     omega (
       arith,
-      counted (a .first .now) (a .i) (atCount .count .result) (atCount .count .ensures),
-      counted (a .second .now) (a .i) (atCount2 .count2 .result) (atCount2 .count2 .ensures),
+      counted (a .front .now) (a .i) (atCount .count .result) (atCount .count .ensures),
+      counted (a .back .now) (a .i) (atCount2 .count2 .result) (atCount2 .count2 .ensures),
       start .pre,
     )
 
@@ -63,7 +63,7 @@ add-result c =
     in
     let start = atCount .before .before .before .before .before in
     let a = start .args in
-    omega (arith, counted (a .first .now) (a .i) (atCount .count .result) (atCount .count .ensures))
+    omega (arith, counted (a .front .now) (a .i) (atCount .count .result) (atCount .count .ensures))
 
 add-result-2 : tie.Need-add-result-2
 add-result-2 c =
@@ -73,8 +73,8 @@ add-result-2 c =
     let a = start .args in
     omega (
       arith,
-      counted (a .first .now) (a .i) (atCount .count .result) (atCount .count .ensures),
-      counted (a .second .now) (a .i) (atCount2 .count2 .result) (atCount2 .count2 .ensures),
+      counted (a .front .now) (a .i) (atCount .count .result) (atCount .count .ensures),
+      counted (a .back .now) (a .i) (atCount2 .count2 .result) (atCount2 .count2 .ensures),
     )
 
 same-length : tie.Need-same-length
@@ -90,10 +90,10 @@ returns c =
     let atCount = atCount2 .before in
     let start = atCount .before .before .before .before .before in
     let a = start .args in (
-      route-length (a .first .now) (a .second .now) (a .i) (atCount .count .result) (atCount2 .count2 .result)
+      route-length (a .front .now) (a .back .now) (a .i) (atCount .count .result) (atCount2 .count2 .result)
           (atCount .count .ensures) (atCount2 .count2 .ensures),
-      route-written (a .first .now) (a .second .now) (a .order .now) (a .i) (a .from) (atCount .count .result) (atCount2 .count2 .result)
-          (atEndOf .end-of .result) (atRelayAt .relay-at .result .0) (a .relays .now) (atWriteDown .write-down .last .0)
+      route-written (a .front .now) (a .back .now) (a .order .now) (a .i) (a .from) (atCount .count .result) (atCount2 .count2 .result)
+          (atEndOf .end-of .result .0) (atRelayAt .relay-at .result .0) (a .relays .now) (atWriteDown .write-down .last .0)
           (atPut .put .last .0) (c .before .before .write-up .last .0)
           (atCount .count .ensures) (atCount2 .count2 .ensures) (atEndOf .end-of .ensures) (atRelayAt .relay-at .ensures)
           (atWriteDown .write-down .ensures) (atPut .put .ensures) (c .before .before .write-up .ensures),

@@ -1,5 +1,5 @@
 -- `write_routes` meets its contract. The loop's invariant: what is left to do gives what the whole gives. Assumes nothing.
-use Rattle.routes.proofs.WriteTurns.{route-bound, routes-turn, routes-end}
+use Rattle.routes.proofs.Loops.Write.{route-bound, routes-turn, routes-end}
 use Rattle.routes.specs.Writing.{writeFrom}
 use native.Mathlib.Omega.{arith}
 use lib.ListN.{length}
@@ -9,12 +9,12 @@ use Rattle.routes.proofs.write.write_routes.Statement.{statement}
 use Rattle.routes.proofs.write.write_routes.Tie as tie
 
 abbrev Inv-loop : tie.InvT-loop
-Inv-loop counts₀ relays₀ first second order k i₀ from₀ counts relays i from =
+Inv-loop counts₀ relays₀ front back order k i₀ from₀ counts relays i from =
     (length counts ≡ length counts₀) × (length relays ≡ length relays₀) × (i ≤ k) × (from ≤ 2001 * i)
-    × (writeFrom first second order k 0 0 counts₀ relays₀ ≡ writeFrom first second order (k - i) i from counts relays)
+    × (writeFrom front back order k 0 0 counts₀ relays₀ ≡ writeFrom front back order (k - i) i from counts relays)
 
 abbrev μ-loop : tie.MeasureT-loop
-μ-loop counts₀ relays₀ first second order k i₀ from₀ counts relays i from = k - i
+μ-loop counts₀ relays₀ front back order k i₀ from₀ counts relays i from = k - i
 
 loop-holds : tie.Need-loop-holds Inv-loop μ-loop
 loop-holds c =
@@ -38,7 +38,7 @@ cast-put-2 c =
     let start = atLoop .before .before .before .before .before .before in
     let a = start .args in
     omega
-    (arith, route-bound (a .first .now) (a .second .now) (atLoop .loop .i + 1) (atWriteRoute .write-route .result) (atWriteRoute .write-route .ensures .0))
+    (arith, route-bound (a .front .now) (a .back .now) (atLoop .loop .i + 1) (atWriteRoute .write-route .result) (atWriteRoute .write-route .ensures .0))
 
 put-requires : tie.Need-put-requires Inv-loop μ-loop
 put-requires c κs = tt
@@ -51,7 +51,7 @@ add-from c =
     let a = start .args in
     omega (
       arith,
-      route-bound (a .first .now) (a .second .now) (atLoop .loop .i + 1) (atWriteRoute .write-route .result)
+      route-bound (a .front .now) (a .back .now) (atLoop .loop .i + 1) (atWriteRoute .write-route .result)
           (atWriteRoute .write-route .ensures .0),
       atLoop .loop .inv,
     )
@@ -73,11 +73,11 @@ loop-again c =
       omega arith,
       omega (
         arith,
-        route-bound (a .first .now) (a .second .now) (atLoop .loop .i + 1) (atWriteRoute .write-route .result)
+        route-bound (a .front .now) (a .back .now) (atLoop .loop .i + 1) (atWriteRoute .write-route .result)
             (atWriteRoute .write-route .ensures .0),
         atLoop .loop .inv,
       ),
-      atLoop .loop .inv .4 ∙ routes-turn (a .first .now) (a .second .now) (a .order .now) (a .k) (atLoop .loop .i) (atLoop .loop .from)
+      atLoop .loop .inv .4 ∙ routes-turn (a .front .now) (a .back .now) (a .order .now) (a .k) (atLoop .loop .i) (atLoop .loop .from)
           (atWriteRoute .write-route .result) (atLoop .loop .counts) (c .before .before .put .last .0) (atLoop .loop .relays)
           (atWriteRoute .write-route .last .0)
           (omega arith) (atWriteRoute .write-route .ensures .0) (c .before .before .put .ensures) (atWriteRoute .write-route .ensures .1),
@@ -94,7 +94,7 @@ returns c =
     let start = c .before .before .before .before .before .before .before in
     let a = start .args in
     sym
-    (c .before .loop .inv .4 ∙ routes-end (a .first .now) (a .second .now) (a .order .now) (a .k) (c .before .loop .i) (c .before .loop .from)
+    (c .before .loop .inv .4 ∙ routes-end (a .front .now) (a .back .now) (a .order .now) (a .k) (c .before .loop .i) (c .before .loop .from)
     (c .before .loop .counts) (c .before .loop .relays) (omega arith))
 
 pub write-routes-spec : {M : Type 1} → statement M

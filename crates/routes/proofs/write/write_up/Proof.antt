@@ -1,5 +1,5 @@
 -- `write_up` meets its contract. The loop's invariant: what is left to do gives what the whole gives. Assumes nothing.
-use Rattle.routes.proofs.WriteTurns.{up-turn, up-end}
+use Rattle.routes.proofs.Loops.Write.{up-turn, up-end}
 use Rattle.routes.specs.Writing.{writeUp}
 use native.Mathlib.Omega.{arith}
 use lib.ListN.{length}
@@ -11,7 +11,7 @@ use Rattle.routes.proofs.write.write_up.Tie as tie
 abbrev Inv-loop : tie.InvT-loop
 Inv-loop relays₀ side order i count at x₀ c₀ p₀ relays x c p =
     (length relays ≡ length relays₀) × (p + c ≤ 81000)
-    × (writeUp side order p₀ c₀ x₀ relays₀ ≡ writeUp side order p c x relays)
+    × (writeUp side order p₀ c₀ (x₀ .0) relays₀ ≡ writeUp side order p c (x .0) relays)
 
 abbrev μ-loop : tie.MeasureT-loop
 μ-loop relays₀ side order i count at x₀ c₀ p₀ relays x c p = c
@@ -50,7 +50,7 @@ loop-again c =
       atPut .put .kept .0 ∙ atLoop .loop .inv .0,
       omega arith,
       atLoop .loop .inv .2
-          ∙ up-turn (a .side .now) (a .order .now) (atLoop .loop .p) (atLoop .loop .c) (atLoop .loop .x) (c .prior-of .result)
+          ∙ up-turn (a .side .now) (a .order .now) (atLoop .loop .p) (atLoop .loop .c) (atLoop .loop .x .0) (c .prior-of .result .0)
           (atRelayAt .relay-at .result .0) (atLoop .loop .relays) (atPut .put .last .0)
           (omega arith) (atRelayAt .relay-at .ensures) (atPut .put .ensures) (c .prior-of .ensures),
     )
@@ -63,7 +63,7 @@ returns c =
     let start = c .before .before .before .before .before .before in
     let a = start .args in
     rw (← c .before .before .second-of .ensures)
-    (sym (c .before .loop .inv .2 ∙ up-end (a .side .now) (a .order .now) (c .before .loop .p) (c .before .loop .c) (c .before .loop .x) (c .before .loop .relays) (omega arith)))
+    (sym (c .before .loop .inv .2 ∙ up-end (a .side .now) (a .order .now) (c .before .loop .p) (c .before .loop .c) (c .before .loop .x .0) (c .before .loop .relays) (omega arith)))
 
 pub write-up-spec : {M : Type 1} → statement M
 write-up-spec =

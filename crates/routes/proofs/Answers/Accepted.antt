@@ -1,0 +1,142 @@
+-- Route on an accepted table: `oneTreeIn` over the left table is the definition's `endsInOneTree`, and where it holds,
+-- `betweenIn` writes the definition's `routesOf`.
+use Prim.Native.Nat.{ℕ, zero, suc, pred, _+_, _-_, _*_, _≤_, _<_, max}
+use mathlib.Core.Bool.{true}
+use mathlib.Core.List.{List, [], _∷_, _++_, map}
+use mathlib.Core.Logic.{_≢_, by-cases}
+use mathlib.Core.Path.{_≡_, refl, sym, _∙_, ap, fun-ext}
+use native.Mathlib.Decide.{decLt}
+use native.Mathlib.Omega.{arith}
+use borrow.Author.Tests.{lt-ltb, le-ltb}
+use lib.ListN.{length, getD, drop, length-map}
+use lib.Seq.{sets, getD-drop}
+use Rattle.definitions.specs.Lists.{overwrite, joinAll}
+use Rattle.definitions.specs.Order.{orderOf, placeOf, relayAt}
+use Rattle.definitions.specs.Route.{leftOf, routesBetween, routesOf, endsInOneTree}
+use Rattle.definitions.specs.Network.{Accepted}
+use Rattle.lists.specs.Stores.{sets-overwrite}
+use Rattle.lists.specs.Cuts.{length-joinAll-map}
+use Rattle.theory.specs.Trees.{Alive}
+use Rattle.theory.specs.Accepted.{accepted}
+use Rattle.theory.specs.Left.{left-laws}
+use Rattle.theory.specs.Places.{relay-placed}
+use Rattle.theory.specs.RelayTrees.{places-differ}
+use Rattle.theory.specs.PlaceRoutes.{RoutesWithin}
+use Rattle.theory.specs.SweepRoutes.{routes-between}
+use Rattle.forests.specs.Left.{LeftTable}
+use Rattle.routes.specs.Side.{tableLeft, NoPaths}
+use Rattle.routes.specs.Writing.{Written, written}
+use Rattle.routes.specs.Between.{oneTreeIn, betweenIn}
+use Rattle.routes.proofs.Routes.Between.{routed-down, routed-up}
+use Rattle.routes.proofs.Answers.OneTree.{table-left, one-tree-same, one-tree-falls, one-tree-rises}
+
+-- The order's list in the front of a list of zeros gives the same relays.
+front-entry : (new rest : List ℕ) (i : ℕ) → ((j : ℕ) → getD rest j 0 ≡ 0) → getD (new ++ rest) i 0 ≡ getD new i 0
+front-entry [] rest i none = none i
+front-entry (x ∷ new) rest zero none = refl
+front-entry (x ∷ new) rest (suc i) none = front-entry new rest i none
+
+pub front-relays : (order list : List ℕ) → ((i : ℕ) → getD list i 0 ≡ 0) → relayAt (overwrite order list) ≡ relayAt order
+unfolding relayAt overwrite
+front-relays order list none =
+    fun-ext λ v.
+    front-entry order (drop (length order) list) (pred v) (λ j. getD-drop (length order) list j 0 ∙ none (length order + j))
+
+-- Routes as relay numbers are as long as routes as places.
+lengths-same : (f : ℕ → ℕ) (routes : List (List ℕ)) → map length (map (map f) routes) ≡ map length routes
+lengths-same f [] = refl
+lengths-same f (route ∷ routes) = rw (length-map route f, lengths-same f routes)
+
+module _ (n : ℕ) (lows highs : List ℕ) (k from to : ℕ) (ok : Accepted n lows highs) (one : 1 ≤ k) (small : k ≤ 32)
+    (source : from < n) (goal : to < n) (differ : from ≢ to) (old table : List ℕ) (made : LeftTable n k lows highs old table) where
+  abbrev p : ℕ
+  p = placeOf (orderOf n lows highs) from
+
+  abbrev q : ℕ
+  q = placeOf (orderOf n lows highs) to
+
+  abbrev look : ℕ → ℕ → ℕ
+  look = tableLeft table n
+
+  abbrev left : ℕ → ℕ → ℕ
+  left = leftOf n lows highs
+
+  apart : p ≢ q
+  apart = places-differ n lows highs from to source goal differ
+
+  agree : (i x : ℕ) → 1 ≤ i → i ≤ k → look i x ≡ left i x
+  agree i x positive le = table-left n k lows highs old table made i x positive le
+
+  pub tree-tested : oneTreeIn look k p q ≡ endsInOneTree n lows highs k from to
+  unfolding endsInOneTree
+  tree-tested =
+      one-tree-same left look (left-laws n lows highs) k p q (λ x. agree k x one (omega arith))
+      (relay-placed n lows highs from source .0) (relay-placed n lows highs to goal .0) apart
+
+  module _ (joins : oneTreeIn look k p q ≡ true) (order counts relays : List ℕ)
+      (same : relayAt order ≡ relayAt (orderOf n lows highs)) (a b : List ℕ) (noA : NoPaths n a) (noB : NoPaths n b)
+      (roomC : k ≤ length counts) (roomR : n - 2 + 2 * k ≤ length relays) where
+    abbrev routes : List (List ℕ)
+    routes = routesBetween left k p q
+
+    abbrev named : List (List ℕ)
+    named = map (map (relayAt (orderOf n lows highs))) routes
+
+    falls : q < p → Alive left k q p
+    falls less =
+        one-tree-falls left look (left-laws n lows highs) k p q (λ x. agree k x one (omega arith))
+        (relay-placed n lows highs from source .0) (relay-placed n lows highs to goal .0) apart less joins
+
+    rises : p < q → Alive left k p q
+    rises less =
+        one-tree-rises left look (left-laws n lows highs) k p q (λ x. agree k x one (omega arith))
+        (relay-placed n lows highs from source .0) (relay-placed n lows highs to goal .0) apart less joins
+
+    within : RoutesWithin left k (max p q) p q routes
+    within =
+        routes-between left (left-laws n lows highs) k p q one (relay-placed n lows highs from source .0) (relay-placed n lows highs to goal .0) apart
+        (by-cases (decLt q p)
+        (λ less x above upto. falls less x (omega arith) (omega arith))
+        (λ more x above upto. rises (omega arith) x (omega arith) (omega arith)))
+
+    abbrev placesWritten : Written
+    placesWritten =
+        written (sets counts 0 (map length routes)) (sets relays 0 (joinAll (map (map (relayAt order)) routes))) (length (joinAll routes))
+
+    swept : betweenIn a b look k p q order counts relays ≡ placesWritten
+    unfolding betweenIn
+    swept =
+        by-cases (decLt q p)
+        (λ less.
+        rw (lt-ltb q p less)
+        (routed-down left look (left-laws n lows highs) k p q less (falls less) (relay-placed n lows highs to goal .0) small agree
+        n (accepted n lows highs ok .few) (relay-placed n lows highs from source .1) a b noA noB order counts relays))
+        (λ more.
+        rw (le-ltb q p (omega arith))
+        (routed-up left look (left-laws n lows highs) k q p (omega (arith, apart)) (rises (omega (arith, apart))) (relay-placed n lows highs from source .0) small agree
+        n (accepted n lows highs ok .few) (relay-placed n lows highs to goal .1) a b noA noB order counts relays))
+
+    longest : length (joinAll named) ≤ length relays
+    longest =
+        omega (
+          arith,
+          length-joinAll-map (relayAt (orderOf n lows highs)) routes,
+          within .written,
+          relay-placed n lows highs from source .1,
+          relay-placed n lows highs to goal .1,
+        )
+
+    pub routes-written : betweenIn a b look k p q order counts relays
+        ≡ written (overwrite (map length (routesOf n lows highs k from to)) counts)
+        (overwrite (joinAll (routesOf n lows highs k from to)) relays)
+        (length (joinAll (routesOf n lows highs k from to)))
+    unfolding routesOf
+    routes-written =
+        swept
+        ∙ ap (λ (f : ℕ → ℕ). written (sets counts 0 (map length routes)) (sets relays 0 (joinAll (map (map f) routes))) (length (joinAll routes))) same
+        ∙ ap (λ (l : List ℕ). written l (sets relays 0 (joinAll named)) (length (joinAll routes)))
+        (ap (sets counts 0) (sym (lengths-same (relayAt (orderOf n lows highs)) routes))
+        ∙ sets-overwrite (map length named) counts
+        (omega (arith, length-map named length, length-map routes (map (relayAt (orderOf n lows highs))), within .number)))
+        ∙ ap (λ (l : List ℕ). written (overwrite (map length named) counts) l (length (joinAll routes))) (sets-overwrite (joinAll named) relays longest)
+        ∙ ap (written (overwrite (map length named) counts) (overwrite (joinAll named) relays)) (sym (length-joinAll-map (relayAt (orderOf n lows highs)) routes))

@@ -1,0 +1,161 @@
+-- What Route's inner functions ask of each other, and that what they answer over places is the definition's answer, in the
+-- code's terms.
+use Prim.Native.Nat.{ℕ, _+_, _*_, _≤_, _<_}
+use mathlib.Core.Bool.{Bool, true, false}
+use mathlib.Core.List.{List, [], _∷_, _++_, map, append-nil}
+use mathlib.Core.Path.{_≡_, refl, _∙_, ap}
+use native.Mathlib.Nat.{zero-add}
+use native.Mathlib.Omega.{arith}
+use lib.ListN.{length, drop, getD, replicate, length-replicate}
+use lib.Seq.{drop-length}
+use Rattle.definitions.specs.Outcome.{pick, refused, done}
+use Rattle.definitions.specs.Lists.{overwrite, zeroed, joinAll}
+use Rattle.definitions.specs.Network.{linked, Accepted}
+use Rattle.definitions.specs.Order.{orderOf, placeOf, relayAt, placesOf}
+use Rattle.definitions.specs.Forests.{forestsOf, forestOf}
+use Rattle.definitions.specs.Route.{routesOf, endsInOneTree}
+use Rattle.lists.specs.Tables.{length-table, getD-table, getD-zeros}
+use Rattle.lists.specs.Overwritten.{getD-overwrite}
+use Rattle.theory.specs.Places.{relay-placed}
+use Rattle.forests.specs.Scan.{Scannable, Scanned}
+use Rattle.forests.specs.Left.{LeftInput}
+use Rattle.forests.proofs.ClearLaws.{cleared}
+use Rattle.routes.specs.Side.{priorStart, tableLeft}
+use Rattle.routes.specs.Writing.{Written, written}
+use Rattle.routes.specs.Between.{oneTreeIn, betweenIn}
+use Rattle.routes.specs.Answers.{Answered, answered, answerIn, treeAnswer, Routable, RouteArrays, Prepared}
+use Rattle.routes.proofs.Answers.Accepted.{front-relays, tree-tested, routes-written}
+
+-- Lists of zeros, in one of the two sizes.
+zeros-at : (size : ℕ) (list : List ℕ) → list ≡ replicate size 0 → (i : ℕ) → getD list i 0 ≡ 0
+zeros-at size list e i = ap (λ (l : List ℕ). getD l i 0) e ∙ getD-zeros size i
+
+zeros-long : (size : ℕ) (list : List ℕ) → list ≡ replicate size 0 → length list ≡ size
+zeros-long size list e = ap length e ∙ length-replicate {A = ℕ} size 0
+
+pub route-arrays : (size links wide n : ℕ) {lows order places numbers a b : List ℕ} → n ≤ size → length lows ≤ links → priorStart + n < wide
+    → order ≡ replicate size 0 → places ≡ replicate size 0 → numbers ≡ replicate links 0 → a ≡ replicate wide 0 → b ≡ replicate wide 0
+    → RouteArrays n lows order places numbers a b
+route-arrays size links wide n {lows} {order} {places} {numbers} {a} {b} few short broad eo ep en ea eb =
+    record {
+      relayRoom = omega (arith, zeros-long size order eo);
+      placeRoom = omega (arith, zeros-long size places ep);
+      linkRoom = omega (arith, zeros-long links numbers en);
+      noOrder = zeros-at size order eo;
+      noA = record { room = omega (arith, zeros-long wide a ea); none = zeros-at wide a ea };
+      noB = record { room = omega (arith, zeros-long wide b eb); none = zeros-at wide b eb };
+    }
+
+-- The places' list gives the place of each relay.
+pub place-entry : (n : ℕ) (lows highs places places′ : List ℕ) → places′ ≡ overwrite (placesOf n (orderOf n lows highs)) places
+    → (r : ℕ) → r < n → getD places′ r 0 ≡ placeOf (orderOf n lows highs) r
+unfolding placesOf
+place-entry n lows highs places places′ e r less =
+    ap (λ (l : List ℕ). getD l r 0) e
+    ∙ getD-overwrite (placesOf n (orderOf n lows highs)) places r 0 (omega (arith, length-table (placeOf (orderOf n lows highs)) 0 n))
+    ∙ getD-table (placeOf (orderOf n lows highs)) 0 n r 0 less ∙ ap (placeOf (orderOf n lows highs)) (zero-add r)
+
+pub table-asks : (n k : ℕ) (lows highs order order′ places places′ numbers numbers′ table : List ℕ) → Accepted n lows highs
+    → Scanned n lows highs order order′ places places′ numbers numbers′
+    → n ≤ length places′ → length lows ≤ length numbers′ → k * n ≤ length table → ((j : ℕ) → j < k * n → getD table j 0 ≡ 0)
+    → LeftInput n k lows highs places′ numbers′ table
+unfolding forestsOf
+table-asks n k lows highs order order′ places places′ numbers numbers′ table ok scanned placeRoom linkRoom room zeros =
+    let forest = forestOf (linked lows highs) (orderOf n lows highs) lows highs in
+    record {
+      accepted = ok;
+      placeRoom = placeRoom;
+      forestRoom = linkRoom;
+      tableRoom = room;
+      place = place-entry n lows highs places places′ (scanned .thePlaces);
+      forest = λ i less.
+          ap (λ (l : List ℕ). getD l i 0) (scanned .theForests)
+          ∙ getD-overwrite (forestsOf n lows highs) numbers i 0 (omega (arith, length-table forest 0 (length lows)))
+          ∙ getD-table forest 0 (length lows) i 0 less ∙ ap forest (zero-add i);
+      zeros = zeros;
+    }
+
+module _ (a b : List ℕ) (left : ℕ → ℕ → ℕ) (k p q : ℕ) (order counts relays : List ℕ) (test : Bool) (e : test ≡ oneTreeIn left k p q) where
+  pub answer-some : (counts′ relays′ : List ℕ) (upto : ℕ) → test ≡ true → written counts′ relays′ upto ≡ betweenIn a b left k p q order counts relays
+      → answered counts′ relays′ (done (upto ∷ [])) ≡ answerIn a b left k p q order counts relays
+  unfolding answerIn
+  answer-some counts′ relays′ upto passes wrote =
+      rw (← e, passes) (ap (λ (w : Written). answered (w .countList) (w .relayList) (done (w .upto ∷ []))) wrote)
+
+  pub answer-none : test ≡ false → answered counts relays (refused 13 0) ≡ answerIn a b left k p q order counts relays
+  unfolding answerIn
+  answer-none fails = rw (← e, fails)
+
+-- The answer over the left table is that of the definition.
+module _ (n : ℕ) (lows highs : List ℕ) (k from to : ℕ) (counts relays scratch : List ℕ) (asked : Routable n lows highs k from to counts relays scratch)
+    (order order′ places places′ numbers numbers′ table table′ : List ℕ)
+    (made : Prepared n k lows highs order order′ places places′ numbers numbers′ table table′)
+    (a b : List ℕ) (lent : RouteArrays n lows order places numbers a b) where
+  relays-same : relayAt order′ ≡ relayAt (orderOf n lows highs)
+  relays-same =
+      ap relayAt (made .scanned .theOrder) ∙ front-relays (orderOf n lows highs) order (lent .noOrder)
+
+  abbrev P : ℕ
+  P = placeOf (orderOf n lows highs) from
+
+  abbrev Q : ℕ
+  Q = placeOf (orderOf n lows highs) to
+
+  abbrev routes : List (List ℕ)
+  routes = routesOf n lows highs k from to
+
+  abbrev all : Written
+  all = betweenIn a b (tableLeft table′ n) k P Q order′ counts relays
+
+  over-places : answerIn a b (tableLeft table′ n) k P Q order′ counts relays ≡ treeAnswer n lows highs k from to counts relays
+  unfolding answerIn treeAnswer
+  over-places = go (oneTreeIn (tableLeft table′ n) k P Q) refl
+    where
+      tree : oneTreeIn (tableLeft table′ n) k P Q ≡ endsInOneTree n lows highs k from to
+      tree =
+          tree-tested n lows highs k from to (asked .accepted) (asked .one) (asked .few) (asked .source) (asked .goal) (asked .differ)
+          table table′ (made .theTable)
+
+      go : (b : Bool) → oneTreeIn (tableLeft table′ n) k P Q ≡ b
+          → pick (oneTreeIn (tableLeft table′ n) k P Q) (answered (all .countList) (all .relayList) (done (all .upto ∷ []))) (answered counts relays (refused 13 0))
+          ≡ pick (endsInOneTree n lows highs k from to)
+          (answered (overwrite (map length routes) counts) (overwrite (joinAll routes) relays) (done (length (joinAll routes) ∷ [])))
+          (answered counts relays (refused 13 0))
+      go true e =
+          rw (← tree, e)
+          (ap (λ (w : Written). answered (w .countList) (w .relayList) (done (w .upto ∷ [])))
+          (routes-written n lows highs k from to (asked .accepted) (asked .one) (asked .few) (asked .source) (asked .goal) (asked .differ)
+          table table′ (made .theTable) e order′ counts relays relays-same a b (lent .noA) (lent .noB) (asked .countRoom) (asked .relayRoom)))
+      go false e = rw (← tree, e)
+
+  pub answers-tree : (p q : ℕ) (result : Answered) → p ≡ getD places′ from 0 → q ≡ getD places′ to 0
+      → result ≡ answerIn a b (tableLeft table′ n) k p q order′ counts relays → result ≡ treeAnswer n lows highs k from to counts relays
+  answers-tree p q result ep eq e =
+      let atP : p ≡ P = ep ∙ place-entry n lows highs places places′ (made .scanned .thePlaces) from (asked .source) in
+      let atQ : q ≡ Q = eq ∙ place-entry n lows highs places places′ (made .scanned .thePlaces) to (asked .goal) in
+      e ∙ ap (λ (x : ℕ). answerIn a b (tableLeft table′ n) k x q order′ counts relays) atP
+      ∙ ap (λ (x : ℕ). answerIn a b (tableLeft table′ n) k P x order′ counts relays) atQ ∙ over-places
+
+  -- The two places are places.
+  pub places-some : (p q : ℕ) → p ≡ getD places′ from 0 → q ≡ getD places′ to 0 → (0 < p) × (0 < q) × (k ≤ 32)
+  places-some p q ep eq =
+      let atP : p ≡ P = ep ∙ place-entry n lows highs places places′ (made .scanned .thePlaces) from (asked .source) in
+      let atQ : q ≡ Q = eq ∙ place-entry n lows highs places places′ (made .scanned .thePlaces) to (asked .goal) in
+      omega (arith, atP, atQ, relay-placed n lows highs from (asked .source) .0, relay-placed n lows highs to (asked .goal) .0, asked .few)
+
+-- A list cleared as far as it goes, which was as long as another.
+pub clear-whole : (old mid last : List ℕ) → length mid ≡ length old → last ≡ replicate (length mid) 0 ++ drop (length mid) mid
+    → last ≡ zeroed old
+unfolding zeroed
+clear-whole old mid last e clear =
+    clear ∙ rw (drop-length mid) (append-nil (replicate (length mid) 0)) ∙ ap (λ (x : ℕ). replicate x 0) e
+
+-- What preparing asks, after the front of scratch is cleared.
+pub prepare-asks : (n : ℕ) (lows highs : List ℕ) (k from to : ℕ) (counts relays scratch scratch′ order places numbers a b : List ℕ)
+    → Routable n lows highs k from to counts relays scratch → RouteArrays n lows order places numbers a b
+    → scratch′ ≡ replicate (k * n) 0 ++ drop (k * n) scratch → length scratch′ ≡ length scratch
+    → Scannable n lows highs order places numbers × ((k * n ≤ length scratch′) × ((j : ℕ) → j < k * n → getD scratch′ j 0 ≡ 0))
+prepare-asks n lows highs k from to counts relays scratch scratch′ order places numbers a b asked lent clear long = (
+  record { accepted = asked .accepted; relayRoom = lent .relayRoom; placeRoom = lent .placeRoom; forestRoom = lent .linkRoom },
+  (omega (arith, asked .scratchRoom), cleared (k * n) scratch clear .0),
+)

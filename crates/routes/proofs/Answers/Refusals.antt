@@ -1,0 +1,205 @@
+-- Route's answer and its three lists afterwards are those of the definition, way by way: refused by the table check, refused by
+-- the wish or the room, and answered. Assumes nothing.
+use Prim.Native.Nat.{ℕ, zero, suc, _+_, _-_, _*_}
+use mathlib.Core.Bool.{Bool, true, false, _||_, not}
+use mathlib.Core.List.{List, [], _∷_, map}
+use mathlib.Core.Logic.{_≢_}
+use mathlib.Core.Path.{_≡_, refl, sym, _∙_, ap, subst}
+use native.Mathlib.Omega.{arith}
+use borrow.Author.Tests.{ltb-false, leb-false, eqb-false, ne-eqb}
+use lib.Dec.{eqb, ltb, leb}
+use lib.ListN.{length, getD}
+use Rattle.definitions.specs.Outcome.{pick, refused, done, Answer, refuseIf, andThen, ifDone}
+use Rattle.definitions.specs.Lists.{overwrite, zeroed, outside, joinAll, someBelow}
+use Rattle.definitions.specs.Network.{isPair, linkFault, linksCheck, tableCheck, Accepted}
+use Rattle.definitions.specs.Route.{routesOf, endsInOneTree, tooShort, routeAnswer, countsAfter, routeRelaysAfter, scratchUsed, scratchAfter}
+use Rattle.lists.specs.Tests.{or-false}
+use Rattle.lists.specs.Outcomes.{not-refused, then-done}
+use Rattle.network.specs.Answers.{refusalNumber, refusalPlace, refusalOf}
+use Rattle.network.specs.Refusals.{refusal-then}
+use Rattle.network.specs.declared.Refusal.{Refusal}
+use Rattle.network.specs.declared.Refusal.the-variants.{NotOneTree}
+use Rattle.routes.specs.Answers.{wishCheck, Answered, answered, treeAnswer, Routable}
+
+-- Not refused by the test of one tree, which comes last and alone uses scratch.
+abbrev BeforeTree : Answer → Type 0
+BeforeTree (refused number place) = number ≢ refusalNumber NotOneTree
+BeforeTree (done values) = Unit {0}
+
+before-refuse : (b : Bool) (number place : ℕ) (rest : Answer) → number ≢ refusalNumber NotOneTree → BeforeTree rest
+    → BeforeTree (refuseIf b number place rest)
+unfolding refuseIf
+before-refuse true number place rest other before = other
+before-refuse false number place rest other before = before
+
+fault-other : (n : ℕ) (lows highs : List ℕ) (i a b : ℕ) → linkFault n lows highs i a b ≢ refusalNumber NotOneTree
+unfolding linkFault
+fault-other n lows highs i a b = go (leb n a || leb n b) (leb b a) (someBelow (isPair lows highs a b) i)
+  where
+    go : (x y z : Bool) → pick x 5 (pick y 6 (pick z 7 0)) ≢ refusalNumber NotOneTree
+    go true y z e = omega arith
+    go false true z e = omega arith
+    go false false true e = omega arith
+    go false false false e = omega arith
+
+before-links : (n : ℕ) (lows highs : List ℕ) (i count : ℕ) → BeforeTree (linksCheck n lows highs i count)
+unfolding linksCheck
+before-links n lows highs i zero = tt
+before-links n lows highs i (suc count) =
+    let fault : ℕ = linkFault n lows highs i (getD lows i 0) (getD highs i 0) in
+    before-refuse (ltb 0 fault) fault i (linksCheck n lows highs (i + 1) count)
+    (fault-other n lows highs i (getD lows i 0) (getD highs i 0)) (before-links n lows highs (i + 1) count)
+
+before-table : (n : ℕ) (lows highs : List ℕ) → BeforeTree (tableCheck n lows highs)
+unfolding tableCheck
+before-table n lows highs =
+    let links : Answer = linksCheck n lows highs 0 (length lows) in
+    let uneven : Bool = not (eqb (length lows) (length highs)) || ltb 3000 (length lows) in
+    before-refuse (outside 1 1000 n) 3 0 (refuseIf uneven 4 0 links) (λ e. omega arith)
+    (before-refuse uneven 4 0 links (λ e. omega arith) (before-links n lows highs 0 (length lows)))
+
+before-wish : (n k from to countsLength relaysLength scratchLength : ℕ)
+    → BeforeTree (wishCheck n k from to countsLength relaysLength scratchLength)
+unfolding wishCheck
+before-wish n k from to countsLength relaysLength scratchLength =
+    let short : Bool = ltb countsLength k || (ltb relaysLength (n - 2 + 2 * k) || ltb scratchLength (k * n)) in
+    let room : Answer = refuseIf short 12 0 (done []) in
+    let same : Answer = refuseIf (eqb from to) 11 0 room in
+    let range : Answer = refuseIf (leb n from || leb n to) 10 0 same in
+    before-refuse (outside 1 32 k) 9 0 range (λ e. omega arith)
+    (before-refuse (leb n from || leb n to) 10 0 same (λ e. omega arith)
+    (before-refuse (eqb from to) 11 0 room (λ e. omega arith)
+    (before-refuse short 12 0 (done []) (λ e. omega arith) tt)))
+
+refuse-then : (b : Bool) (number place : ℕ) (rest : Answer) (next : List ℕ → Answer)
+    → refuseIf b number place (andThen rest next) ≡ andThen (refuseIf b number place rest) next
+unfolding refuseIf andThen
+refuse-then true number place rest next = refl
+refuse-then false number place rest next = refl
+
+module _ (n : ℕ) (lows highs : List ℕ) (k from to : ℕ) (counts relays scratch : List ℕ) where
+  -- What Route promises of its answer and the three lists afterwards.
+  abbrev pub Promised : Answer → List ℕ → List ℕ → List ℕ → Type 0
+  Promised answer counts′ relays′ scratch′ =
+      (answer ≡ routeAnswer n lows highs k from to counts relays scratch)
+      × ((counts′ ≡ countsAfter n lows highs k from to counts relays scratch)
+      × ((relays′ ≡ routeRelaysAfter n lows highs k from to counts relays scratch)
+      × (scratch′ ≡ scratchAfter n lows highs k from to counts relays scratch)))
+
+  abbrev wish : Answer
+  wish = wishCheck n k from to (length counts) (length relays) (length scratch)
+
+  abbrev last : Answer
+  last = refuseIf (not (endsInOneTree n lows highs k from to)) 13 0 (done (length (joinAll (routesOf n lows highs k from to)) ∷ []))
+
+  split-answer : routeAnswer n lows highs k from to counts relays scratch ≡ andThen (tableCheck n lows highs) (λ _. andThen wish (λ _. last))
+  unfolding routeAnswer wishCheck tooShort refuseIf andThen
+  split-answer = ap (λ (rest : Answer). andThen (tableCheck n lows highs) (λ _. rest)) inner
+    where
+      short : Bool
+      short = ltb (length counts) k || (ltb (length relays) (n - 2 + 2 * k) || ltb (length scratch) (k * n))
+
+      inner : refuseIf (outside 1 32 k) 9 0 (refuseIf (leb n from || leb n to) 10 0 (refuseIf (eqb from to) 11 0 (refuseIf short 12 0 last)))
+          ≡ andThen (wishCheck n k from to (length counts) (length relays) (length scratch)) (λ _. last)
+      inner =
+          ap (λ (x : Answer). refuseIf (outside 1 32 k) 9 0 (refuseIf (leb n from || leb n to) 10 0 (refuseIf (eqb from to) 11 0 x)))
+          (refuse-then short 12 0 (done []) (λ _. last))
+          ∙ ap (λ (x : Answer). refuseIf (outside 1 32 k) 9 0 (refuseIf (leb n from || leb n to) 10 0 x))
+          (refuse-then (eqb from to) 11 0 (refuseIf short 12 0 (done [])) (λ _. last))
+          ∙ ap (λ (x : Answer). refuseIf (outside 1 32 k) 9 0 x)
+          (refuse-then (leb n from || leb n to) 10 0 (refuseIf (eqb from to) 11 0 (refuseIf short 12 0 (done []))) (λ _. last))
+          ∙ refuse-then (outside 1 32 k) 9 0 (refuseIf (leb n from || leb n to) 10 0 (refuseIf (eqb from to) 11 0 (refuseIf short 12 0 (done [])))) (λ _. last)
+
+  -- A refusal before the test of one tree changes nothing.
+  stopped : (number place : ℕ) → number ≢ refusalNumber NotOneTree → routeAnswer n lows highs k from to counts relays scratch ≡ refused number place
+      → Promised (refused number place) counts relays scratch
+  unfolding countsAfter routeRelaysAfter scratchAfter ifDone scratchUsed
+  stopped number place other e = (sym e, (rw e, (rw e, rw (e, ne-eqb number (refusalNumber NotOneTree) other))))
+
+  -- A refusal of one of the checks, which stands.
+  refused-by : (refusal : Refusal) (check : Answer) → BeforeTree check → refusalOf refusal ≡ check
+      → routeAnswer n lows highs k from to counts relays scratch ≡ refusalOf refusal → Promised (refusalOf refusal) counts relays scratch
+  refused-by refusal check before same e =
+      let other : BeforeTree (refusalOf refusal) = subst BeforeTree (sym same) before in
+      stopped (refusalNumber refusal) (refusalPlace refusal) other e
+
+  pub table-refused : (refusal : Refusal) → refusalOf refusal ≡ tableCheck n lows highs → Promised (refusalOf refusal) counts relays scratch
+  table-refused refusal e =
+      refused-by refusal (tableCheck n lows highs) (before-table n lows highs) e
+      (split-answer ∙ ap (λ (x : Answer). andThen x (λ _. andThen wish (λ _. last))) (sym e) ∙ refusal-then refusal (λ _. andThen wish (λ _. last)))
+
+  module _ (ok : Accepted n lows highs) where
+    past-table : routeAnswer n lows highs k from to counts relays scratch ≡ andThen wish (λ _. last)
+    past-table = split-answer ∙ then-done (tableCheck n lows highs) (λ _. andThen wish (λ _. last)) [] ok
+
+    pub wish-refused : (refusal : Refusal) → refusalOf refusal ≡ wish → Promised (refusalOf refusal) counts relays scratch
+    wish-refused refusal e =
+        refused-by refusal wish (before-wish n k from to (length counts) (length relays) (length scratch)) e
+        (past-table ∙ ap (λ (x : Answer). andThen x (λ _. last)) (sym e) ∙ refusal-then refusal (λ _. last))
+
+    module _ (fine : wish ≡ done []) where
+      past-wish : routeAnswer n lows highs k from to counts relays scratch ≡ last
+      past-wish = past-table ∙ then-done wish (λ _. last) [] fine
+
+      pub route-answered : (answer : Answer) (counts′ relays′ scratch′ : List ℕ)
+          → answered counts′ relays′ answer ≡ treeAnswer n lows highs k from to counts relays → scratch′ ≡ zeroed scratch
+          → Promised answer counts′ relays′ scratch′
+      unfolding treeAnswer countsAfter routeRelaysAfter scratchAfter ifDone scratchUsed refuseIf
+      route-answered answer counts′ relays′ scratch′ e clear = go (endsInOneTree n lows highs k from to) refl
+        where
+          go : (b : Bool) → endsInOneTree n lows highs k from to ≡ b → Promised answer counts′ relays′ scratch′
+          go true eb =
+              let parts : answered counts′ relays′ answer
+              ≡ answered (overwrite (map length (routesOf n lows highs k from to)) counts) (overwrite (joinAll (routesOf n lows highs k from to)) relays)
+              (done (length (joinAll (routesOf n lows highs k from to)) ∷ [])) = e ∙ rw eb in
+              let whole : routeAnswer n lows highs k from to counts relays scratch
+              ≡ done (length (joinAll (routesOf n lows highs k from to)) ∷ []) = past-wish ∙ rw eb in (
+                ap (λ (x : Answered). x .answer) parts ∙ sym whole,
+                (
+                  ap (λ (x : Answered). x .countList) parts ∙ rw whole,
+                  (
+                    ap (λ (x : Answered). x .relayList) parts ∙ rw whole,
+                    clear ∙ rw whole,
+                  ),
+                ),
+              )
+          go false eb =
+              let parts : answered counts′ relays′ answer ≡ answered counts relays (refused 13 0) = e ∙ rw eb in
+              let whole : routeAnswer n lows highs k from to counts relays scratch ≡ refused 13 0 = past-wish ∙ rw eb in (
+                ap (λ (x : Answered). x .answer) parts ∙ sym whole,
+                (
+                  ap (λ (x : Answered). x .countList) parts ∙ rw whole,
+                  (
+                    ap (λ (x : Answered). x .relayList) parts ∙ rw whole,
+                    clear ∙ rw whole,
+                  ),
+                ),
+              )
+
+      -- What is passed is what Route asks.
+      pub wish-passed : Routable n lows highs k from to counts relays scratch
+      unfolding wishCheck outside
+      wish-passed =
+          let short : Bool = ltb (length counts) k || (ltb (length relays) (n - 2 + 2 * k) || ltb (length scratch) (k * n)) in
+          let room : Answer = refuseIf short 12 0 (done []) in
+          let same : Answer = refuseIf (eqb from to) 11 0 room in
+          let range : Answer = refuseIf (leb n from || leb n to) 10 0 same in
+          let one = not-refused (ltb k 1 || ltb 32 k) 9 0 range [] fine in
+          let two = not-refused (leb n from || leb n to) 10 0 same [] (one .1) in
+          let three = not-refused (eqb from to) 11 0 room [] (two .1) in
+          let four = not-refused short 12 0 (done []) [] (three .1) in
+          let inK = or-false (ltb k 1) (ltb 32 k) (one .0) in
+          let ends = or-false (leb n from) (leb n to) (two .0) in
+          let rooms = or-false (ltb (length counts) k) (ltb (length relays) (n - 2 + 2 * k) || ltb (length scratch) (k * n)) (four .0) in
+          let later = or-false (ltb (length relays) (n - 2 + 2 * k)) (ltb (length scratch) (k * n)) (rooms .1) in
+          record {
+            accepted = ok;
+            one = ltb-false k 1 (inK .0);
+            few = ltb-false 32 k (inK .1);
+            source = leb-false n from (ends .0);
+            goal = leb-false n to (ends .1);
+            differ = eqb-false from to (three .0);
+            countRoom = ltb-false (length counts) k (rooms .0);
+            relayRoom = ltb-false (length relays) (n - 2 + 2 * k) (later .0);
+            scratchRoom = ltb-false (length scratch) (k * n) (later .1);
+          }

@@ -1,0 +1,39 @@
+-- `trade` meets its contract. Assumes nothing.
+use Rattle.routes.specs.Side.{trade}
+use borrow.Author.Needs.{needs}
+use Rattle.routes.proofs.side.trade.Statement.{statement}
+use Rattle.routes.proofs.side.trade.Tie as tie
+
+second-of-requires : tie.Need-second-of-requires
+second-of-requires c κs = search needs
+
+second-of-requires-2 : tie.Need-second-of-requires-2
+second-of-requires-2 c κs = search needs
+
+left-requires : tie.Need-left-requires
+left-requires c κs = search needs
+
+set-path-requires : tie.Need-set-path-requires
+set-path-requires c κs = search needs
+
+set-path-requires-2 : tie.Need-set-path-requires-2
+set-path-requires-2 c κs = search needs
+
+same-length : tie.Need-same-length
+same-length c = search needs
+
+returns : tie.Need-returns
+unfolding trade
+returns c = cc
+
+pub trade-spec : {M : Type 1} → statement M
+trade-spec =
+    tie.close
+    (tie.spec
+    second-of-requires
+    second-of-requires-2
+    left-requires
+    set-path-requires
+    set-path-requires-2
+    same-length
+    returns)
