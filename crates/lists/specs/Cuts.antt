@@ -24,6 +24,10 @@ unfolding total joinAll
 total-lengths [] = refl
 total-lengths (l ∷ lists) = omega (arith, length-append l (joinAll lists), total-lengths lists)
 
+pub lengths-map : (f : ℕ → ℕ) (lists : List (List ℕ)) → map length (map (map f) lists) ≡ map length lists
+lengths-map f [] = refl
+lengths-map f (l ∷ lists) = rw (length-map l f, lengths-map f lists)
+
 pub length-joinAll-map : (f : ℕ → ℕ) (lists : List (List ℕ)) → length (joinAll (map (map f) lists)) ≡ length (joinAll lists)
 unfolding joinAll
 length-joinAll-map f [] = refl

@@ -1,7 +1,7 @@
 -- The front of an overwritten list is what was written, the rest is as it was.
-use Prim.Native.Nat.{ℕ, _+_, _-_, _≤_, _<_}
-use mathlib.Core.List.{List, _++_}
-use mathlib.Core.Path.{_≡_, sym, _∙_, ap}
+use Prim.Native.Nat.{ℕ, zero, suc, _+_, _-_, _≤_, _<_}
+use mathlib.Core.List.{List, [], _∷_, _++_}
+use mathlib.Core.Path.{_≡_, refl, sym, _∙_, ap}
 use native.Mathlib.Omega.{arith}
 use lib.ListN.{length, getD, take, drop, List·getD-append}
 use lib.Seq.{take-append-le, getD-append-add, getD-drop}
@@ -24,3 +24,13 @@ getD-overwrite-past new old i d h =
     ∙ getD-append-add new (drop (length new) old) (i - length new) d
     ∙ getD-drop (length new) old (i - length new) d
     ∙ ap (λ j. getD old j d) e
+
+-- A list of zeros that is overwritten has the entries of what was written.
+pub getD-overwrite-zeros : (new old : List ℕ) → ((i : ℕ) → getD old i 0 ≡ 0) → (i : ℕ) → getD (overwrite new old) i 0 ≡ getD new i 0
+unfolding overwrite
+getD-overwrite-zeros new old none = go new (drop (length new) old) (λ j. getD-drop (length new) old j 0 ∙ none (length new + j))
+  where
+    go : (new rest : List ℕ) → ((j : ℕ) → getD rest j 0 ≡ 0) → (i : ℕ) → getD (new ++ rest) i 0 ≡ getD new i 0
+    go [] rest none i = none i
+    go (x ∷ new) rest none zero = refl
+    go (x ∷ new) rest none (suc i) = go new rest none i

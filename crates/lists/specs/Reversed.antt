@@ -1,7 +1,7 @@
--- Lists turned round: their first and last entries, and the links along them. Assumes nothing.
+-- Lists turned round: their first and last entries, the links along them, and a function on all entries. Assumes nothing.
 use Prim.Native.Nat.{ℕ, suc, _-_}
 use native.Mathlib.Omega.{arith}
-use mathlib.Core.List.{List, [], _∷_, reverseAux, reverse, reverse-reverse}
+use mathlib.Core.List.{List, [], _∷_, map, reverseAux, reverse, reverse-reverse}
 use mathlib.Core.Path.{_≡_, refl, sym, _∙_, ap}
 use lib.ListN.{length, getD}
 use Rattle.definitions.specs.Demand.{AlongFrom, Along}
@@ -36,3 +36,7 @@ module _ {link : ℕ → ℕ → Type 0} (turn : (a b : ℕ) → link a b → li
   pub along-reverse : (list : List ℕ) → Along link list → Along link (reverse list)
   along-reverse [] links = tt
   along-reverse (x ∷ rest) links = along-reverseAux x rest [] links tt
+
+pub map-reverseAux : (f : ℕ → ℕ) (one two : List ℕ) → map f (reverseAux one two) ≡ reverseAux (map f one) (map f two)
+map-reverseAux f [] two = refl
+map-reverseAux f (x ∷ one) two = map-reverseAux f one (x ∷ two)

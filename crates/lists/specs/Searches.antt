@@ -84,3 +84,10 @@ first-same {n = n} {m = m} one other le le′ =
     by-cases (decLt n m)
     (λ less. absurd (clash (one .passes) (other .least n le′ less)))
     (λ more. by-cases (decLt m n) (λ less. absurd (clash (other .passes) (one .least m le less))) (λ same. omega arith))
+
+-- Tests that agree up to k have the same largest.
+pub largest-same : (f g : ℕ → Bool) (k : ℕ) → ((i : ℕ) → 1 ≤ i → i ≤ k → f i ≡ g i) → largest f k ≡ largest g k
+unfolding largest
+largest-same f g zero same = refl
+largest-same f g (suc k) same =
+    rw (same (suc k) (omega arith) (omega arith), largest-same f g k (λ i one le. same i one (omega arith)))

@@ -48,3 +48,9 @@ eqb-sym x y = go (eqb x y) refl
     go : (b : Bool) → eqb x y ≡ b → b ≡ eqb y x
     go true e = sym (eq-eqb y x (sym (eqb-true x y e)))
     go false e = sym (ne-eqb y x (λ q. eqb-false x y e (sym q)))
+
+-- Tests that follow from each other are the same.
+pub tests-same : (a b : Bool) → (a ≡ true → b ≡ true) → (b ≡ true → a ≡ true) → a ≡ b
+tests-same true b forth back = sym (forth refl)
+tests-same false true forth back = back refl
+tests-same false false forth back = refl

@@ -6,9 +6,10 @@ ghost use Prim.Native.Nat.{_-_, _<_, pred};
 ghost use lib.ListN.{getD, set};
 ghost use Rattle.routes.specs.Side.{tableLeft, endIn, secondIn, priorIn, setPath, setPrior, extendPath, advance, trade, tradeAt, tradeFrom};
 
-// Where the last but ones start, and where the places before each place start.
+// Where the last but ones start, behind the ends of the indices 0 to 32.
 const SECONDS: usize = 33;
 
+// Where the places before each place start.
 pub(crate) const PRIORS: usize = 66;
 
 pub(crate) fn get(list: &[u16], at: usize) -> u16

@@ -1,10 +1,11 @@
 -- The paths of the sweep: trails of links down from a start, and the state of an open path. Over any `left` with the laws.
-use Prim.Native.Nat.{ℕ, suc, _≤_, _<_}
+use Prim.Native.Nat.{ℕ, suc, _+_, _≤_, _<_}
 use native.Mathlib.Omega.{arith}
 use mathlib.Core.Bool.{true}
 use mathlib.Core.List.{List, [], _∷_}
 use mathlib.Core.Logic.{_⊎_, inl, inr, _≢_}
 use mathlib.Core.Path.{_≡_, refl, sym, subst}
+use lib.ListN.{length}
 use Rattle.definitions.specs.Lists.{has}
 use Rattle.definitions.specs.Demand.{NoRepeat}
 use Rattle.definitions.specs.Sweep.{endOf}
@@ -50,6 +51,10 @@ module _ (left : ℕ → ℕ → ℕ) (laws : LeftLaws left) (k : ℕ) where
   pub trail-start : (c x : ℕ) (rest : List ℕ) → Trail left k c x rest → x ≤ c
   trail-start c x [] e = omega arith
   trail-start c x (y ∷ rest) t = omega (arith, down-less x y (t .0), trail-start c y rest (t .1))
+
+  pub trail-length : (c x : ℕ) (rest : List ℕ) → Trail left k c x rest → x + length rest ≤ c
+  trail-length c x [] e = omega arith
+  trail-length c x (y ∷ rest) t = omega (arith, down-less x y (t .0), trail-length c y rest (t .1))
 
   pub trail-above : (c x : ℕ) (rest : List ℕ) → Trail left k c x rest → (w : ℕ) → has rest w ≡ true → x < w
   trail-above c x [] e w h = absurd (clash h (has-nil w))

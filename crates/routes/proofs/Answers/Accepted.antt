@@ -1,21 +1,22 @@
 -- Route on an accepted table: `oneTreeIn` over the left table is the definition's `endsInOneTree`, and where it holds,
 -- `betweenIn` writes the definition's `routesOf`.
-use Prim.Native.Nat.{ℕ, zero, suc, pred, _+_, _-_, _*_, _≤_, _<_, max}
+use Prim.Native.Nat.{ℕ, pred, _+_, _-_, _*_, _≤_, _<_, max}
 use mathlib.Core.Bool.{true}
-use mathlib.Core.List.{List, [], _∷_, _++_, map}
+use mathlib.Core.List.{List, map}
 use mathlib.Core.Logic.{_≢_, by-cases}
-use mathlib.Core.Path.{_≡_, refl, sym, _∙_, ap, fun-ext}
+use mathlib.Core.Path.{_≡_, sym, _∙_, ap, fun-ext}
 use native.Mathlib.Decide.{decLt}
 use native.Mathlib.Omega.{arith}
 use borrow.Author.Tests.{lt-ltb, le-ltb}
-use lib.ListN.{length, getD, drop, length-map}
-use lib.Seq.{sets, getD-drop}
+use lib.ListN.{length, getD, length-map}
+use lib.Seq.{sets}
 use Rattle.definitions.specs.Lists.{overwrite, joinAll}
 use Rattle.definitions.specs.Order.{orderOf, placeOf, relayAt}
 use Rattle.definitions.specs.Route.{leftOf, routesBetween, routesOf, endsInOneTree}
 use Rattle.definitions.specs.Network.{Accepted}
+use Rattle.lists.specs.Overwritten.{getD-overwrite-zeros}
 use Rattle.lists.specs.Stores.{sets-overwrite}
-use Rattle.lists.specs.Cuts.{length-joinAll-map}
+use Rattle.lists.specs.Cuts.{lengths-map, length-joinAll-map}
 use Rattle.theory.specs.Trees.{Alive}
 use Rattle.theory.specs.Accepted.{accepted}
 use Rattle.theory.specs.Left.{left-laws}
@@ -31,21 +32,9 @@ use Rattle.routes.proofs.Routes.Between.{routed-down, routed-up}
 use Rattle.routes.proofs.Answers.OneTree.{table-left, one-tree-same, one-tree-falls, one-tree-rises}
 
 -- The order's list in the front of a list of zeros gives the same relays.
-front-entry : (new rest : List ℕ) (i : ℕ) → ((j : ℕ) → getD rest j 0 ≡ 0) → getD (new ++ rest) i 0 ≡ getD new i 0
-front-entry [] rest i none = none i
-front-entry (x ∷ new) rest zero none = refl
-front-entry (x ∷ new) rest (suc i) none = front-entry new rest i none
-
 pub front-relays : (order list : List ℕ) → ((i : ℕ) → getD list i 0 ≡ 0) → relayAt (overwrite order list) ≡ relayAt order
-unfolding relayAt overwrite
-front-relays order list none =
-    fun-ext λ v.
-    front-entry order (drop (length order) list) (pred v) (λ j. getD-drop (length order) list j 0 ∙ none (length order + j))
-
--- Routes as relay numbers are as long as routes as places.
-lengths-same : (f : ℕ → ℕ) (routes : List (List ℕ)) → map length (map (map f) routes) ≡ map length routes
-lengths-same f [] = refl
-lengths-same f (route ∷ routes) = rw (length-map route f, lengths-same f routes)
+unfolding relayAt
+front-relays order list none = fun-ext λ v. getD-overwrite-zeros order list none (pred v)
 
 module _ (n : ℕ) (lows highs : List ℕ) (k from to : ℕ) (ok : Accepted n lows highs) (one : 1 ≤ k) (small : k ≤ 32)
     (source : from < n) (goal : to < n) (differ : from ≢ to) (old table : List ℕ) (made : LeftTable n k lows highs old table) where
@@ -135,7 +124,7 @@ module _ (n : ℕ) (lows highs : List ℕ) (k from to : ℕ) (ok : Accepted n lo
         swept
         ∙ ap (λ (f : ℕ → ℕ). written (sets counts 0 (map length routes)) (sets relays 0 (joinAll (map (map f) routes))) (length (joinAll routes))) same
         ∙ ap (λ (l : List ℕ). written l (sets relays 0 (joinAll named)) (length (joinAll routes)))
-        (ap (sets counts 0) (sym (lengths-same (relayAt (orderOf n lows highs)) routes))
+        (ap (sets counts 0) (sym (lengths-map (relayAt (orderOf n lows highs)) routes))
         ∙ sets-overwrite (map length named) counts
         (omega (arith, length-map named length, length-map routes (map (relayAt (orderOf n lows highs))), within .number)))
         ∙ ap (λ (l : List ℕ). written (overwrite (map length named) counts) l (length (joinAll routes))) (sets-overwrite (joinAll named) relays longest)

@@ -13,6 +13,7 @@ use Rattle.definitions.specs.Outcome.{pick}
 use Rattle.definitions.specs.Forests.{oneTree}
 use Rattle.definitions.specs.Route.{leftOf}
 use Rattle.lists.specs.Searches.{clash}
+use Rattle.lists.specs.Tests.{tests-same}
 use Rattle.theory.specs.LeftLaws.{LeftLaws}
 use Rattle.theory.specs.Trees.{Alive, oneTree-alive, oneTree-sym}
 use Rattle.theory.specs.Left.{left-laws, leftOf-range}
@@ -68,18 +69,13 @@ module _ (left look : ℕ → ℕ → ℕ) (k : ℕ) (same : (x : ℕ) → look 
         λ alive. alive-to t (s - t) (subst (λ (x : ℕ). Alive left k t x) (sym e) alive),
       )
 
-bool-same : (a b : Bool) → (a ≡ true → b ≡ true) → (b ≡ true → a ≡ true) → a ≡ b
-bool-same true b forth back = sym (forth refl)
-bool-same false true forth back = back refl
-bool-same false false forth back = refl
-
 module _ (left look : ℕ → ℕ → ℕ) (laws : LeftLaws left) (k p q : ℕ) (same : (x : ℕ) → look k x ≡ left k x)
     (oneP : 1 ≤ p) (oneQ : 1 ≤ q) (differ : p ≢ q) where
   below : (t s : ℕ) → 1 ≤ t → t < s → aliveIn look k t (s - t) ≡ oneTree left k t s
   below t s one less =
       let test = alive-test left look k same t s (omega arith) in
       let tree = oneTree-alive left laws k t s one less in
-      bool-same (aliveIn look k t (s - t)) (oneTree left k t s) (λ e. tree .1 (test .0 e)) (λ e. test .1 (tree .0 e))
+      tests-same (aliveIn look k t (s - t)) (oneTree left k t s) (λ e. tree .1 (test .0 e)) (λ e. test .1 (tree .0 e))
 
   pub one-tree-same : oneTreeIn look k p q ≡ oneTree left k p q
   unfolding oneTreeIn

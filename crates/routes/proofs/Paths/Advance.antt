@@ -28,8 +28,8 @@ module _ (look : ℕ → ℕ → ℕ) (reach k c v j : ℕ) (side : List ℕ) (p
   stored-long = omega (arith, length-setPrior side v (secondIn side j), held .long)
 
   -- A store at v changes no path that has v as its end at most.
-  stored-held : (i : ℕ) → 1 ≤ i → i ≤ k → HoldsPath stored i (paths i)
-  stored-held i positive within =
+  stored-holds : (i : ℕ) → 1 ≤ i → i ≤ k → HoldsPath stored i (paths i)
+  stored-holds i positive within =
       held-same side stored i (paths i) (end-setPrior side v (secondIn side j) i (omega arith)) (second-setPrior side v (secondIn side j) i (omega arith))
       (λ y into. prior-setPrior-other side v (secondIn side j) y (λ e. omega (arith, tails i positive within y into)))
       (held .held i positive within)
@@ -37,7 +37,7 @@ module _ (look : ℕ → ℕ → ℕ) (reach k c v j : ℕ) (side : List ℕ) (p
   extend-other : (i : ℕ) → 1 ≤ i → i ≤ k → i ≢ j → HoldsPath (extendPath look v j side) i (paths i)
   unfolding extendPath
   extend-other i positive within other =
-      held-setPath-other stored j (look j v) v i other (omega arith) (omega arith) (paths i) (stored-held i positive within)
+      held-setPath-other stored j (look j v) v i other (omega arith) (omega arith) (paths i) (stored-holds i positive within)
 
   extend-chain : Chain stored v (v ∷ tail (paths j))
   extend-chain = (
@@ -95,9 +95,9 @@ module _ (look : ℕ → ℕ → ℕ) (reach k c v j : ℕ) (side : List ℕ) (p
               (λ e. subst (λ (p : List ℕ). HoldsPath (extendPath look v j side) i p) (sym (rest i e)) (extend-other i positive within e));
         }
 
-    pub advance-held : SideHolds reach k c (advance look v j other side) new
+    pub advance-holds : SideHolds reach k c (advance look v j other side) new
     unfolding advance
-    advance-held = go (eqb (endIn side j) v) (eqb other v) refl refl
+    advance-holds = go (eqb (endIn side j) v) (eqb other v) refl refl
       where
         end : endIn side j ≡ endOf (paths j)
         end = held-end side j (paths j) (held .held j one bound)

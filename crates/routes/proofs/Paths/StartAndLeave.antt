@@ -76,8 +76,8 @@ module _ (left look : ℕ → ℕ → ℕ) (reach k : ℕ) (small : k ≤ 32) (a
         (fill-set reach k s small false startPathA startPathA i (look (suc i) s) s (s ∷ []) le a
         (ap (λ (x : ℕ). x ∷ s ∷ []) (sym (agree (suc i) s (omega arith) le))) (refl, some, now .base) now)
 
-    pub startA-held : (a : List ℕ) → priorStart + reach < length a → priorIn a s ≡ 0 → SideHolds reach k s (startA look s k a) startPathA
-    startA-held a long base =
+    pub startA-holds : (a : List ℕ) → priorStart + reach < length a → priorIn a s ≡ 0 → SideHolds reach k s (startA look s k a) startPathA
+    startA-holds a long base =
         fill-done reach k s small false startPathA startPathA (startA look s k a)
         (startA-fills k (omega arith) a
         (record { long = long; base = base; lower = λ had. absurd (clash had refl); higher = λ h above upto. absurd (omega arith) }))
@@ -94,8 +94,8 @@ module _ (left look : ℕ → ℕ → ℕ) (reach k : ℕ) (small : k ≤ 32) (a
     startB-fills (suc i) le b now =
         startB-fills i (omega arith) (setPath b (suc i) t 0) (fill-set reach k t small false startPathB startPathB i t 0 [] le b refl refl now)
 
-    pub startB-held : (b : List ℕ) → priorStart + reach < length b → priorIn b t ≡ 0 → SideHolds reach k t (startB t k b) startPathB
-    startB-held b long base =
+    pub startB-holds : (b : List ℕ) → priorStart + reach < length b → priorIn b t ≡ 0 → SideHolds reach k t (startB t k b) startPathB
+    startB-holds b long base =
         fill-done reach k t small false startPathB startPathB (startB t k b)
         (startB-fills k (omega arith) b
         (record { long = long; base = base; lower = λ had. absurd (clash had refl); higher = λ h above upto. absurd (omega arith) }))
@@ -123,8 +123,8 @@ module _ (left look : ℕ → ℕ → ℕ) (reach k : ℕ) (small : k ≤ 32) (a
       leave-fills zero le b now = now
       leave-fills (suc i) le b now = leave-fills i (omega arith) (leaveAt look t a (suc i) b) (leave-turn i le b now)
 
-      pub leave-held : (b : List ℕ) → SideHolds reach k t b startPathB → SideHolds reach k t (leaveFrom look t a k b) new
-      leave-held b held =
+      pub leave-holds : (b : List ℕ) → SideHolds reach k t b startPathB → SideHolds reach k t (leaveFrom look t a k b) new
+      leave-holds b held =
           fill-done reach k t small true startPathB new (leaveFrom look t a k b)
           (leave-fills k (omega arith) b
           (record {

@@ -1,6 +1,6 @@
 -- `stepIn` on the two sides' lists is the definition's `slotAfter` of the paths that they hold. Over any `left` with the laws,
 -- where t and s are in one tree of forest k, and k up to 32.
-use Prim.Native.Nat.{ℕ, zero, suc, pred, _≤_, _<_}
+use Prim.Native.Nat.{ℕ, suc, pred, _≤_, _<_}
 use mathlib.Core.Bool.{Bool, true, false, _||_}
 use mathlib.Core.List.{List, [], _∷_}
 use mathlib.Core.Logic.{inl, inr, _≢_, by-cases}
@@ -9,8 +9,8 @@ use native.Mathlib.Decide.{ℕ-discrete, decLt}
 use native.Mathlib.Omega.{arith}
 use lib.Dec.{eqb}
 use borrow.Author.Tests.{eq-eqb, ne-eqb}
-use Rattle.definitions.specs.Lists.{largest}
 use Rattle.definitions.specs.Sweep.{Slot, endOf, endsA, endsB, highestAt, downshift, shiftedSlot, settle, slotAfter}
+use Rattle.lists.specs.Searches.{largest-same}
 use Rattle.theory.specs.LeftLaws.{LeftLaws}
 use Rattle.theory.specs.Trees.{Alive}
 use Rattle.theory.specs.SweepInvariant.{Sweeping, ClosedSlot}
@@ -21,16 +21,10 @@ use Rattle.routes.specs.Side.{endIn, advance, tradeFrom}
 use Rattle.routes.specs.Sides.{Sides, sides, highestIn, leaveFrom, passAt, stepIn}
 use Rattle.routes.proofs.Paths.Side.{SideHolds, held-end, side-same}
 use Rattle.routes.proofs.Paths.Downshift.{downshift-holds}
-use Rattle.routes.proofs.Paths.Advance.{advance-held}
+use Rattle.routes.proofs.Paths.Advance.{advance-holds}
 use Rattle.routes.proofs.Paths.Ready.{ready-ends, shifted-tails}
 use Rattle.routes.proofs.Paths.Slots.{after-t, after-none, after-other, after-highest, settled-goesA, settled-goesB, settled-meetsA, settled-meetsB, settled-waitsA, settled-waitsB, at-t-A, at-t-meets, at-t-goes}
-use Rattle.routes.proofs.Paths.StartAndLeave.{leave-held}
-
-largest-same : (f g : ℕ → Bool) (k : ℕ) → ((i : ℕ) → 1 ≤ i → i ≤ k → f i ≡ g i) → largest f k ≡ largest g k
-unfolding largest
-largest-same f g zero same = refl
-largest-same f g (suc k) same =
-    rw (same (suc k) (omega arith) (omega arith), largest-same f g k (λ i one le. same i one (omega arith)))
+use Rattle.routes.proofs.Paths.StartAndLeave.{leave-holds}
 
 -- Both sides hold the paths of the slots.
 pub record SidesHold (k s t : ℕ) (both : Sides) (slots : ℕ → Slot) : Type 0 where
@@ -60,14 +54,14 @@ module _ (left look : ℕ → ℕ → ℕ) (laws : LeftLaws left) (k s t : ℕ) 
               let c : ClosedSlot left k s t (suc v) i (slots i) = inv .closed i one le e in
               absurd (omega (arith, c .above, trail-start left laws k t (c .meet) (c .restB) (c .trailB)))
 
-      t-held : SidesHold k s t (sides a (leaveFrom look t a k b)) new
-      t-held =
+      t-holds : SidesHold k s t (sides a (leaveFrom look t a k b)) new
+      t-holds =
           record {
             heldA =
                 side-same s k s a (λ i. slots i .pathA) (λ i. new i .pathA)
                 (λ i _ _. ap (λ (x : Slot). x .pathA) (after-t left k t (suc v) slots at i) ∙ at-t-A left t (slots i) i) (now .heldA);
             heldB =
-                leave-held left look s k small agree t positive a (λ i. new i .pathB)
+                leave-holds left look s k small agree t positive a (λ i. new i .pathB)
                 (λ i one le ends.
                 ap (λ (x : Slot). x .pathB) (after-t left k t (suc v) slots at i)
                 ∙ at-t-meets left t (slots i) i (sym (endA i one le) ∙ ends) ∙ aloneB i one le)
@@ -102,8 +96,8 @@ module _ (left look : ℕ → ℕ → ℕ) (laws : LeftLaws left) (k s t : ℕ) 
           (ap (λ (x : ℕ). eqb x (suc v)) (endA i one le) ∙ sym (testsA i one le))
           (ap (λ (x : ℕ). eqb x (suc v)) (endB i one le) ∙ sym (testsB i one le)))
 
-      none-held : j ≡ 0 → SidesHold k s t (sides a b) new
-      none-held none =
+      none-holds : j ≡ 0 → SidesHold k s t (sides a b) new
+      none-holds none =
           record {
             heldA = side-same s k s a (λ i. slots i .pathA) (λ i. new i .pathA) (λ i _ _. ap (λ (x : Slot). x .pathA) (after-none left k t (suc v) slots other none i)) (now .heldA);
             heldB = side-same s k t b (λ i. slots i .pathB) (λ i. new i .pathB) (λ i _ _. ap (λ (x : Slot). x .pathB) (after-none left k t (suc v) slots other none i)) (now .heldB);
@@ -153,7 +147,7 @@ module _ (left look : ℕ → ℕ → ℕ) (laws : LeftLaws left) (k s t : ℕ) 
         sideA : SideHolds s k s (advance look (suc v) j (endIn b′ j) a′) (λ i. new i .pathA)
         unfolding shiftedSlot
         sideA =
-            advance-held look s k s (suc v) j a′ shiftA small (omega arith) (omega (arith, inv .below)) (λ e. omega (arith, inv .below)) some bound heldA′
+            advance-holds look s k s (suc v) j a′ shiftA small (omega arith) (omega (arith, inv .below)) (λ e. omega (arith, inv .below)) some bound heldA′
             (shifted-tails left laws k s s (suc v) (λ i. slots i .isOpen) (λ i. endsA (suc v) (slots i)) (λ i. slots i .pathA)
             (readyA left laws k s t (suc v) slots inv) j (highestA k t (suc v) slots some))
             (endIn b′ j) (λ i. new i .pathA) (λ i apart. otherPath (λ x. x .pathA) i apart)
@@ -168,7 +162,7 @@ module _ (left look : ℕ → ℕ → ℕ) (laws : LeftLaws left) (k s t : ℕ) 
         sideB : SideHolds s k t (advance look (suc v) j (endIn a′ j) b′) (λ i. new i .pathB)
         unfolding shiftedSlot
         sideB =
-            advance-held look s k t (suc v) j b′ shiftB small (omega arith) (omega (arith, inv .below)) other some bound heldB′
+            advance-holds look s k t (suc v) j b′ shiftB small (omega arith) (omega (arith, inv .below)) other some bound heldB′
             (shifted-tails left laws k s t (suc v) (λ i. slots i .isOpen) (λ i. endsB t (suc v) (slots i)) (λ i. slots i .pathB)
             (readyB left laws k s t (suc v) slots inv other) j (highestB k t (suc v) slots some))
             (endIn a′ j) (λ i. new i .pathB) (λ i apart. otherPath (λ x. x .pathB) i apart)
@@ -180,11 +174,11 @@ module _ (left look : ℕ → ℕ → ℕ) (laws : LeftLaws left) (k s t : ℕ) 
             (λ at at′. highestPath (λ x. x .pathB) ∙ settled-meetsB left (suc v) j shifted (sym endA′ ∙ at′) at)
             (λ off. highestPath (λ x. x .pathB) ∙ settled-waitsB left (suc v) j shifted off)
 
-    pub step-held : SidesHold k s t (stepIn look k t (suc v) a b) new
+    pub step-holds : SidesHold k s t (stepIn look k t (suc v) a b) new
     unfolding stepIn passAt
-    step-held =
+    step-holds =
         by-cases (ℕ-discrete (suc v) t)
-        (λ at. rw (eq-eqb (suc v) t at) (t-held at))
+        (λ at. rw (eq-eqb (suc v) t at) (t-holds at))
         (λ other.
         by-cases (decLt 0 (highestAt k t (suc v) slots))
         (λ some.
@@ -192,4 +186,4 @@ module _ (left look : ℕ → ℕ → ℕ) (laws : LeftLaws left) (k s t : ℕ) 
         (record { heldA = sideA other some; heldB = sideB other some }))
         (λ none.
         let zero′ : highestAt k t (suc v) slots ≡ 0 = omega arith in
-        rw (ne-eqb (suc v) t other, found other, eq-eqb (highestAt k t (suc v) slots) 0 zero′) (none-held other zero′)))
+        rw (ne-eqb (suc v) t other, found other, eq-eqb (highestAt k t (suc v) slots) 0 zero′) (none-holds other zero′)))

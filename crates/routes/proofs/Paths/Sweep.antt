@@ -13,8 +13,8 @@ use Rattle.theory.specs.SweepHolds.{slotAt-table, sweep-starts, sweep-step}
 use Rattle.routes.specs.Side.{priorStart, priorIn, NoPaths}
 use Rattle.routes.specs.Sides.{Sides, sides, startA, startB, stepIn, sweepIn, sweptIn}
 use Rattle.routes.proofs.Paths.Side.{side-same}
-use Rattle.routes.proofs.Paths.StartAndLeave.{startA-held, startB-held}
-use Rattle.routes.proofs.Paths.Step.{SidesHold, step-held}
+use Rattle.routes.proofs.Paths.StartAndLeave.{startA-holds, startB-holds}
+use Rattle.routes.proofs.Paths.Step.{SidesHold, step-holds}
 
 holds-same : (k s t : ℕ) (both : Sides) (old new : ℕ → Slot) → ((i : ℕ) → 1 ≤ i → i ≤ k → new i ≡ old i) → SidesHold k s t both old
     → SidesHold k s t both new
@@ -30,30 +30,30 @@ prior-none n side empty x = empty .none (priorStart + x)
 
 module _ (left look : ℕ → ℕ → ℕ) (laws : LeftLaws left) (k s t : ℕ) (less : t < s) (alive : Alive left k t s) (positive : 1 ≤ t)
     (small : k ≤ 32) (agree : (i x : ℕ) → 1 ≤ i → i ≤ k → look i x ≡ left i x) where
-  steps-held : (v : ℕ) (slots : List Slot) → Sweeping left k s t v (slotAt slots) → (a b : List ℕ) → SidesHold k s t (sides a b) (slotAt slots)
+  steps-hold : (v : ℕ) (slots : List Slot) → Sweeping left k s t v (slotAt slots) → (a b : List ℕ) → SidesHold k s t (sides a b) (slotAt slots)
       → SidesHold k s t (sweepIn look k t v a b) (slotAt (sweepFrom left k t v slots))
   unfolding sweepIn sweepFrom slotsAfter
-  steps-held zero slots inv a b now = now
-  steps-held (suc v) slots inv a b now =
+  steps-hold zero slots inv a b now = now
+  steps-hold (suc v) slots inv a b now =
       let after : Sides = stepIn look k t (suc v) a b in
-      steps-held v (slotsAfter left k t (suc v) slots) (sweep-step left laws k s t less alive v slots inv) (after .sideA) (after .sideB)
+      steps-hold v (slotsAfter left k t (suc v) slots) (sweep-step left laws k s t less alive v slots inv) (after .sideA) (after .sideB)
       (holds-same k s t after (slotAfter left k t (suc v) (slotAt slots)) (slotAt (slotsAfter left k t (suc v) slots))
       (slotAt-table (slotAfter left k t (suc v) (slotAt slots)) k)
-      (step-held left look laws k s t less alive positive small agree v (slotAt slots) inv a b now))
+      (step-holds left look laws k s t less alive positive small agree v (slotAt slots) inv a b now))
 
   module _ (n : ℕ) (high : s ≤ n) (a b : List ℕ) (noA : NoPaths n a) (noB : NoPaths n b) where
-    start-held : SidesHold k s t (sides (startA look s k a) (startB t k b)) (slotAt (table (startSlot left s t) 1 k))
+    start-holds : SidesHold k s t (sides (startA look s k a) (startB t k b)) (slotAt (table (startSlot left s t) 1 k))
     unfolding startSlot
-    start-held =
+    start-holds =
         holds-same k s t (sides (startA look s k a) (startB t k b))
         (startSlot left s t) (slotAt (table (startSlot left s t) 1 k)) (slotAt-table (startSlot left s t) k)
         (record {
-          heldA = startA-held left look s k small agree s (omega arith) a (omega (arith, noA .room)) (prior-none n a noA s);
-          heldB = startB-held left look s k small agree t b (omega (arith, noB .room)) (prior-none n b noB t);
+          heldA = startA-holds left look s k small agree s (omega arith) a (omega (arith, noA .room)) (prior-none n a noA s);
+          heldB = startB-holds left look s k small agree t b (omega (arith, noB .room)) (prior-none n b noB t);
         })
 
-    pub swept-held : SidesHold k s t (sweptIn look k s t a b) (slotAt (sweep left k s t))
+    pub swept-holds : SidesHold k s t (sweptIn look k s t a b) (slotAt (sweep left k s t))
     unfolding sweptIn sweep
-    swept-held =
-        steps-held (pred s) (table (startSlot left s t) 1 k) (sweep-starts left laws k s t less alive)
-        (startA look s k a) (startB t k b) start-held
+    swept-holds =
+        steps-hold (pred s) (table (startSlot left s t) 1 k) (sweep-starts left laws k s t less alive)
+        (startA look s k a) (startB t k b) start-holds

@@ -1,8 +1,8 @@
 -- `sweptIn` and `writeFrom` on the two sides' lists write the definition's `routesBetween` two places. Over any `left` with the
 -- laws, where the two are in one tree of forest k, places up to 1,000 and k up to 32.
-use Prim.Native.Nat.{ℕ, suc, _+_, _≤_, _<_}
-use mathlib.Core.List.{List, [], _∷_, _++_, map, reverse, reverseAux, tail, append-nil}
-use mathlib.Core.Path.{_≡_, refl, sym, _∙_, ap, subst}
+use Prim.Native.Nat.{ℕ, suc, _≤_, _<_}
+use mathlib.Core.List.{List, [], _∷_, _++_, map, reverse, reverseAux, reverseAux-eq, reverseAux-reverseAux-nil, tail, append-assoc}
+use mathlib.Core.Path.{_≡_, sym, _∙_, ap, subst}
 use native.Mathlib.Nat.{zero-add}
 use native.Mathlib.Omega.{arith}
 use lib.ListN.{length, getD, length-map}
@@ -15,7 +15,7 @@ use Rattle.definitions.specs.Route.{routesBetween}
 use Rattle.lists.specs.Maps.{getD-map}
 use Rattle.theory.specs.LeftLaws.{LeftLaws}
 use Rattle.theory.specs.Trees.{Alive}
-use Rattle.theory.specs.SweepPaths.{Trail, down-less}
+use Rattle.theory.specs.SweepPaths.{trail-length}
 use Rattle.theory.specs.SweepInvariant.{ClosedSlot}
 use Rattle.theory.specs.SweepHolds.{sweep-ends}
 use Rattle.theory.specs.SweepRoutes.{sweep-length, getD-sweepRoutes, all-closed}
@@ -23,21 +23,8 @@ use Rattle.routes.specs.Side.{NoPaths}
 use Rattle.routes.specs.Sides.{Sides, sweptIn}
 use Rattle.routes.specs.Writing.{written, writeFrom}
 use Rattle.routes.proofs.Paths.Side.{HoldsPath}
-use Rattle.routes.proofs.Paths.Sweep.{swept-held}
+use Rattle.routes.proofs.Paths.Sweep.{swept-holds}
 use Rattle.routes.proofs.Routes.Write.{HoldsRoute, routes-write}
-
-reverse-onto : (one two three : List ℕ) → reverseAux one two ++ three ≡ reverseAux one (two ++ three)
-reverse-onto [] two three = refl
-reverse-onto (x ∷ one) two three = reverse-onto one (x ∷ two) three
-
-reverse-back : (one two three : List ℕ) → reverseAux (reverseAux one two) three ≡ reverseAux two (one ++ three)
-reverse-back [] two three = refl
-reverse-back (x ∷ one) two three = reverse-back one (x ∷ two) three
-
-trail-length : (left : ℕ → ℕ → ℕ) (laws : LeftLaws left) (k c x : ℕ) (rest : List ℕ) → Trail left k c x rest → x + length rest ≤ c
-trail-length left laws k c x [] e = omega arith
-trail-length left laws k c x (y ∷ rest) t =
-    omega (arith, down-less left laws k x y (t .0), trail-length left laws k c y rest (t .1))
 
 module _ (left look : ℕ → ℕ → ℕ) (laws : LeftLaws left) (k s t : ℕ) (less : t < s) (alive : Alive left k t s) (positive : 1 ≤ t)
     (small : k ≤ 32) (agree : (i x : ℕ) → 1 ≤ i → i ≤ k → look i x ≡ left i x)
@@ -57,12 +44,12 @@ module _ (left look : ℕ → ℕ → ℕ) (laws : LeftLaws left) (k s t : ℕ) 
     heldA : HoldsPath (out .sideA) (suc h) (closed .meet ∷ closed .before ∷ closed .restA)
     heldA =
         subst (λ (p : List ℕ). HoldsPath (out .sideA) (suc h) p) (closed .shapeA)
-        (swept-held left look laws k s t less alive positive small agree n high a b noA noB .heldA .held (suc h) (omega arith) within)
+        (swept-holds left look laws k s t less alive positive small agree n high a b noA noB .heldA .held (suc h) (omega arith) within)
 
     heldB : HoldsPath (out .sideB) (suc h) (closed .meet ∷ closed .restB)
     heldB =
         subst (λ (p : List ℕ). HoldsPath (out .sideB) (suc h) p) (closed .shapeB)
-        (swept-held left look laws k s t less alive positive small agree n high a b noA noB .heldB .held (suc h) (omega arith) within)
+        (swept-holds left look laws k s t less alive positive small agree n high a b noA noB .heldB .held (suc h) (omega arith) within)
 
     shape : getD (sweepRoutes left k s t) h [] ≡ reverseAux (closed .before ∷ closed .restA) (closed .meet ∷ closed .restB)
     unfolding slotRoute
@@ -70,7 +57,9 @@ module _ (left look : ℕ → ℕ → ℕ) (laws : LeftLaws left) (k s t : ℕ) 
         getD-sweepRoutes left k s t h
         ∙ ap (λ (p : List ℕ). reverse p ++ tail (slot .pathB)) (closed .shapeA)
         ∙ ap (λ (p : List ℕ). reverse (closed .meet ∷ closed .before ∷ closed .restA) ++ tail p) (closed .shapeB)
-        ∙ reverse-onto (closed .before ∷ closed .restA) (closed .meet ∷ []) (closed .restB)
+        ∙ ap (λ (l : List ℕ). l ++ closed .restB) (reverseAux-eq (closed .before ∷ closed .restA) (closed .meet ∷ []))
+        ∙ append-assoc (reverse (closed .before ∷ closed .restA)) (closed .meet ∷ []) (closed .restB)
+        ∙ sym (reverseAux-eq (closed .before ∷ closed .restA) (closed .meet ∷ closed .restB))
 
     shortA : length (closed .before ∷ closed .restA) ≤ 1000
     shortA = omega (arith, trail-length left laws k s (closed .meet) (closed .before ∷ closed .restA) (closed .trailA))
@@ -97,10 +86,7 @@ module _ (left look : ℕ → ℕ → ℕ) (laws : LeftLaws left) (k s t : ℕ) 
           meet = closed .meet;
           down = closed .restB;
           up = closed .before ∷ closed .restA;
-          shape =
-              ap reverse shape
-              ∙ reverse-back (closed .before ∷ closed .restA) (closed .meet ∷ closed .restB) []
-              ∙ ap (λ (l : List ℕ). reverseAux (closed .restB) (closed .meet ∷ l)) (append-nil (closed .before ∷ closed .restA));
+          shape = ap reverse shape ∙ reverseAux-reverseAux-nil (closed .before ∷ closed .restA) (closed .meet ∷ closed .restB);
           heldDown = heldB;
           heldUp = heldA;
           shortDown = shortB;

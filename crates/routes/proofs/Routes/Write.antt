@@ -10,6 +10,7 @@ use lib.ListN.{length, set, getD, length-append, length-map, length-reverseAux}
 use lib.Seq.{sets, set-comm}
 use Rattle.definitions.specs.Lists.{joinAll}
 use Rattle.definitions.specs.Order.{relayAt}
+use Rattle.lists.specs.Reversed.{map-reverseAux}
 use Rattle.lists.specs.Stores.{sets-append}
 use Rattle.routes.specs.Side.{secondIn, priorIn}
 use Rattle.routes.specs.Writing.{chainLength, countIn, writeDown, writeUp, routeLength, writeRoute, written, writeFrom}
@@ -55,10 +56,6 @@ module _ (side order : List ℕ) where
       ∙ ap (λ (l : List ℕ). sets l (from + suc (length path)) onto) (down-set from (length path) (priorIn side y) at (relayAt order y) relays (omega arith))
       ∙ ap (λ (z : ℕ). sets (set low at (relayAt order y)) z onto) next
       ∙ down-writes from (priorIn side y) path (relayAt order y ∷ onto) relays (chain .2)
-
-map-reverseAux : (f : ℕ → ℕ) (one two : List ℕ) → map f (reverseAux one two) ≡ reverseAux (map f one) (map f two)
-map-reverseAux f [] two = refl
-map-reverseAux f (x ∷ one) two = map-reverseAux f one (x ∷ two)
 
 -- Index i of the two sides has this route, from the front side's start to the back side's.
 pub record HoldsRoute (front back : List ℕ) (i : ℕ) (route : List ℕ) : Type 0 where
