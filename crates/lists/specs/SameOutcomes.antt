@@ -13,12 +13,6 @@ unfolding refuseIf
 refuse-same true number place one other same = refl
 refuse-same false number place one other same = same refl
 
-pub then-same : {A B : Type 0} (outcome : Outcome A) (one other : A → Outcome B)
-    → ((value : A) → outcome ≡ done value → one value ≡ other value) → andThen outcome one ≡ andThen outcome other
-unfolding andThen
-then-same (refused number place) one other same = refl
-then-same (done value) one other same = same value refl
-
 pub done-then : {A B : Type 0} (outcome : Outcome A) (next : A → Outcome B) (value : B) → andThen outcome next ≡ done value
     → (first : A) × (outcome ≡ done first) × (next first ≡ done value)
 unfolding andThen

@@ -1,11 +1,12 @@
--- Runs of stores: one behind another, and the last store of a run first. Assumes nothing.
+-- Runs of stores: one behind another, the last store of a run first, and a run from the front. Assumes nothing.
 use Prim.Native.Nat.{ℕ, suc, _+_, _≤_}
 use mathlib.Core.List.{List, [], _∷_, _++_}
-use mathlib.Core.Path.{_≡_, refl, sym, _∙_}
+use mathlib.Core.Path.{_≡_, refl, sym, _∙_, ap}
 use native.Mathlib.Nat.{add-zero}
 use native.Mathlib.Omega.{arith}
-use lib.ListN.{length, set}
-use lib.Seq.{sets, set-comm}
+use lib.ListN.{length, drop, set}
+use lib.Seq.{sets, sets-eq, set-comm}
+use Rattle.definitions.specs.Lists.{overwrite}
 
 -- A run of stores, and another behind it.
 pub sets-append : (s t l : List ℕ) (i : ℕ) → sets l i (s ++ t) ≡ sets (sets l i s) (i + length s) t
@@ -24,3 +25,10 @@ sets-set (b ∷ s) l i j a h =
 -- The last byte first, and then the others.
 pub sets-last : (s l : List ℕ) (i a : ℕ) → sets l i (s ++ (a ∷ [])) ≡ sets (set l (i + length s) a) i s
 sets-last s l i a = sets-append s (a ∷ []) l i ∙ sym (sets-set s l i (i + length s) a (omega arith))
+
+-- A run from the front is written over the list.
+pub sets-overwrite : (run list : List ℕ) → length run ≤ length list → sets list 0 run ≡ overwrite run list
+unfolding overwrite
+sets-overwrite run list le =
+    let e : 0 + length run ≡ length run = omega arith in
+    sets-eq run list 0 (omega arith) ∙ ap (λ (x : ℕ). run ++ drop x list) e
