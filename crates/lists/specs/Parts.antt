@@ -7,7 +7,7 @@ use native.Mathlib.Nat.{add-zero}
 use native.Mathlib.Numerals.{add-one}
 use native.Mathlib.Omega.{arith}
 use lib.ListN.{length, getD, take, drop, length-append, take-append-drop}
-use lib.Seq.{drop-cons, drop-drop, getD-drop, take-at, drop-length, drop-append-seam, drop-append-add, getD-append-add, take-take}
+use lib.Seq.{drop-cons, drop-drop, getD-drop, take-at, drop-length, drop-append-seam, take-take}
 
 -- From index p up to, not including, index q the list is `part`.
 pub record Part (list : List ℕ) (p : ℕ) (part : List ℕ) (q : ℕ) : Type 0 where
@@ -65,15 +65,6 @@ part-first list s t p r h =
       within = omega (arith, h .reaches, h .within, length-append s t);
     }
 
-pub part-of-append : (front part rest : List ℕ) → Part (front ++ (part ++ rest)) (length front) part (length front + length part)
-part-of-append front part rest =
-    record {
-      follows = drop-append-seam front (part ++ rest)
-          ∙ ap (λ (l : List ℕ). part ++ l) (sym (drop-append-add front (part ++ rest) (length part) ∙ drop-append-seam part rest));
-      reaches = refl;
-      within = omega (arith, length-append front (part ++ rest), length-append part rest);
-    }
-
 -- The first of two lists that join, and the second.
 pub part-start : (part rest : List ℕ) → Part (part ++ rest) 0 part (length part)
 part-start part rest =
@@ -90,13 +81,6 @@ part-end front part =
       reaches = length-append front part;
       within = omega arith;
     }
-
--- The entry behind the part.
-pub part-behind : (front part rest : List ℕ) → getD (front ++ (part ++ rest)) (length front + length part) 0 ≡ getD rest 0 0
-part-behind front part rest =
-    getD-append-add front (part ++ rest) (length part) 0
-    ∙ ap (λ (i : ℕ). getD (part ++ rest) i 0) (sym (add-zero (length part)))
-    ∙ getD-append-add part rest 0 0
 
 -- The part as it is cut out of the list.
 pub part-taken : (list part : List ℕ) (p q : ℕ) → Part list p part q → take (q - p) (drop p list) ≡ part

@@ -22,7 +22,7 @@ use Rattle.lists.specs.SameOutcomes.{done-then}
 use Rattle.lists.specs.Ranges.{inside-range}
 use Rattle.lists.specs.Tests.{or-false}
 use Rattle.text_theory.specs.Forms.{Fits, wish-line}
-use Rattle.text_theory.specs.Lines.{read-line}
+use Rattle.text_theory.specs.NetworkLines.{read-line}
 use Rattle.text_theory.specs.RoundTrip.{on-scan-done, written-read}
 
 -- What Route passed before it answered.

@@ -15,14 +15,14 @@ use Rattle.definitions.specs.Text.{Network, readNetwork, readAnswer, filled, lo
 use Rattle.definitions.specs.Plan.{wishForm, Sheet, room, sheetFor, planned, sheetText, printed, planText}
 use Rattle.lists.specs.Outcomes.{then-done, if-done}
 use Rattle.lists.specs.SameOutcomes.{done-then}
+use Rattle.lists.specs.Stores.{sets-overwrite}
 use Rattle.lists.specs.Overwritten.{take-overwrite}
 use Rattle.lists.specs.Cuts.{cut-up, total-lengths}
 use Rattle.theory.specs.Accepted.{accepted}
 use Rattle.text_theory.specs.Forms.{wish-line}
-use Rattle.text_theory.specs.Lines.{read-line}
+use Rattle.text_theory.specs.NetworkLines.{read-line}
 use Rattle.text_theory.specs.RoundTrip.{written-read}
 use Rattle.text.specs.Put.{Put}
-use Rattle.text.specs.Written.{stored-overwrite}
 use Rattle.network.specs.Answers.{refusalOf}
 use Rattle.network.specs.Answers.{refusalNumber, refusalPlace}
 use Rattle.network.specs.Refusals.{refusal-then}
@@ -265,4 +265,4 @@ pub plan-put : (input before after : List ℕ) (next : ℕ) → length (planText
     → Put before 0 (printed sheetText (planned input)) after next → (next ≡ length (planText input)) × (after ≡ overwrite (planText input) before)
 unfolding planText
 plan-put input before after next fits put =
-    (omega (arith, put .ends), put .bytes ∙ stored-overwrite (printed sheetText (planned input)) before fits)
+    (omega (arith, put .ends), put .bytes ∙ sets-overwrite (printed sheetText (planned input)) before fits)

@@ -39,7 +39,7 @@ use denote.Triple.Entry.{Vals}
 use denote.Triple.Spec.{tripleOf}
 use denote.Triple.Walked.{says}
 use denote.Triple.Clauses.{ensured, lasts}
-use Rattle.text.specs.Marks.{Fits, Moved}
+use Rattle.text.specs.Marks.{FormWritable, Moved}
 use Rattle.text.specs.declared.put.WriteMark.{WriteMark}
 use Rattle.text.specs.declared.scan.Due.{Due}
 use Rattle.text.proofs.Again.{LentAgain, lends-again, comes-back}
@@ -178,7 +178,7 @@ module _ (L : Loan) (l : ℕ) where
       Home u z = given (Ended u z) (‵ (Buffer (z .0)) ⊛ ‵ (flft κ q) ⊛ ‵ (Cell (z .1)) ⊛ ‵ (flft κ₂ q₂) ⊛ ‵ (flft κ₃ q₃))
 
       module _ (same : length ys ≡ length start) (n-fits : n < 2 ^ 16) (is-mk : IsMark mk) (is-e : IsDue e)
-          (ok : Fits ys mk e n (lo .now) (hi .now)) where
+          (ok : FormWritable ys mk e n (lo .now) (hi .now)) where
         abbrev Asked : ℕ → ℕ → GName → GName → List (Item 𝓤)
         Asked ν ν′ δ δ′ =
             ‵ (flft (ν ∷ []) fullShare) ∷ ‵ (flft (ν′ ∷ []) fullShare) ∷ ‵ (flft κ₂ q₂) ∷ ‵ (flft κ₃ q₃) ∷

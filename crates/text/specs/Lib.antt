@@ -1,9 +1,9 @@
 -- What the functions of the text answer, in the terms of the definitions, and laws of the forms.
 pub mod Scans
-pub mod Forms
+pub mod DueForms
 pub mod Words
-pub mod Numbers
-pub mod Lines
+pub mod DigitByDigit
+pub mod ItemByItem
 pub mod Put
 pub mod Answers
 pub mod Written

@@ -12,7 +12,8 @@ use Rattle.text.specs.declared.put.WriteMark.{WriteMark}
 use Rattle.text.specs.declared.scan.Due.{Due}
 use Rattle.text.specs.declared.scan.Due.the-variants as dues
 use Rattle.text.specs.Put.{Put, put-rest}
-use Rattle.text.specs.Written.{links-step, length-links-step, links-end, length-text}
+use Rattle.text_theory.specs.Lengths.{length-header, length-text}
+use Rattle.text.specs.Written.{links-step, length-links-step, links-end}
 
 -- The bytes of the form that is due behind i links.
 abbrev pub dueText : Due → ℕ → List ℕ → List ℕ → ℕ → List ℕ
@@ -32,7 +33,7 @@ DueEntries dues.Link i lows highs = (i < length lows) × (i < length highs)
 DueEntries dues.End i lows highs = Unit {0}
 
 -- The buffer has the room for the form, and the lists have what it says.
-pub record Fits (buffer : List ℕ) (mark : WriteMark) (due : Due) (n : ℕ) (lows highs : List ℕ) : Type 0 where
+pub record FormWritable (buffer : List ℕ) (mark : WriteMark) (due : Due) (n : ℕ) (lows highs : List ℕ) : Type 0 where
   pub within : mark .links ≤ length lows
   pub entries : DueEntries due (mark .links) lows highs
   pub room : mark .next + length (dueText due n lows highs (mark .links)) ≤ length buffer
@@ -46,11 +47,11 @@ pub record Moved
 
 -- The room for the form, where it is known which one is due.
 pub due-room : {buffer : List ℕ} {mark : WriteMark} {due : Due} {n : ℕ} {lows highs : List ℕ} (form : Due) → due ≡ form
-    → Fits buffer mark due n lows highs → mark .next + length (dueText form n lows highs (mark .links)) ≤ length buffer
+    → FormWritable buffer mark due n lows highs → mark .next + length (dueText form n lows highs (mark .links)) ≤ length buffer
 due-room form e fits = rw (sym e) (fits .room)
 
 pub due-entries : {buffer : List ℕ} {mark : WriteMark} {due : Due} {n : ℕ} {lows highs : List ℕ} (form : Due) → due ≡ form
-    → Fits buffer mark due n lows highs → DueEntries form (mark .links) lows highs
+    → FormWritable buffer mark due n lows highs → DueEntries form (mark .links) lows highs
 due-entries form e fits = rw (sym e) (fits .entries)
 
 -- A link's line, from the two numbers that were looked up.
@@ -86,12 +87,12 @@ module _ (n : ℕ) (lows highs start : List ℕ) where
     pub bytes : sets start 0 (textOf n lows highs) ≡ sets buffer (mark .next) (left (mark .links))
 
   module _ (writable : Writable n lows highs start) where
-    pub header-fits : Fits start first dues.Header n lows highs
-    header-fits = record { within = omega arith; entries = tt; room = omega (arith, writable .enough, length-text n lows highs) }
+    pub header-writable : FormWritable start first dues.Header n lows highs
+    header-writable = record { within = omega arith; entries = tt; room = omega (arith, writable .enough, length-text n lows highs, length-header n (length lows)) }
 
-    pub link-fits : (buffer : List ℕ) (mark : WriteMark) → Standing buffer mark → mark .links < length lows
-        → Fits buffer mark dues.Link n lows highs
-    link-fits buffer mark s h =
+    pub link-writable : (buffer : List ℕ) (mark : WriteMark) → Standing buffer mark → mark .links < length lows
+        → FormWritable buffer mark dues.Link n lows highs
+    link-writable buffer mark s h =
         record {
           within = s .within;
           entries = (h, omega (arith, writable .even));
@@ -105,8 +106,8 @@ module _ (n : ℕ) (lows highs start : List ℕ) where
           );
         }
 
-    pub end-fits : (buffer : List ℕ) (mark : WriteMark) → Standing buffer mark → Fits buffer mark dues.End n lows highs
-    end-fits buffer mark s =
+    pub end-writable : (buffer : List ℕ) (mark : WriteMark) → Standing buffer mark → FormWritable buffer mark dues.End n lows highs
+    end-writable buffer mark s =
         record {
           within = s .within;
           entries = tt;

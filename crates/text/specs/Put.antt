@@ -7,7 +7,6 @@ use native.Mathlib.Numerals.{add-one}
 use native.Mathlib.Omega.{arith}
 use lib.ListN.{length, getD, drop, set, length-append, drop-of-length-le}
 use lib.Seq.{sets, drop-cons}
-use Rattle.definitions.specs.Text.{headerForm, linkForm}
 use Rattle.definitions.specs.Form.{bytes, word, numeral, decimal, writeForm}
 use Rattle.lists.specs.Stores.{sets-append, sets-last}
 use Rattle.text_theory.specs.Decimal.{decimal-digit, decimal-tens}
@@ -76,24 +75,3 @@ pub length-pair : (front middle back : List ℕ) (a b : ℕ)
     ≡ length (writeForm (word front ∷ numeral ∷ []) (a ∷ []))
     + (length (writeForm (word middle ∷ numeral ∷ []) (b ∷ [])) + length back)
 length-pair front middle back a b = ap length (pair-written front middle back a b) ∙ simp length-append
-
-pub length-headerForm : (n m : ℕ)
-    → length (writeForm headerForm (n ∷ m ∷ [])) ≡ 25 + length (decimal n) + length (decimal m)
-unfolding headerForm
-length-headerForm n m =
-    omega (
-      arith,
-      length-pair (bytes "(net (relays ") (bytes ") (links ") (bytes "))\n") n m,
-      length-word-number (bytes "(net (relays ") n,
-      length-word-number (bytes ") (links ") m,
-    )
-
-pub length-linkForm : (a b : ℕ) → length (writeForm linkForm (a ∷ b ∷ [])) ≡ 9 + length (decimal a) + length (decimal b)
-unfolding linkForm
-length-linkForm a b =
-    omega (
-      arith,
-      length-pair (bytes "(link ") (bytes " ") (bytes ")\n") a b,
-      length-word-number (bytes "(link ") a,
-      length-word-number (bytes " ") b,
-    )

@@ -2,7 +2,7 @@
 ghost use mathlib.Core.List.{[]};
 ghost use mathlib.Core.Path.{_≡_};
 ghost use Prim.Native.Nat.{_+_, _≤_, _<_};
-ghost use lib.ListN.{length, take};
+ghost use lib.ListN.{length};
 ghost use Rattle.definitions.specs.Text.{
   readLinks,
   readNetwork,
@@ -41,17 +41,17 @@ pub enum WriteAnswer {
     Refused(Refusal),
 }
 
-// The length of a table's text.
+// The length of a table's text: the words of a header line have 25 bytes, those of a link line 9, and the end line has 6.
 fn text_length(n: u16, lows: &[u16], highs: &[u16]) -> usize
     requires { ⌜ (length (now lows) ≡ length (now highs)) × (length (now lows) ≤ 3000) ⌝ }
     ensures { λ r. ⌜ r ≡ length (textOf n (now (lows .entry)) (now (highs .entry))) ⌝ }
 {
-    let mut total = put::header_length(n as usize, lows.len()) + 6;
+    let mut total = put::pair_length(25, n as usize, lows.len()) + 6;
     let mut i: usize = 0;
     while i < lows.len() {
         let low = lows[i] as usize;
         let high = highs[i] as usize;
-        total += put::link_length(low, high);
+        total += put::pair_length(9, low, high);
         i += 1;
     }
     total

@@ -2,7 +2,7 @@
 // Both functions over it are proved by hand; the form itself is read by a function on slice and offset.
 ghost use mathlib.Core.Path.{_≡_};
 ghost use Rattle.definitions.specs.Form.{scanForm};
-ghost use Rattle.text.specs.Forms.{formOf, asPair};
+ghost use Rattle.text.specs.DueForms.{formOf, asPair};
 ghost use Rattle.text.specs.Scans.{pairGives};
 use crate::scan::Due;
 use crate::scan::PairScan;

@@ -1,12 +1,13 @@
-// Writing from left to right: a word, a number, and the three lines, at an offset of a buffer that has the room.
+// Writing from left to right: a word, a number, a line of two numbers, and the forms of a network's text, at an offset of a
+// buffer that has the room.
 // Each gives the offset behind what it wrote.
 ghost use mathlib.Core.List.{[], _∷_};
 ghost use mathlib.Core.Path.{_≡_};
 ghost use Prim.Native.Nat.{_+_, _≤_, _<_};
 ghost use lib.ListN.{length, getD};
 ghost use Rattle.definitions.specs.Form.{word, numeral, decimal, writeForm};
-ghost use Rattle.definitions.specs.Text.{headerForm, linkForm, endForm};
-ghost use Rattle.text.specs.Marks.{Fits, Moved};
+ghost use Rattle.definitions.specs.Text.{endForm};
+ghost use Rattle.text.specs.Marks.{FormWritable, Moved};
 ghost use Rattle.text.specs.Put.{Put};
 ghost use Rattle.text.specs.Scans.{pairForm};
 use crate::scan::Due;
@@ -91,22 +92,6 @@ pub fn put_pair(
     put_word(buffer, q, back)
 }
 
-// `(net (relays N) (links M))` and its line end.
-fn put_header(buffer: &mut [u8], at: usize, n: usize, m: usize) -> usize
-    requires { ⌜ at + length (writeForm headerForm (n ∷ m ∷ [])) ≤ length (now buffer) ⌝ }
-    ensures { λ r. ⌜ Put (now (buffer .entry)) at (writeForm headerForm (n ∷ m ∷ [])) (now (buffer .exit)) r ⌝ }
-{
-    put_pair(buffer, at, b"(net (relays ", n, b") (links ", m, b"))\n")
-}
-
-// `(link A B)` and its line end.
-fn put_link(buffer: &mut [u8], at: usize, a: usize, b: usize) -> usize
-    requires { ⌜ at + length (writeForm linkForm (a ∷ b ∷ [])) ≤ length (now buffer) ⌝ }
-    ensures { λ r. ⌜ Put (now (buffer .entry)) at (writeForm linkForm (a ∷ b ∷ [])) (now (buffer .exit)) r ⌝ }
-{
-    put_pair(buffer, at, b"(link ", a, b" ", b, b")\n")
-}
-
 // `(end)` and its line end.
 pub fn put_end(buffer: &mut [u8], at: usize) -> usize
     requires { ⌜ at + length (writeForm endForm []) ≤ length (now buffer) ⌝ }
@@ -115,19 +100,12 @@ pub fn put_end(buffer: &mut [u8], at: usize) -> usize
     put_word(buffer, at, b"(end)\n")
 }
 
-// The lengths of a header line and of a link line.
-pub(crate) fn header_length(n: usize, m: usize) -> usize
-    requires { ⌜ (n ≤ 65535) × (m ≤ 65535) ⌝ }
-    ensures { λ r. ⌜ (r ≡ length (writeForm headerForm (n ∷ m ∷ []))) × (r ≤ 35) ⌝ }
+// The length of a line of two numbers, whose words have this many bytes together.
+pub(crate) fn pair_length(words: usize, a: usize, b: usize) -> usize
+    requires { ⌜ (words ≤ 25) × (a ≤ 65535) × (b ≤ 65535) ⌝ }
+    ensures { λ r. ⌜ (r ≡ words + length (decimal a) + length (decimal b)) × (r ≤ words + 10) ⌝ }
 {
-    25 + width(n) + width(m)
-}
-
-pub(crate) fn link_length(a: usize, b: usize) -> usize
-    requires { ⌜ (a ≤ 65535) × (b ≤ 65535) ⌝ }
-    ensures { λ r. ⌜ (r ≡ length (writeForm linkForm (a ∷ b ∷ []))) × (r ≤ 19) ⌝ }
-{
-    9 + width(a) + width(b)
+    words + width(a) + width(b)
 }
 
 // An entry of a list.
@@ -147,12 +125,20 @@ fn put_form(
     lows: &[u16],
     highs: &[u16],
 ) -> WriteMark
-    requires { ⌜ Fits (now buffer) mark due n (now lows) (now highs) ⌝ }
+    requires { ⌜ FormWritable (now buffer) mark due n (now lows) (now highs) ⌝ }
     ensures { λ r. ⌜ Moved (now (buffer .entry)) mark due n (now (lows .entry)) (now (highs .entry)) (now (buffer .exit)) r ⌝ }
 {
     match due {
         Due::Header => WriteMark {
-            next: put_header(buffer, mark.next, n as usize, lows.len()),
+            next: put_pair(
+                buffer,
+                mark.next,
+                b"(net (relays ",
+                n as usize,
+                b") (links ",
+                lows.len(),
+                b"))\n",
+            ),
             links: mark.links,
         },
         Due::Link => {
@@ -160,7 +146,7 @@ fn put_form(
             let high = entry(highs, mark.links);
             let links = mark.links + 1;
             WriteMark {
-                next: put_link(buffer, mark.next, low, high),
+                next: put_pair(buffer, mark.next, b"(link ", low, b" ", high, b")\n"),
                 links: links,
             }
         }
@@ -180,7 +166,7 @@ pub(crate) fn move_mark(
     lows: &[u16],
     highs: &[u16],
 )
-    requires { ⌜ Fits (now buffer) (now mark) due n (now lows) (now highs) ⌝ }
+    requires { ⌜ FormWritable (now buffer) (now mark) due n (now lows) (now highs) ⌝ }
     ensures { λ _. ⌜ Moved (now (buffer .entry)) (now (mark .entry)) due n (now (lows .entry)) (now (highs .entry))
         (now (buffer .exit)) (now (mark .exit)) ⌝ }
 {

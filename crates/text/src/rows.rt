@@ -1,7 +1,7 @@
 // The link lines of a text into the two lists of a table, and the end behind them.
-ghost use mathlib.Core.List.{List, []};
+ghost use mathlib.Core.List.{[]};
 ghost use mathlib.Core.Path.{_≡_};
-ghost use Prim.Native.Nat.{ℕ, _≤_, _<_};
+ghost use Prim.Native.Nat.{_≤_, _<_};
 ghost use lib.ListN.{length, take};
 ghost use Rattle.network.specs.Seen.{Seen};
 ghost use Rattle.text.specs.Rows.{LinkRead, LinksRead, EndRead, clearedFrom};

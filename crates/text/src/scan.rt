@@ -6,9 +6,8 @@ ghost use mathlib.Core.Path.{_≡_};
 ghost use Prim.Native.Nat.{_≤_};
 ghost use lib.ListN.{length};
 ghost use Rattle.definitions.specs.Form.{byteAt, word, numeral, scanWord, scanDigits, scanNumber, scanForm};
-ghost use Rattle.definitions.specs.Text.{headerForm, linkForm, endForm};
 ghost use Rattle.text_theory.specs.Forms.{noZero};
-ghost use Rattle.text.specs.Forms.{formOf, asPair};
+ghost use Rattle.text.specs.DueForms.{formOf, asPair};
 ghost use Rattle.text.specs.Scans.{pairForm, wordGives, numberGives, pairGives};
 
 // A word: the offset of the first byte that departs, or the offset behind it.
@@ -128,35 +127,14 @@ pub fn pair_line(text: &[u8], front: &[u8], middle: &[u8], back: &[u8], at: usiz
     }
 }
 
-// `(net (relays N) (links M))` and its line end.
-fn header_line(text: &[u8], at: usize) -> PairScan
-    ensures { λ r. ⌜ pairGives r ≡ scanForm (now (text .entry)) headerForm at ⌝ }
-{
-    pair_line(text, b"(net (relays ", b") (links ", b"))\n", at)
-}
-
-// `(link A B)` and its line end.
-fn link_line(text: &[u8], at: usize) -> PairScan
-    ensures { λ r. ⌜ pairGives r ≡ scanForm (now (text .entry)) linkForm at ⌝ }
-{
-    pair_line(text, b"(link ", b" ", b")\n", at)
-}
-
-// `(end)` and its line end.
-fn end_line(text: &[u8], at: usize) -> WordScan
-    ensures { λ r. ⌜ wordGives r ≡ scanForm (now (text .entry)) endForm at ⌝ }
-{
-    word(text, b"(end)\n", at)
-}
-
 // The form that is due; the end has no number, and gives 0 for each.
 pub(crate) fn form_line(text: &[u8], at: usize, due: Due) -> PairScan
     ensures { λ r. ⌜ pairGives r ≡ asPair due (scanForm (now (text .entry)) (formOf due) at) ⌝ }
 {
     match due {
-        Due::Header => header_line(text, at),
-        Due::Link => link_line(text, at),
-        Due::End => match end_line(text, at) {
+        Due::Header => pair_line(text, b"(net (relays ", b") (links ", b"))\n", at),
+        Due::Link => pair_line(text, b"(link ", b" ", b")\n", at),
+        Due::End => match word(text, b"(end)\n", at) {
             WordScan::Departs(p) => PairScan::Departs(p),
             WordScan::Reads(p) => PairScan::Reads(0, 0, p),
         },

@@ -83,9 +83,6 @@ length-decimal-tens x h = ap length (decimal-tens x h) ∙ length-append (decima
 pub length-decimal-one : (x : ℕ) → x < 10 → length (decimal x) ≡ 1
 length-decimal-one x h = ap length (decimal-digit x h)
 
-pub length-decimal-two : (x : ℕ) → 10 ≤ x → x < 100 → length (decimal x) ≡ 2
-length-decimal-two x low high = ap length (decimal-two x low high)
-
 pub length-decimal-three : (x : ℕ) → 100 ≤ x → x < 1000 → length (decimal x) ≡ 3
 length-decimal-three x low high = ap length (decimal-three x low high)
 
@@ -129,11 +126,6 @@ Digits (b ∷ rest) = (48 ≤ b) × (b ≤ 57) × Digits rest
 pub digits-append : (s t : List ℕ) → Digits s → Digits t → Digits (s ++ t)
 digits-append [] t hs ht = ht
 digits-append (b ∷ s) t hs ht = (hs .0, hs .1, digits-append s t (hs .2) ht)
-
-pub digits-at : (s : List ℕ) → Digits s → (i : ℕ) → i < length s → (48 ≤ getD s i 0) × (getD s i 0 ≤ 57)
-digits-at [] hs i h = absurd (omega arith)
-digits-at (b ∷ s) hs zero h = (hs .0, hs .1)
-digits-at (b ∷ s) hs (suc i) h = digits-at s (hs .2) i (omega arith)
 
 pub decimal-digits : (x : ℕ) → Digits (decimal x)
 decimal-digits =

@@ -1,12 +1,12 @@
 -- Reading a form and writing it are each other's inverse, for every form in which it can be seen where a number ends.
 -- Assumes nothing.
-use Prim.Native.Nat.{ℕ, _+_, _-_, _≤_, _<_}
+use Prim.Native.Nat.{ℕ, _+_, _≤_, _<_}
 use mathlib.Core.Bool.{Bool, true, false, _&&_, _||_, not, false≢true, and-eq-true-iff}
 use mathlib.Core.List.{List, [], _∷_, _++_}
 use mathlib.Core.Path.{_≡_, refl, _∙_, ap}
 use native.Mathlib.Omega.{arith}
 use lib.Dec.{eqb, ltb}
-use lib.ListN.{length, getD, take, drop}
+use lib.ListN.{length, getD}
 use borrow.Author.Tests.{eq-eqb, eqb-true, ltb-true}
 use Rattle.definitions.specs.Outcome.{pick}
 use Rattle.definitions.specs.Lists.{outside}
@@ -29,7 +29,7 @@ use Rattle.definitions.specs.Form.{
 }
 use Rattle.definitions.specs.Text.{headerForm, linkForm, endForm}
 use Rattle.definitions.specs.Plan.{wishForm}
-use Rattle.lists.specs.Parts.{Part, part-empty, part-cons, part-head, part-tail, part-append, part-first, part-second, part-taken, part-of-append, part-behind}
+use Rattle.lists.specs.Parts.{Part, part-empty, part-cons, part-head, part-tail, part-append, part-first, part-second}
 use Rattle.text_theory.specs.Numbers.{number-read, read-number, byte-within}
 
 -- No byte is 0: that is what the reader sees past the end of a text.
@@ -222,22 +222,3 @@ pub written-scanned : (items : List Item) (text : List ℕ) (p : ℕ) (values : 
     → Fits items values × Part text p (writeForm items values) q
 unfolding wellFormed
 written-scanned items text p values q good within e = read-form items false text p values q good within e
-
--- Both with the text before and behind the form written out.
-pub scan-writeForm : (items : List Item) (front values rest : List ℕ) → wellFormed items ≡ true → Fits items values
-    → (endsInNumber false items ≡ true → outside 48 57 (byteAt rest 0) ≡ true)
-    → scanForm (front ++ (writeForm items values ++ rest)) items (length front)
-    ≡ reads values (length front + length (writeForm items values))
-unfolding byteAt
-scan-writeForm items front values rest good fits clear =
-    scans-written items values (front ++ (writeForm items values ++ rest)) (length front)
-    (length front + length (writeForm items values)) good fits
-    (λ e. ap (outside 48 57) (part-behind front (writeForm items values) rest) ∙ clear e)
-    (part-of-append front (writeForm items values) rest)
-
-pub writeForm-scanned : (items : List Item) (text : List ℕ) (p : ℕ) (values : List ℕ) (q : ℕ)
-    → wellFormed items ≡ true → p ≤ length text → scanForm text items p ≡ reads values q
-    → Fits items values × (q ≤ length text) × (take (q - p) (drop p text) ≡ writeForm items values)
-writeForm-scanned items text p values q good within e =
-    let both = written-scanned items text p values q good within e in
-    (both .0, both .1 .within, part-taken text (writeForm items values) p q (both .1))

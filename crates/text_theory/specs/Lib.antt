@@ -2,10 +2,10 @@
 pub mod Decimal
 pub mod Numbers
 pub mod Forms
-pub mod Lines
+pub mod NetworkLines
 pub mod Looks
-pub mod Departs
-pub mod FirstDeparture
+pub mod DepartsFromForm
+pub mod DepartsOnce
 pub mod LinkByLink
 pub mod Onward
 pub mod RoundTrip
@@ -14,5 +14,6 @@ pub mod DemandTwo
 pub mod Spans
 pub mod Reach
 pub mod Refusals
-pub mod Departure
+pub mod RefusalTwo
+pub mod Lengths
 pub mod Longest

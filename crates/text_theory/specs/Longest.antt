@@ -9,30 +9,11 @@ use lib.ListN.{length, getD, length-append}
 use Rattle.definitions.specs.Lists.{table}
 use Rattle.definitions.specs.Network.{Accepted}
 use Rattle.definitions.specs.Form.{decimal, writeForm}
-use Rattle.definitions.specs.Text.{headerForm, linkForm, endForm, linkLines, textOf}
+use Rattle.definitions.specs.Text.{linkForm, linkLines, textOf}
 use Rattle.lists.specs.Tables.{length-table, getD-table}
 use Rattle.theory.specs.Accepted.{ProperTable, accepted, accepted-intro}
 use Rattle.text_theory.specs.Decimal.{length-decimal-at-most, length-decimal-three, length-decimal-four}
-
--- The lengths of the lines.
-pub length-header : (n m : ℕ) → length (writeForm headerForm (n ∷ m ∷ [])) ≡ 25 + length (decimal n) + length (decimal m)
-unfolding headerForm writeForm
-length-header n m = simp length-append (omega arith)
-
-pub length-link : (a b : ℕ) → length (writeForm linkForm (a ∷ b ∷ [])) ≡ 9 + length (decimal a) + length (decimal b)
-unfolding linkForm writeForm
-length-link a b = simp length-append (omega arith)
-
-pub length-end : length (writeForm endForm []) ≡ 6
-unfolding endForm writeForm
-length-end = refl
-
-pub length-text : (n : ℕ) (lows highs : List ℕ)
-    → length (textOf n lows highs)
-    ≡ 31 + length (decimal n) + length (decimal (length lows)) + length (linkLines lows highs 0 (length lows))
-unfolding textOf
-length-text n lows highs =
-    simp length-append (omega (arith, length-header n (length lows), length-end))
+use Rattle.text_theory.specs.Lengths.{length-link, length-text}
 
 -- Link lines of relay numbers below 1,000 have at most 15 bytes each; with three digits each, exactly 15.
 lines-at-most : (lows highs : List ℕ) (i count : ℕ)

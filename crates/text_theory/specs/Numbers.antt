@@ -6,12 +6,12 @@ use mathlib.Core.List.{List, [], _∷_, _++_, append-assoc, append-nil}
 use mathlib.Core.Path.{_≡_, refl, sym, _∙_, ap}
 use native.Mathlib.Omega.{arith}
 use lib.Dec.{eqb, ltb}
-use lib.ListN.{length, getD, take, drop, List·getD-eq-default}
+use lib.ListN.{length, getD, List·getD-eq-default}
 use borrow.Author.Tests.{ne-eqb, eqb-true, ltb-true, ltb-false}
 use Rattle.definitions.specs.Outcome.{pick}
 use Rattle.definitions.specs.Lists.{outside}
 use Rattle.definitions.specs.Form.{departs, reads, byteAt, scanDigits, scanNumber, decimal}
-use Rattle.lists.specs.Parts.{Part, part-empty, part-cons, part-head, part-tail, part-taken, part-of-append, part-behind}
+use Rattle.lists.specs.Parts.{Part, part-empty, part-cons, part-head, part-tail}
 use Rattle.lists.specs.Ranges.{inside, inside-range}
 use Rattle.text_theory.specs.Decimal.{
   Digits,
@@ -36,16 +36,13 @@ unfolding valueFrom
 value-append [] t x = refl
 value-append (b ∷ s) t x = value-append s t (x * 10 + (b - 48))
 
--- The digits of a number have its value, so no two numbers are written alike.
+-- The digits of a number have its value.
 pub value-decimal : (x : ℕ) → valueFrom 0 (decimal x) ≡ x
 unfolding valueFrom
 value-decimal =
     decimal-induction (λ x. valueFrom 0 (decimal x) ≡ x)
     (λ x h. rw (decimal-digit x h) (omega arith))
     (λ x h hyp. rw (decimal-tens x h, value-append (decimal (x / 10)) ((48 + x % 10) ∷ []) 0, hyp) (omega arith))
-
-pub decimal-injective : (x y : ℕ) → decimal x ≡ decimal y → x ≡ y
-decimal-injective x y e = sym (value-decimal x) ∙ ap (valueFrom 0) e ∙ value-decimal y
 
 -- Digits behind a number that is not 0 are the last digits of the number with that value.
 pub decimal-value : (s : List ℕ) (x : ℕ) → 0 < x → Digits s → decimal (valueFrom x s) ≡ decimal x ++ s
@@ -202,21 +199,3 @@ read-number text p values q e = zeroFirst (eqb (byteAt text p) 48) refl e
           part = rw (← same, decimal-digit 0 (omega arith), ← byte) (part-cons text [] p (p + 1) before (part-empty text (p + 1) (omega arith)));
         }
     zeroFirst false test e = digitFirst (outside 49 57 (byteAt text p)) refl e
-
--- Both with the text before and behind the number written out.
-pub scan-decimal : (front rest : List ℕ) (x : ℕ) → x < 10000 → outside 48 57 (byteAt rest 0) ≡ true
-    → scanNumber (front ++ (decimal x ++ rest)) (length front) ≡ reads (x ∷ []) (length front + length (decimal x))
-unfolding byteAt
-scan-decimal front rest x small stops =
-    number-read (front ++ (decimal x ++ rest)) x (length front) (length front + length (decimal x)) small
-    (part-of-append front (decimal x) rest)
-    (ap (outside 48 57) (part-behind front (decimal x) rest) ∙ stops)
-
-pub decimal-scanned : (text : List ℕ) (x p q : ℕ) → scanNumber text p ≡ reads (x ∷ []) q
-    → (x < 10000) × (p < q) × (q ≤ length text) × (take (q - p) (drop p text) ≡ decimal x)
-decimal-scanned text x p q e =
-    let read = read-number text p (x ∷ []) q e in
-    let same : read .number ≡ x = cc (read .value) in
-    let part : Part text p (decimal x) q = rw same at (read .part) in
-    let small : x < 10000 = rw same at (read .small) in
-    (small, omega (arith, part .reaches, decimal-not-empty x), part .within, part-taken text (decimal x) p q part)

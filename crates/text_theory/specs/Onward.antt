@@ -19,7 +19,7 @@ use Rattle.lists.specs.Outcomes.{refuse-not}
 use Rattle.lists.specs.Ranges.{inside}
 use Rattle.lists.specs.Parts.{Part, part-first, part-second}
 use Rattle.text_theory.specs.Forms.{header-line, link-line, end-line}
-use Rattle.text_theory.specs.Lines.{line-read, header-fits, end-fits, faultless-fits}
+use Rattle.text_theory.specs.NetworkLines.{line-read, header-fits, end-fits, faultless-fits}
 use Rattle.text_theory.specs.LinkByLink.{lines, Faultless}
 
 -- Behind a header within the limits: "8, a table list shorter than m", or the link lines.

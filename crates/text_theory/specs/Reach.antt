@@ -35,7 +35,7 @@ use Rattle.lists.specs.Ranges.{inside-range}
 use Rattle.lists.specs.SameOutcomes.{refuse-same}
 use Rattle.theory.specs.Accepted.{fault-none}
 use Rattle.text_theory.specs.Forms.{header-line, link-line}
-use Rattle.text_theory.specs.Lines.{read-line, link-numbers}
+use Rattle.text_theory.specs.NetworkLines.{read-line, link-numbers}
 use Rattle.text_theory.specs.Spans.{span, span-first, written-span, Within, item-within, form-within}
 
 -- The first n bytes are the same.

@@ -15,7 +15,7 @@ use Rattle.definitions.specs.Text.{headerForm, linkForm, endForm, readEnd, read
 use Rattle.lists.specs.Ranges.{inside-range}
 use Rattle.lists.specs.RefusedWithin.{RefusedWithin, refuse-within, pick-within}
 use Rattle.text_theory.specs.Forms.{header-line}
-use Rattle.text_theory.specs.Lines.{read-line}
+use Rattle.text_theory.specs.NetworkLines.{read-line}
 use Rattle.text_theory.specs.Spans.{span, Within, form-within}
 use Rattle.text_theory.specs.Reach.{link-behind}
 

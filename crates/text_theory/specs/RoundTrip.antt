@@ -19,7 +19,7 @@ use Rattle.lists.specs.Outcomes.{not-refused, refuse-not}
 use Rattle.lists.specs.Parts.{Part, part-append, part-first, part-second, part-start, part-end, part-whole}
 use Rattle.theory.specs.Accepted.{accepted}
 use Rattle.text_theory.specs.Forms.{header-line, link-line, end-line}
-use Rattle.text_theory.specs.Lines.{
+use Rattle.text_theory.specs.NetworkLines.{
   read-line,
   link-numbers,
   header-numbers,
@@ -40,7 +40,7 @@ unfolding onScan
 on-scan-done number (departs p) next value e = let z : _≡_ {A = ℕ} 0 1 = cc in absurd (omega arith)
 on-scan-done number (reads values q) next value e = (values, q, refl, e)
 
-record LinksRead (text : List ℕ) (n : ℕ) (lows highs : List ℕ) (p count : ℕ) (network : Network) : Type 0 where
+record LinksStand (text : List ℕ) (n : ℕ) (lows highs : List ℕ) (p count : ℕ) (network : Network) : Type 0 where
   ls : List ℕ
   hs : List ℕ
   even : length ls ≡ length hs
@@ -52,7 +52,7 @@ record LinksRead (text : List ℕ) (n : ℕ) (lows highs : List ℕ) (p count : 
 -- A link line, and behind it the others.
 one-more : (count : ℕ) (text : List ℕ) (n : ℕ) (lows highs : List ℕ) (a b p q : ℕ) (network : Network)
     → linkFault n lows highs (length lows) a b ≡ 0 → Part text p (writeForm linkForm (a ∷ b ∷ [])) q
-    → LinksRead text n (lows ++ (a ∷ [])) (highs ++ (b ∷ [])) q count network → LinksRead text n lows highs p (suc count) network
+    → LinksStand text n (lows ++ (a ∷ [])) (highs ++ (b ∷ [])) q count network → LinksStand text n lows highs p (suc count) network
 unfolding lines
 one-more count text n lows highs a b p q network none line after =
     record {
@@ -68,7 +68,7 @@ one-more count text n lows highs a b p q network none line after =
     }
 
 read-end : (text : List ℕ) (n : ℕ) (lows highs : List ℕ) (p : ℕ) (network : Network) → p ≤ length text
-    → readEnd text n lows highs p ≡ done network → LinksRead text n lows highs p zero network
+    → readEnd text n lows highs p ≡ done network → LinksStand text n lows highs p zero network
 unfolding readEnd lines
 read-end text n lows highs p network within e =
     let (values, q, first, second) =
@@ -89,7 +89,7 @@ read-end text n lows highs p network within e =
     }
 
 read-links : (count : ℕ) (text : List ℕ) (n : ℕ) (lows highs : List ℕ) (p : ℕ) (network : Network) → p ≤ length text
-    → readLinks text n lows highs p count ≡ done network → LinksRead text n lows highs p count network
+    → readLinks text n lows highs p count ≡ done network → LinksStand text n lows highs p count network
 unfolding readLinks
 read-links zero text n lows highs p network within e = read-end text n lows highs p network within e
 read-links (suc count) text n lows highs p network within e =
@@ -144,7 +144,7 @@ read-written n lows highs check roomLows roomHighs =
 
 -- The network and its text from the header line on.
 read-whole : (text : List ℕ) (n m p : ℕ) (network : Network) → Part text 0 (writeForm headerForm (n ∷ m ∷ [])) p
-    → outside 1 1000 n ≡ false → m ≤ 3000 → LinksRead text n [] [] p m network
+    → outside 1 1000 n ≡ false → m ≤ 3000 → LinksStand text n [] [] p m network
     → (textOf (network .relays) (network .lows) (network .highs) ≡ text)
     × Accepted (network .relays) (network .lows) (network .highs)
 read-whole text n m p network header size many links =

@@ -2,7 +2,7 @@
 -- to `move_mark` for the header, on each turn of the loop for a link, and for the end, by the laws of `Lending`. The
 -- loop's invariant is `Standing`: what is left of the text. Assumes nothing.
 use mathlib.Core.Path.{_≡_, refl, _∙_}
-use Prim.Native.Nat.{ℕ, _+_, _-_, _≤_, _<_, _^_}
+use Prim.Native.Nat.{ℕ, _+_, _≤_, _<_, _^_}
 use native.Mathlib.Omega.{arith}
 use mathlib.Core.List.{List, [], _∷_}
 use lib.Dec.{T as Holds, ltb, ltb→lt, nltb→le, lit<}
@@ -38,8 +38,7 @@ use denote.Triple.Spec.{Meets, tripleOf}
 use denote.Triple.Table.{entered, cited}
 use denote.Triple.Walked.{needs, goes-none, goes-none-slice, goes-slice, Walks, walked, walk-meets}
 use denote.Exit.{yes}
-use Rattle.definitions.specs.Text.{textOf}
-use Rattle.text.specs.Marks.{Writable, first as mark₀, header-fits, link-fits, end-fits, header-moved, link-moved, end-moved}
+use Rattle.text.specs.Marks.{Writable, first as mark₀, header-writable, link-writable, end-writable, header-moved, link-moved, end-moved}
 use Rattle.text.specs.declared.put.WriteMark.{WriteMark}
 use Rattle.text.specs.declared.scan.Due.{Due}
 use Rattle.text.specs.declared.scan.Due.the-variants as dues
@@ -146,7 +145,7 @@ module _ {M : Type 1} (𝓤 : URA M) (H : Heap 𝓤) (A : Atoms 𝓤) (W : Given
         (init ! 22 refl (due-typed 𝓤 H A W dues.End)) $
         move ! (44 ∷ 45 ∷ 32 ∷ 46 ∷ 47 ∷ 48 ∷ 49 ∷ []) $
         lends L l5 (i .0 .0) (i .0 .1) dues.End W at-mem run (i .1 .0 .same) n-fits (i .1 .1) (is-due dues.End)
-        (end-fits n lows highs start writable (i .0 .0) (i .0 .1) (i .1 .0)) ! tt (λ N.
+        (end-writable n lows highs start writable (i .0 .0) (i .0 .1) (i .1 .0)) ! tt (λ N.
         calls-at ! fm mover known (to (i .0) dues.End N) (and-then ! (load ! (from ! (stop !)) (look ! 6 refl))
         (and-then ! (load ! (from ! (stop !)) (look ! 4 refl)) (and-then ! (load ! (from ! (stop !)) (look ! 26 refl))
         (and-then ! (load ! (from ! (stop !)) (look ! 41 refl)) (and-then ! (load ! (from ! (stop !)) (look ! 39 refl))
@@ -192,7 +191,7 @@ module _ {M : Type 1} (𝓤 : URA M) (H : Heap 𝓤) (A : Atoms 𝓤) (W : Given
         (init ! 6 refl (due-typed 𝓤 H A W dues.Link)) $
         move ! (44 ∷ 45 ∷ 32 ∷ 46 ∷ 47 ∷ 48 ∷ 49 ∷ []) $
         lends L l5 (i .0 .0) (i .0 .1) dues.Link W at-mem run (i .1 .0 .same) n-fits (i .1 .1) (is-due dues.Link)
-        (link-fits n lows highs start writable (i .0 .0) (i .0 .1) (i .1 .0) (short i less)) ! tt (λ N.
+        (link-writable n lows highs start writable (i .0 .0) (i .0 .1) (i .1 .0) (short i less)) ! tt (λ N.
         calls-at-last ! fm mover known (to (i .0) dues.Link N) (and-then ! (load ! (from ! (stop !)) (look ! 14 refl))
         (and-then ! (load ! (from ! (stop !)) (look ! 12 refl)) (and-then ! (load ! (from ! (stop !)) (look ! 10 refl))
         (and-then ! (load ! (from ! (stop !)) (look ! 41 refl)) (and-then ! (load ! (from ! (stop !)) (look ! 39 refl))
@@ -219,7 +218,7 @@ module _ {M : Type 1} (𝓤 : URA M) (H : Heap 𝓤) (A : Atoms 𝓤) (W : Given
         (init ! 22 refl (due-typed 𝓤 H A W dues.Header)) $
         move ! (44 ∷ 45 ∷ 32 ∷ 46 ∷ 47 ∷ 48 ∷ 49 ∷ []) $
         lends L l5 start mark₀ dues.Header W at-mem run refl n-fits is-first (is-due dues.Header)
-        (header-fits n lows highs start writable) ! tt (λ N.
+        (header-writable n lows highs start writable) ! tt (λ N.
         calls-at ! fm mover known (to (start, mark₀) dues.Header N) (and-then ! (load ! (from ! (stop !)) (look ! 30 refl))
         (and-then ! (load ! (from ! (stop !)) (look ! 28 refl)) (and-then ! (load ! (from ! (stop !)) (look ! 26 refl))
         (and-then ! (load ! (from ! (stop !)) (look ! 41 refl)) (and-then ! (load ! (from ! (stop !)) (look ! 39 refl))

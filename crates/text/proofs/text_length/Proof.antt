@@ -3,10 +3,11 @@
 use Prim.Native.Nat.{_+_, _-_, _*_, _≤_}
 use mathlib.Core.Path.{_≡_, ap}
 use native.Mathlib.Omega.{arith}
-use lib.ListN.{length}
+use lib.ListN.{length, getD}
 use denote.Ref.{now}
 use Rattle.definitions.specs.Text.{linkLines}
-use Rattle.text.specs.Written.{length-links-step, links-end, length-text, length-end}
+use Rattle.text_theory.specs.Lengths.{length-link, length-text}
+use Rattle.text.specs.Written.{length-links-step, links-end}
 use Rattle.text.proofs.text_length.Statement.{statement}
 use Rattle.text.proofs.text_length.Tie as tie
 
@@ -18,8 +19,8 @@ Inv-loop n lows highs total₀ i₀ total i =
 abbrev μ-loop : tie.MeasureT-loop
 μ-loop n lows highs total₀ i₀ total i = length lows - i
 
-header-length-requires : tie.Need-header-length-requires Inv-loop μ-loop
-header-length-requires c κs = omega arith
+pair-length-requires : tie.Need-pair-length-requires Inv-loop μ-loop
+pair-length-requires c κs = omega arith
 
 add-total : tie.Need-add-total Inv-loop μ-loop
 add-total c = omega arith
@@ -48,8 +49,8 @@ shared-slice-read-high c = omega arith
 cast-high : tie.Need-cast-high Inv-loop μ-loop
 cast-high c = omega (arith, c .shared-slice-known4 .given (c .before .before .before .loop .i))
 
-link-length-requires : tie.Need-link-length-requires Inv-loop μ-loop
-link-length-requires c κs =
+pair-length-requires-2 : tie.Need-pair-length-requires-2 Inv-loop μ-loop
+pair-length-requires-2 c κs =
     let i = c .before .before .before .loop .i in
     omega (arith, c .before .shared-slice-known3 .given i, c .shared-slice-known4 .given i)
 
@@ -66,7 +67,10 @@ loop-again : tie.Need-loop-again Inv-loop μ-loop
 loop-again c =
     let l = c .before .before .before .before in
     let a = c .before .before .before .before .before .before .before .before .args in
-    let more = length-links-step (now (a .lows)) (now (a .highs)) (l .loop .i) (length (now (a .lows))) (omega arith) in
+    let lows = now (a .lows) in
+    let highs = now (a .highs) in
+    let more = length-links-step lows highs (l .loop .i) (length lows) (omega arith) in
+    let line = length-link (getD lows (l .loop .i) 0) (getD highs (l .loop .i) 0) in
     (omega arith, omega arith, omega arith)
 
 returns : tie.Need-returns Inv-loop μ-loop
@@ -78,8 +82,7 @@ returns c =
       arith,
       ap length (links-end lows highs (c .before .loop .i) (length lows) (omega arith)),
       length-text (a .n) lows highs,
-      length-end,
-      c .before .before .header-length .ensures .0,
+      c .before .before .pair-length .ensures .0,
     )
 
 pub text-length-spec : {M : Type 1} → statement M
@@ -88,7 +91,7 @@ text-length-spec =
     (tie.spec
     Inv-loop
     μ-loop
-    header-length-requires
+    pair-length-requires
     add-total
     loop-holds
     mul-low
@@ -97,7 +100,7 @@ text-length-spec =
     mul-high
     shared-slice-read-high
     cast-high
-    link-length-requires
+    pair-length-requires-2
     add-total-2
     add-i
     loop-less

@@ -42,7 +42,7 @@ use denote.Triple.Walked.{says, Stays, stay-none, stay-none-slice, walkOf, goes-
 use denote.Exit.{yes}
 use denote.Triple.Clauses.{ensured, lasts}
 use Rattle.definitions.specs.Form.{scanForm}
-use Rattle.text.specs.Forms.{formOf, asPair}
+use Rattle.text.specs.DueForms.{formOf, asPair}
 use Rattle.text.specs.Scans.{pairGives}
 use Rattle.text.specs.declared.mark.Mark.{Mark}
 use Rattle.text.specs.declared.scan.Due.{Due}

@@ -45,7 +45,7 @@ use denote.Triple.Walked.{says, Stays, stay-none, walkOf, goes-none, Walks, ends
 use denote.Exit.{yes}
 use denote.Triple.Clauses.{ensured, lasts}
 use Rattle.definitions.specs.Form.{scanForm}
-use Rattle.text.specs.Forms.{formOf, asPair}
+use Rattle.text.specs.DueForms.{formOf, asPair}
 use Rattle.text.specs.Scans.{pairGives}
 use Rattle.text.specs.declared.mark.Mark.{Mark}
 use Rattle.text.specs.declared.scan.Due.{Due}

@@ -1,9 +1,11 @@
--- `text::put::put_form` meets its contract: each of the three forms by its own function. Assumes nothing.
+-- `text::put::put_form` meets its contract: two forms are three words with two numbers between them, the third is the end.
+-- Assumes nothing.
 use mathlib.Core.Path.{refl, ap}
 use native.Mathlib.Omega.{arith}
 use lib.ListN.{length}
 use borrow.Author.Needs.{needs}
 use denote.Ref.{now}
+use Rattle.definitions.specs.Text.{headerForm, linkForm}
 use Rattle.text.specs.declared.scan.Due.the-variants as dues
 use Rattle.text.specs.Marks.{due-room, due-entries, entries-line, same-bytes}
 use Rattle.text.proofs.put.put_form.Statement.{statement}
@@ -12,8 +14,20 @@ use Rattle.text.proofs.put.put_form.Tie as tie
 enum-told : tie.Need-enum-told
 enum-told c = search needs
 
-put-header-requires : tie.Need-put-header-requires
-put-header-requires c κs = due-room dues.Header (c .before .enum-told .given .1) (c .before .before .before .before .before .before .pre)
+slice-aggregate-put-pair : tie.Need-slice-aggregate-put-pair
+slice-aggregate-put-pair c = search needs
+
+slice-aggregate-put-pair-2 : tie.Need-slice-aggregate-put-pair-2
+slice-aggregate-put-pair-2 c = search needs
+
+slice-aggregate-put-pair-3 : tie.Need-slice-aggregate-put-pair-3
+slice-aggregate-put-pair-3 c = search needs
+
+put-pair-requires : tie.Need-put-pair-requires
+unfolding headerForm
+put-pair-requires c κs =
+    let atEnumTold = c .before .before .before .before in
+    due-room dues.Header (atEnumTold .enum-told .given .1) (atEnumTold .before .before .before .before .before .pre)
 
 enum-told-2 : tie.Need-enum-told-2
 enum-told-2 c = search needs
@@ -27,13 +41,25 @@ entry-requires-2 c κs = due-entries dues.Link (c .before .enum-told2 .given .1)
 add-links : tie.Need-add-links
 add-links c = search needs
 
-put-link-requires : tie.Need-put-link-requires
-put-link-requires c κs =
-    let a = c .before .before .before .before .before .before .before .before .before .args in
-    let low = c .before .before .before .entry .ensures in
-    let line = entries-line (now (a .lows)) (now (a .highs)) (a .mark .links) _ _ low (c .before .before .entry2 .ensures) in
-    let told = c .before .before .before .before .enum-told2 .given .1 in
-    omega (arith, due-room dues.Link told (c .before .before .before .before .before .before .before .before .before .pre), ap length line)
+slice-aggregate-put-pair-4 : tie.Need-slice-aggregate-put-pair-4
+slice-aggregate-put-pair-4 c = search needs
+
+slice-aggregate-put-pair-5 : tie.Need-slice-aggregate-put-pair-5
+slice-aggregate-put-pair-5 c = search needs
+
+slice-aggregate-put-pair-6 : tie.Need-slice-aggregate-put-pair-6
+slice-aggregate-put-pair-6 c = search needs
+
+put-pair-requires-2 : tie.Need-put-pair-requires-2
+unfolding linkForm
+put-pair-requires-2 c κs =
+    let atEntry = c .before .before .before .before .before .before in
+    let atEnumTold2 = atEntry .before in
+    let start = atEnumTold2 .before .before .before .before .before in
+    let a = start .args in
+    let high = c .before .before .before .before .before .entry2 .ensures in
+    let line = entries-line (now (a .lows)) (now (a .highs)) (a .mark .links) _ _ (atEntry .entry .ensures) high in
+    omega (arith, due-room dues.Link (atEnumTold2 .enum-told2 .given .1) (start .pre), ap length line)
 
 enum-told-3 : tie.Need-enum-told-3
 enum-told-3 c = search needs
@@ -45,41 +71,49 @@ same-length : tie.Need-same-length
 same-length c = search needs
 
 returns : tie.Need-returns
+unfolding headerForm
 returns c =
-    let atEnumTold = c .before .before .before .before in
-    rw (atEnumTold .enum-told .given .1) (record { put = c .before .before .put-header .ensures; counts = refl })
+    let atPutPair = c .before .before in
+    let atEnumTold = atPutPair .before .before .before .before .before in
+    rw (atEnumTold .enum-told .given .1) (record { put = atPutPair .put-pair .ensures; counts = refl })
 
 same-length-2 : tie.Need-same-length-2
 same-length-2 c = search needs
 
 returns-2 : tie.Need-returns-2
+unfolding linkForm
 returns-2 c =
-    let a = c .before .before .before .before .before .before .before .before .before .before .before .before .args in
-    let low = c .before .before .before .before .before .before .entry .ensures in
-    let high = c .before .before .before .before .before .entry2 .ensures in
-    let line = entries-line (now (a .lows)) (now (a .highs)) (a .mark .links) _ _ low high in
-    rw (c .before .before .before .before .before .before .before .enum-told2 .given .1)
-    (record { put = same-bytes line (c .before .before .put-link .ensures); counts = refl })
+    let atEntry2 = c .before .before .before .before .before .before .before .before in
+    let atEntry = atEntry2 .before in
+    let atEnumTold2 = atEntry .before in
+    let a = atEnumTold2 .before .before .before .before .before .args in
+    let low = atEntry .entry .ensures in
+    let line = entries-line (now (a .lows)) (now (a .highs)) (a .mark .links) _ _ low (atEntry2 .entry2 .ensures) in
+    rw (atEnumTold2 .enum-told2 .given .1) (record { put = same-bytes line (c .before .before .put-pair2 .ensures); counts = refl })
 
 same-length-3 : tie.Need-same-length-3
 same-length-3 c = search needs
 
 returns-3 : tie.Need-returns-3
-returns-3 c =
-    let atEnumTold3 = c .before .before .before .before in
-    rw (atEnumTold3 .enum-told3 .given .1) (record { put = c .before .before .put-end .ensures; counts = refl })
+returns-3 c = rw (c .before .before .before .before .enum-told3 .given .1) (record { put = c .before .before .put-end .ensures; counts = refl })
 
 pub put-form-spec : {M : Type 1} → statement M
 put-form-spec =
     tie.close
     (tie.spec
     enum-told
-    put-header-requires
+    slice-aggregate-put-pair
+    slice-aggregate-put-pair-2
+    slice-aggregate-put-pair-3
+    put-pair-requires
     enum-told-2
     entry-requires
     entry-requires-2
     add-links
-    put-link-requires
+    slice-aggregate-put-pair-4
+    slice-aggregate-put-pair-5
+    slice-aggregate-put-pair-6
+    put-pair-requires-2
     enum-told-3
     put-end-requires
     same-length

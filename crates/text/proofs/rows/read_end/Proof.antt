@@ -2,7 +2,7 @@
 use mathlib.Core.Path.{sym, _∙_, ap}
 use borrow.Author.Needs.{needs}
 use denote.Ref.{now}
-use Rattle.text.specs.Forms.{pair-departs-end, pair-reads-end}
+use Rattle.text.specs.DueForms.{pair-departs-end, pair-reads-end}
 use Rattle.text.specs.Read.{end-departs, end-more, end-done}
 use Rattle.text.specs.Scans.{pairGives}
 use Rattle.text.proofs.rows.read_end.Statement.{statement}

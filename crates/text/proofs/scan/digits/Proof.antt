@@ -10,7 +10,7 @@ use Rattle.definitions.specs.Lists.{outside}
 use Rattle.definitions.specs.Form.{byteAt, scanDigits}
 use Rattle.text_theory.specs.Numbers.{byte-within}
 use Rattle.lists.specs.Ranges.{below, above, inside}
-use Rattle.text.specs.Numbers.{digits-end, digits-step, digits-bound, digits-done, digits-room}
+use Rattle.text.specs.DigitByDigit.{digits-end, digits-step, digits-bound, digits-done, digits-room}
 use Rattle.text.proofs.scan.digits.Statement.{statement}
 use Rattle.text.proofs.scan.digits.Tie as tie
 

@@ -6,7 +6,7 @@ use denote.Ref.{now}
 use Rattle.definitions.specs.Form.{byteAt}
 use Rattle.lists.specs.Ranges.{below, above}
 use Rattle.text_theory.specs.Numbers.{byte-within}
-use Rattle.text.specs.Numbers.{number-zero, number-departs, number-digits}
+use Rattle.text.specs.DigitByDigit.{number-zero, number-departs, number-digits}
 use Rattle.text.proofs.scan.number.Statement.{statement}
 use Rattle.text.proofs.scan.number.Tie as tie
 

@@ -5,7 +5,7 @@ use borrow.Author.Needs.{needs}
 use denote.Ref.{now}
 use Rattle.definitions.specs.Form.{withFront}
 use Rattle.text.specs.Scans.{wordGives, numberGives}
-use Rattle.text.specs.Lines.{form-word, first-departs, first-reads}
+use Rattle.text.specs.ItemByItem.{form-word, first-departs, first-reads}
 use Rattle.text.proofs.scan.pair_line.Statement.{statement}
 use Rattle.text.proofs.scan.pair_line.Tie as tie
 

@@ -3,7 +3,7 @@ use mathlib.Core.Path.{sym, _∙_, ap}
 use borrow.Author.Needs.{needs}
 use denote.Ref.{now}
 use Rattle.text.specs.Scans.{wordGives}
-use Rattle.text.specs.Lines.{word-number-departs, word-number-reads}
+use Rattle.text.specs.ItemByItem.{word-number-departs, word-number-reads}
 use Rattle.text.proofs.scan.word_number.Statement.{statement}
 use Rattle.text.proofs.scan.word_number.Tie as tie
 

@@ -1,7 +1,7 @@
 -- The three forms of a network's text: which one is due, and what reading it gives. Assumes nothing.
 use Prim.Native.Nat.{ℕ}
 use mathlib.Core.List.{List, [], _∷_}
-use mathlib.Core.Path.{_≡_, refl, sym, ap}
+use mathlib.Core.Path.{_≡_, sym, ap}
 use native.Mathlib.Omega.{arith}
 use Rattle.definitions.specs.Form.{Item, Scan, departs, reads, withFront, following}
 use Rattle.definitions.specs.Text.{headerForm, linkForm, endForm}

@@ -17,18 +17,18 @@ use Rattle.definitions.specs.Text.{headerForm, linkForm, endForm, Network, read
 use Rattle.lists.specs.Parts.{Part, part-empty, part-append, part-first, part-second}
 use Rattle.theory.specs.Accepted.{accepted}
 use Rattle.text_theory.specs.Forms.{header-line, link-line, end-line}
-use Rattle.text_theory.specs.Lines.{read-line, link-numbers, header-numbers, end-numbers}
+use Rattle.text_theory.specs.NetworkLines.{read-line, link-numbers, header-numbers, end-numbers}
 use Rattle.text_theory.specs.LinkByLink.{lines, Faultless, linkLines-lines, accepted-faultless, faultless-accepted}
 use Rattle.text_theory.specs.Onward.{header-onward, links-onward, end-onward}
-use Rattle.text_theory.specs.Departs.{DepartsAt, departs-at}
-use Rattle.text_theory.specs.FirstDeparture.{departs-exactly}
+use Rattle.text_theory.specs.DepartsFromForm.{DepartsAt, departs-at}
+use Rattle.text_theory.specs.DepartsOnce.{departs-exactly}
 
 -- What is due at byte `at` with `left` link lines to come, and how the text departs from it at byte q: a link line; the end
 -- line; or, the end line being there, nothing.
-pub data Due (text : List ℕ) (left at q : ℕ) : Type 0 where
-  linkDue : 0 < left → DepartsAt text linkForm at q → Due text left at q
-  endDue : left ≡ 0 → DepartsAt text endForm at q → Due text left at q
-  nothingDue : left ≡ 0 → Part text at (writeForm endForm []) q → q < length text → Due text left at q
+pub data NextDeparts (text : List ℕ) (left at q : ℕ) : Type 0 where
+  linkDue : 0 < left → DepartsAt text linkForm at q → NextDeparts text left at q
+  endDue : left ≡ 0 → DepartsAt text endForm at q → NextDeparts text left at q
+  nothingDue : left ≡ 0 → Part text at (writeForm endForm []) q → q < length text → NextDeparts text left at q
 
 -- Where a text departs: in its header line; or behind that line and the lines of an accepted table, up to byte `at`, where
 -- `left` of the link lines that the header announces are still to come.
@@ -36,7 +36,7 @@ pub data Departure (text : List ℕ) (q : ℕ) : Type 0 where
   headerDue : DepartsAt text headerForm 0 q → Departure text q
   linesDue : (n : ℕ) (lows highs : List ℕ) (left at : ℕ) → Accepted n lows highs → length lows + left ≤ 3000
       → Part text 0 (writeForm headerForm (n ∷ (length lows + left) ∷ []) ++ linkLines lows highs 0 (length lows)) at
-      → Due text left at q → Departure text q
+      → NextDeparts text left at q → Departure text q
 
 -- A refusal with another number than the test's comes from what follows the test.
 refused-later : {A : Type 0} (b : Bool) (number place : ℕ) (rest : Outcome A) (r q : ℕ)
@@ -66,15 +66,15 @@ record LinksDepart (text : List ℕ) (n : ℕ) (lows highs : List ℕ) (p count 
   many : length ls + left ≡ count
   good : Faultless n lows highs ls hs
   part : Part text p (lines ls hs) at
-  due : Due text left at q
+  due : NextDeparts text left at q
 
-end-departs : (text : List ℕ) (n : ℕ) (lows highs : List ℕ) (p q : ℕ) → p ≤ length text
-    → readEnd text n lows highs p ≡ refused 2 q → Due text 0 p q
+end-refused : (text : List ℕ) (n : ℕ) (lows highs : List ℕ) (p q : ℕ) → p ≤ length text
+    → readEnd text n lows highs p ≡ refused 2 q → NextDeparts text 0 p q
 unfolding readEnd onScan refuseIf
-end-departs text n lows highs p q within e = go (scanForm text endForm p) refl e
+end-refused text n lows highs p q within e = go (scanForm text endForm p) refl e
   where
     over : (values : List ℕ) (at : ℕ) → scanForm text endForm p ≡ reads values at → (b : Bool) → ltb at (length text) ≡ b
-        → refuseIf {A = Network} b 2 at (done (record { relays = n; lows = lows; highs = highs })) ≡ refused 2 q → Due text 0 p q
+        → refuseIf {A = Network} b 2 at (done (record { relays = n; lows = lows; highs = highs })) ≡ refused 2 q → NextDeparts text 0 p q
     over values at first true test e =
         let same : at ≡ q = cc in
         let line = read-line endForm text p values at end-line within first in
@@ -85,7 +85,7 @@ end-departs text n lows highs p q within e = go (scanForm text endForm p) refl e
     go : (scan : Scan) → scanForm text endForm p ≡ scan
         → onScan {A = Network} 2 scan
         (λ _ at. refuseIf (ltb at (length text)) 2 at (done (record { relays = n; lows = lows; highs = highs }))) ≡ refused 2 q
-        → Due text 0 p q
+        → NextDeparts text 0 p q
     go (departs at) first e =
         let same : at ≡ q = cc in
         endDue refl (departs-at endForm text p q (end-line .0) within (first ∙ ap departs same))
@@ -125,7 +125,7 @@ one-more text n lows highs a b p at count q none line after =
     }
 
 -- No line was read.
-none-read : (text : List ℕ) (n : ℕ) (lows highs : List ℕ) (p count q : ℕ) → p ≤ length text → Due text count p q
+none-read : (text : List ℕ) (n : ℕ) (lows highs : List ℕ) (p count q : ℕ) → p ≤ length text → NextDeparts text count p q
     → LinksDepart text n lows highs p count q
 unfolding lines
 none-read text n lows highs p count q within due =
@@ -145,7 +145,7 @@ links-depart : (count : ℕ) (text : List ℕ) (n : ℕ) (lows highs : List ℕ)
     → readLinks text n lows highs p count ≡ refused 2 q → LinksDepart text n lows highs p count q
 unfolding readLinks onScan
 links-depart zero text n lows highs p q within e =
-    none-read text n lows highs p 0 q within (end-departs text n lows highs p q within e)
+    none-read text n lows highs p 0 q within (end-refused text n lows highs p q within e)
 links-depart (suc count) text n lows highs p q within e =
     go (scanForm text linkForm p) refl e
     (λ a b at. links-depart count text n (lows ++ (a ∷ [])) (highs ++ (b ∷ [])) at q)
@@ -204,7 +204,7 @@ refused-two text roomLows roomHighs q e = go (scanForm text headerForm 0) refl e
         (links-depart m text n [] [] p q (line .1 .within) (room .1))
 
 -- What is due decides the reader's answer from there on.
-due-refused : (text : List ℕ) (n : ℕ) (lows highs : List ℕ) (left at q : ℕ) → at ≤ length text → Due text left at q
+due-refused : (text : List ℕ) (n : ℕ) (lows highs : List ℕ) (left at q : ℕ) → at ≤ length text → NextDeparts text left at q
     → readLinks text n lows highs at left ≡ refused 2 q
 unfolding readLinks readEnd onScan refuseIf
 due-refused text n lows highs zero at q within (linkDue more here) = absurd (omega arith)

@@ -1,10 +1,9 @@
--- `text::put::link_length` meets its contract: 9 bytes and the digits of both numbers. Assumes nothing.
+-- `text::put::pair_length` meets its contract: the bytes of the words and the digits of both numbers. Assumes nothing.
 use native.Mathlib.Omega.{arith}
 use borrow.Author.Needs.{needs}
 use Rattle.text_theory.specs.Decimal.{length-decimal-at-most}
-use Rattle.text.specs.Put.{length-linkForm}
-use Rattle.text.proofs.put.link_length.Statement.{statement}
-use Rattle.text.proofs.put.link_length.Tie as tie
+use Rattle.text.proofs.put.pair_length.Statement.{statement}
+use Rattle.text.proofs.put.pair_length.Tie as tie
 
 width-requires : tie.Need-width-requires
 width-requires c κs = search needs
@@ -27,10 +26,10 @@ returns c =
     let a = c .before .before .args in
     let one = length-decimal-at-most 4 (a .a) (omega arith) in
     let two = length-decimal-at-most 4 (a .b) (omega arith) in (
-      omega (arith, c .before .width .ensures, c .width2 .ensures, length-linkForm (a .a) (a .b)),
+      omega (arith, c .before .width .ensures, c .width2 .ensures),
       omega (arith, c .before .width .ensures, c .width2 .ensures, one, two),
     )
 
-pub link-length-spec : {M : Type 1} → statement M
-link-length-spec =
+pub pair-length-spec : {M : Type 1} → statement M
+pair-length-spec =
     tie.close (tie.spec width-requires add-result width-requires-2 add-result-2 returns)

@@ -100,9 +100,9 @@ digits-never-depart text x p (suc more) q e =
     go false e hyp = hyp e
 
 -- A number departs at its first byte or not at all.
-number-departs : (text : List ℕ) (p q : ℕ) → scanNumber text p ≡ departs q → p ≡ q
+number-departs-first : (text : List ℕ) (p q : ℕ) → scanNumber text p ≡ departs q → p ≡ q
 unfolding scanNumber
-number-departs text p q e = go (eqb (byteAt text p) 48) (outside 49 57 (byteAt text p)) e
+number-departs-first text p q e = go (eqb (byteAt text p) 48) (outside 49 57 (byteAt text p)) e
   where
     go : (z b : Bool) → pick z (reads (0 ∷ []) (p + 1)) (pick b (departs p) (scanDigits text (byteAt text p - 48) (p + 1) 3)) ≡ departs q
         → p ≡ q
@@ -190,7 +190,7 @@ form-begun (numeral ∷ items) behind text p q good within e = go (scanNumber te
         → FormBegun text items at q)
         → FormBegun text (numeral ∷ items) p q
     go (departs at) first e hyp =
-        let same : p ≡ q = number-departs text p q (first ∙ e) in
+        let same : p ≡ q = number-departs-first text p q (first ∙ e) in
         record {
           values = 0 ∷ zeros items;
           fits = (omega arith, zeros-fit items);
