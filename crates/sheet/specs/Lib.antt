@@ -9,4 +9,5 @@ pub mod Routes
 pub mod Longest
 pub mod Promise
 pub mod Front
+pub mod Answers
 pub mod Stages
