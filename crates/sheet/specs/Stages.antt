@@ -3,7 +3,7 @@ use Prim.Native.Nat.{ℕ, _-_, _≤_}
 use mathlib.Core.List.{List, [], _∷_, map}
 use mathlib.Core.Path.{_≡_, sym, _∙_, ap, ap₂, subst}
 use native.Mathlib.Omega.{arith}
-use lib.ListN.{length, take, drop, length-append, length-drop, length-map, length-replicate}
+use lib.ListN.{length, take, drop, length-append, length-drop, length-map}
 use lib.Seq.{take-all, take-append-seam}
 use Rattle.definitions.specs.Outcome.{Outcome, refused, done, andThen}
 use Rattle.definitions.specs.Lists.{overwrite, zeroed, total, joinAll}
@@ -23,14 +23,14 @@ use Rattle.text_theory.specs.Forms.{wish-line}
 use Rattle.text_theory.specs.NetworkLines.{read-line}
 use Rattle.text_theory.specs.RoundTrip.{written-read}
 use Rattle.text.specs.Put.{Put}
-use Rattle.network.specs.Answers.{refusalOf}
-use Rattle.network.specs.Answers.{refusalNumber, refusalPlace}
+use Rattle.network.specs.Answers.{refusalNumber, refusalPlace, refusalOf}
 use Rattle.network.specs.Refusals.{refusal-then}
 use Rattle.network.specs.declared.Refusal.{Refusal}
 use Rattle.network.specs.declared.Refusal.the-variants.{Wish}
 use Rattle.sheet.specs.Front.{longer}
-use Rattle.sheet.specs.Lines.{sheetLines}
+use Rattle.sheet.specs.SheetLines.{sheetLines}
 use Rattle.sheet.specs.Planned.{sheetOf}
+use Rattle.sheet.specs.Refusals.{length-room}
 use Rattle.sheet.specs.Routes.{length-routes}
 
 -- Two outcomes that are the same are printed alike.
@@ -190,8 +190,7 @@ answer-refused {A} {B} (done x) f refusal e =
     absurd (omega arith)
 
 room-length : (size : ℕ) (list : List ℕ) → list ≡ room size → length list ≡ size
-unfolding room
-room-length size list e = ap length e ∙ length-replicate size 0
+room-length size list e = ap length e ∙ length-room size
 
 pub read-refused : (text lows highs : List ℕ) (from to k : ℕ) (refusal : Refusal) → lows ≡ room 3000 → highs ≡ room 3000
     → readAnswer text lows highs ≡ refusalOf refusal → readStage text from to k ≡ refusalOf refusal
