@@ -22,7 +22,7 @@ use Rattle.forests.specs.Scan.{placed, following, PlacesAt, ForestsAt}
 use Rattle.forests.proofs.OrderLaws.{placed-long, weight-linked}
 
 -- A list whose front is a table and whose rest is as it was is overwritten by the table.
-pub overwritten : (f : ℕ → ℕ) (n : ℕ) (old new : List ℕ) → n ≤ length old → length new ≡ length old
+overwritten : (f : ℕ → ℕ) (n : ℕ) (old new : List ℕ) → n ≤ length old → length new ≡ length old
     → ((i : ℕ) → i < n → getD new i 0 ≡ f i) → ((i : ℕ) → n ≤ i → getD new i 0 ≡ getD old i 0)
     → new ≡ overwrite (table f 0 n) old
 overwritten f n old new room long front rest =

@@ -18,7 +18,7 @@ use Rattle.lists.specs.Tests.{or-either}
 use Rattle.theory.specs.Accepted.{ProperTable}
 use Rattle.theory.specs.Links.{joins-ends, joins-sym, joined-linked}
 use Rattle.forests.specs.Chains.{touches}
-use Rattle.forests.specs.Counts.{raisedCount, numberOf, StartCounts}
+use Rattle.forests.specs.Counts.{raisedCount, forestNumber, StartCounts}
 use Rattle.forests.specs.Walk.{otherEnd, farEnd, Walked}
 use Rattle.forests.specs.Scan.{placed, following, CountsAt, PlacesAt, ForestsAt}
 use Rattle.forests.proofs.CountLaws.{raised-none, raised-some, number-none, number-some}
@@ -214,7 +214,7 @@ module _ {n : ℕ} {lows highs : List ℕ} (t : ProperTable n lows highs) (k : �
 
           go : (b : Bool) → touches lows highs (following n lows highs k) i ≡ b
               → pick b
-              (numberOf (getD (set counts (following n lows highs k) 0) (farEnd lows highs (following n lows highs k) i) 0) (getD forests i 0))
+              (forestNumber (getD (set counts (following n lows highs k) 0) (farEnd lows highs (following n lows highs k) i) 0) (getD forests i 0))
               (getD forests i 0)
               ≡ getD forests i 0
           go false f = refl

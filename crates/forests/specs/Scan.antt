@@ -6,7 +6,7 @@ use mathlib.Core.Path.{_≡_}
 use lib.Dec.{leb}
 use lib.ListN.{length, getD, set}
 use Rattle.definitions.specs.Outcome.{pick}
-use Rattle.definitions.specs.Lists.{table, overwrite, has, position}
+use Rattle.definitions.specs.Lists.{overwrite, has, position}
 use Rattle.definitions.specs.Network.{joins, linked, Accepted}
 use Rattle.definitions.specs.Order.{weight, nextRelay, placedAfter, allRelays, firstRelay, orderOf, placesOf}
 use Rattle.definitions.specs.Forests.{forestsOf}
@@ -85,7 +85,7 @@ pub record Scannable (n : ℕ) (lows highs relays places forests : List ℕ) : T
   pub forestRoom : length lows ≤ length forests
 
 -- Arrays with room for the scan, without chains and counts.
-pub record Workspace (n : ℕ) (lows first nexts counts bits : List ℕ) : Type 0 where
+pub record ScanArrays (n : ℕ) (lows first nexts counts bits : List ℕ) : Type 0 where
   pub heads : n ≤ length first
   pub few : length first ≤ 1000
   pub none : (r : ℕ) → r < length first → getD first r 0 ≡ 2 * length lows

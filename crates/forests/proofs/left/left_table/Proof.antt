@@ -3,7 +3,7 @@ use Prim.Native.Nat.{_-_, _≤_}
 use mathlib.Core.Path.{_≡_}
 use native.Mathlib.Omega.{arith}
 use lib.ListN.{length}
-use Rattle.forests.proofs.LeftLaws.{LeftTo, left-starts, left-enters, left-moves, left-ends}
+use Rattle.forests.proofs.LeftTableLaws.{LeftTo, left-starts, left-enters, left-moves, left-ends}
 use Rattle.forests.proofs.left.left_table.Statement.{statement}
 use Rattle.forests.proofs.left.left_table.Tie as tie
 

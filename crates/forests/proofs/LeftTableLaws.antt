@@ -9,18 +9,14 @@ use lib.Dec.{leb}
 use lib.ListN.{length, getD, set, length-set}
 use lib.Seq.{getD-set-same, getD-set-other}
 use Rattle.definitions.specs.Outcome.{pick}
-use Rattle.definitions.specs.Lists.{table as tableOf, overwrite}
 use Rattle.definitions.specs.Network.{linked}
-use Rattle.definitions.specs.Order.{orderOf, placeOf, placesOf}
-use Rattle.definitions.specs.Forests.{forestOf, forestsOf}
+use Rattle.definitions.specs.Order.{orderOf}
+use Rattle.definitions.specs.Forests.{forestOf}
 use Rattle.definitions.specs.Route.{leftOf}
-use Rattle.lists.specs.Tables.{length-table, getD-table, length-overwrite}
-use Rattle.lists.specs.Overwritten.{getD-overwrite}
 use Rattle.lists.specs.Grids.{grid-within, grid-row, grid-entry}
 use Rattle.theory.specs.Accepted.{accepted}
 use Rattle.theory.specs.Ordering.{order-length}
 use Rattle.theory.specs.ForestNumbers.{earlierPlace, laterPlace, LinkForest, forest-of-link, link-of-left}
-use Rattle.forests.specs.Scan.{Scannable, Scanned}
 use Rattle.forests.specs.Left.{leftIndex, laterAt, earlierAt, Enterable, entered, LeftInput, LeftTable}
 
 -- A link entered or passed over, in the code's terms.
@@ -224,30 +220,3 @@ module _ {n k : ℕ} {lows highs places forests table : List ℕ} (can : LeftInp
           let w = link-of-left n lows highs i v (omega arith) in
           let full = at .full (w .0) (w .1) (w .1) (omega (arith, w .5)) in
           sym (ap₂ (λ f x. getD table′ (leftIndex n f x) 0) (w .5) (w .4)) ∙ full ∙ w .3
-
--- What the scan gives is what the left table is made from.
-pub scanned-input : (n k : ℕ) (lows highs relays relays′ places places′ forests forests′ table : List ℕ)
-    → Scannable n lows highs relays places forests
-    → Scanned n lows highs relays relays′ places places′ forests forests′
-    → k * n ≤ length table → ((j : ℕ) → j < k * n → getD table j 0 ≡ 0)
-    → LeftInput n k lows highs places′ forests′ table
-unfolding placesOf forestsOf
-scanned-input n k lows highs relays relays′ places places′ forests forests′ table can done room zeros =
-    record {
-      accepted = can .accepted;
-      placeRoom = omega (arith, ap length (done .thePlaces), longer (placeOf (orderOf n lows highs)) n places (can .placeRoom), can .placeRoom);
-      forestRoom =
-          omega (arith, ap length (done .theForests), longer (numberAt n lows highs) (length lows) forests (can .forestRoom), can .forestRoom);
-      tableRoom = room;
-      place = λ r h. ap (λ l. getD l r 0) (done .thePlaces) ∙ front (placeOf (orderOf n lows highs)) n places r h;
-      forest = λ i h. ap (λ l. getD l i 0) (done .theForests) ∙ front (numberAt n lows highs) (length lows) forests i h;
-      zeros = zeros;
-    }
-  where
-    longer : (f : ℕ → ℕ) (m : ℕ) (old : List ℕ) → m ≤ length old → length (overwrite (tableOf f 0 m) old) ≡ length old
-    longer f m old h = length-overwrite (tableOf f 0 m) old (omega (arith, length-table f 0 m))
-
-    front : (f : ℕ → ℕ) (m : ℕ) (old : List ℕ) (i : ℕ) → i < m → getD (overwrite (tableOf f 0 m) old) i 0 ≡ f i
-    front f m old i h =
-        let z : 0 + i ≡ i = omega arith in
-        getD-overwrite (tableOf f 0 m) old i 0 (omega (arith, length-table f 0 m)) ∙ getD-table f 0 m i 0 h ∙ ap f z
