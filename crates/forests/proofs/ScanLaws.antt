@@ -113,8 +113,11 @@ scan-arrays size halves columns n {lows} {first} {nexts} {counts} {bits} heads f
     record {
       heads = omega arith;
       few = omega arith;
-      none = λ r p. ap (λ z. getD z r 0) f ∙ getD-replicate size r (2 * length lows) 0 (omega arith);
-      nextRoom = omega (arith, ap length h, length-replicate {A = ℕ} halves 0);
+      noChains =
+          record {
+            none = λ r p. ap (λ z. getD z r 0) f ∙ getD-replicate size r (2 * length lows) 0 (omega arith);
+            room = omega (arith, ap length h, length-replicate {A = ℕ} halves 0);
+          };
       countRoom = omega arith;
       noCounts = start;
       sorted = buckets-none columns counts bits start b (omega arith);
@@ -124,15 +127,7 @@ scan-arrays size halves columns n {lows} {first} {nexts} {counts} {bits} heads f
 pub chain-ready : {n : ℕ} {lows highs first nexts counts bits : List ℕ} → Accepted n lows highs
     → ScanArrays n lows first nexts counts bits → Chainable lows highs first nexts
 chain-ready {n} {lows} {highs} ok w =
-    let t = accepted n lows highs ok in
-    record {
-      short = t .short;
-      same = sym (t .even);
-      rises = t .ordered;
-      below = λ i h. omega (arith, t .below i h, w .heads);
-      none = w .none;
-      room = w .nextRoom;
-    }
+    record { proper = wide (w .heads) (w .few) (accepted n lows highs ok); noChains = w .noChains }
 
 -- A relay with one more link to a placed relay waits with at most 76 of them.
 counts-few : {n : ℕ} {lows highs counts : List ℕ} (k : ℕ) → Accepted n lows highs → k < n → CountsAt n lows highs k counts
@@ -224,7 +219,7 @@ module _ {n : ℕ} {lows highs first nexts counts bits relays places forests : L
                     chained = can .chained;
                     relay = omega (arith, following-new n lows highs k within .0, can .heads);
                     countRoom = room;
-                    room = omega (arith, at .forestsAt .long, can .scannable .forestRoom);
+                    room = omega (arith, at .forestsAt .beyond .long, can .scannable .forestRoom);
                     sorted = sorted;
                     bound = counts-few k (can .scannable .accepted) within (at .countsAt);
                     fresh = unnumbered proper k within (at .countsAt) (at .forestsAt);

@@ -35,7 +35,7 @@ loop-again c =
     (omega arith, left-moves (start .pre) (at .i) (omega arith) (at .inv .1) (c .before .before .enter-link .ensures))
 
 same-length : tie.Need-same-length Inv-loop μ-loop
-same-length c = c .before .loop .inv .1 .long
+same-length c = c .before .loop .inv .1 .beyond .long
 
 returns : tie.Need-returns Inv-loop μ-loop
 returns c =
