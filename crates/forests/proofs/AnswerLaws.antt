@@ -1,14 +1,13 @@
 -- The answers of Order, Split and Cut and their lists afterwards, way by way. Assumes nothing.
 use Prim.Native.Nat.{ℕ, _≤_, _<_}
-use mathlib.Core.Bool.{Bool, true, false, _||_}
+use mathlib.Core.Bool.{true, false, _||_}
 use mathlib.Core.List.{List, [], _∷_, _++_, map}
 use mathlib.Core.Path.{_≡_, sym, _∙_, ap}
-use native.Mathlib.Omega.{arith}
 use borrow.Author.Tests.{lt-ltb, le-ltb}
-use lib.Dec.{ltb, leb}
-use lib.ListN.{length, take, drop, replicate, length-replicate, length-map}
+use lib.Dec.{ltb}
+use lib.ListN.{length, take, drop, length-map}
 use lib.Seq.{take-at, drop-at}
-use Rattle.definitions.specs.Outcome.{pick, refused, done, refuseIf, andThen, ifDone, Answer}
+use Rattle.definitions.specs.Outcome.{refused, done, refuseIf, andThen, ifDone, Answer}
 use Rattle.definitions.specs.Lists.{overwrite, outside, total, greatest}
 use Rattle.definitions.specs.Network.{tableCheck, Accepted}
 use Rattle.definitions.specs.Order.{orderOf, placesOf, orderAnswer, relaysAfter, placesAfter}
@@ -21,11 +20,10 @@ use Rattle.definitions.specs.Forests.{
   cutAnswer,
   marksAfter,
 }
-use Rattle.lists.specs.Tests.{or-left, or-right, or-neither}
+use Rattle.lists.specs.Tests.{or-neither}
 use Rattle.network.specs.Answers.{refusalOf}
 use Rattle.network.specs.Refusals.{refusal-then, refusal-keeps}
 use Rattle.network.specs.declared.Refusal.{Refusal}
-use Rattle.theory.specs.Accepted.{accepted}
 use Rattle.theory.specs.ForestBound.{forests-length}
 
 -- After a refusal of the table check the refusal stands, and no list changes.
@@ -93,18 +91,6 @@ module _ (n : ℕ) (lows highs forests : List ℕ) where
       let value : highest ≡ greatest (forestsOf n lows highs) =
       e ∙ ap (λ l. greatest (take (length lows) l)) f ∙ ap greatest front-forests in
       (rw (ok, long) (ap (λ x. done (x ∷ [])) value), rw (ok, long) f)
-
-pub outside-low : (k : ℕ) → k < 1 → outside 1 32 k ≡ true
-unfolding outside
-outside-low k h = or-left (ltb k 1) (ltb 32 k) (lt-ltb k 1 h)
-
-pub outside-high : (k : ℕ) → 32 < k → outside 1 32 k ≡ true
-unfolding outside
-outside-high k h = or-right (ltb k 1) (ltb 32 k) (lt-ltb 32 k h)
-
-pub inside : (k : ℕ) → 1 ≤ k → k ≤ 32 → outside 1 32 k ≡ false
-unfolding outside
-inside k h p = or-neither (ltb k 1) (ltb 32 k) (le-ltb k 1 h) (le-ltb 32 k p)
 
 module _ (n : ℕ) (lows highs : List ℕ) (k : ℕ) (marks : List ℕ) where
   pub cut-refused : (refusal : Refusal) → refusalOf refusal ≡ tableCheck n lows highs

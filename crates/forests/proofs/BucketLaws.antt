@@ -30,19 +30,19 @@ slot-bit : (c r : ℕ) → slotOf c r % wordBits ≡ r % wordBits
 unfolding slotOf
 slot-bit c r = omega arith
 
--- The bit of r, none if it is placed, turned over in the word of count c.
-abbrev turned : List ℕ → ℕ → ℕ → ℕ → List ℕ
-turned bits c r count = set bits (wordOf c r) (bitXor (getD bits (wordOf c r) 0) (bitFor count r))
+-- The bit of r, none if it is placed, flipped in the word of count c.
+abbrev flipped : List ℕ → ℕ → ℕ → ℕ → List ℕ
+flipped bits c r count = set bits (wordOf c r) (bitXor (getD bits (wordOf c r) 0) (bitFor count r))
 
-turned-none : (bits : List ℕ) (c r count : ℕ) → count ≡ 0 → turned bits c r count ≡ bits
-turned-none bits c r count e =
+flipped-none : (bits : List ℕ) (c r count : ℕ) → count ≡ 0 → flipped bits c r count ≡ bits
+flipped-none bits c r count e =
     ap (λ (b : Bool). set bits (wordOf c r) (bitXor (getD bits (wordOf c r) 0) (pick b 0 (2 ^ (r % wordBits))))) (eq-eqb count 0 e)
     ∙ ap (set bits (wordOf c r)) (xor-zero-r (getD bits (wordOf c r) 0))
     ∙ set-getD bits (wordOf c r) 0
 
-turned-some : (bits : List ℕ) (c r count : ℕ) → 0 < count → turned bits c r count ≡ flip bits (slotOf c r)
+flipped-some : (bits : List ℕ) (c r count : ℕ) → 0 < count → flipped bits c r count ≡ flip bits (slotOf c r)
 unfolding flip
-turned-some bits c r count h =
+flipped-some bits c r count h =
     ap (λ (b : Bool). set bits (wordOf c r) (bitXor (getD bits (wordOf c r) 0) (pick b 0 (2 ^ (r % wordBits))))) (ne-eqb count 0 (λ e. omega arith))
     ∙ ap (λ (at : ℕ). set bits at (bitXor (getD bits at 0) (2 ^ (r % wordBits)))) (sym (slot-word c r))
     ∙ ap (λ (s : ℕ). set bits (slotOf c r / wordBits) (bitXor (getD bits (slotOf c r / wordBits) 0) (2 ^ s))) (sym (slot-bit c r))
@@ -98,7 +98,7 @@ module _ {counts bits : List ℕ} (r : ℕ) (below : r < length counts) (s : Buc
       bit c q some most h (no e) =
           rw (getD-set-other counts r q count 0 e) (others c q some most h e ∙ s .bit c q some most h)
 
-  -- One bit of r turned over: no other relay's bit changes, and of its own that of this count alone.
+  -- One bit of r flipped: no other relay's bit changes, and of its own that of this count alone.
   flip-others : (bits′ : List ℕ) (k c q : ℕ) → k < columnWords → c < columnWords → q ≢ r
       → marked (flip bits′ (slotOf k r)) (slotOf c q) ≡ marked bits′ (slotOf c q)
   flip-others bits′ k c q a b e = flip-other bits′ (slotOf k r) (slotOf c q) (λ z. e (slot-same c q k r b a z .1))
@@ -115,12 +115,12 @@ module _ {counts bits : List ℕ} (r : ℕ) (below : r < length counts) (s : Buc
   own-bit : (c : ℕ) → 0 < c → c < columnWords → marked bits (slotOf c r) ≡ eqb (getD counts r 0) c
   own-bit c some most = s .bit c r some most (s .room r below)
 
-  -- Turning a bit over, in the code's terms.
-  turns : (bits′ : List ℕ) (c count at bit : ℕ) → at ≡ wordOf c r → bit ≡ bitFor count r
-      → set bits′ at (bitXor (getD bits′ at 0) bit) ≡ turned bits′ c r count
-  turns bits′ c count at bit a b = ap₂ (λ (i x : ℕ). set bits′ i (bitXor (getD bits′ i 0) x)) a b
+  -- Flipping a bit, in the code's terms.
+  flips : (bits′ : List ℕ) (c count at bit : ℕ) → at ≡ wordOf c r → bit ≡ bitFor count r
+      → set bits′ at (bitXor (getD bits′ at 0) bit) ≡ flipped bits′ c r count
+  flips bits′ c count at bit a b = ap₂ (λ (i x : ℕ). set bits′ i (bitXor (getD bits′ i 0) x)) a b
 
-  -- The bits of r with that of count k turned over, by whether the count is k.
+  -- The bits of r with that of count k flipped, by whether the count is k.
   module _ (k : ℕ) (some : 0 < k) (most : k < columnWords) where
     own-it : marked (flip bits (slotOf k r)) (slotOf k r) ≡ not (eqb (getD counts r 0) k)
     own-it = flip-it bits k most refl ∙ ap not (own-bit k some most)
@@ -132,7 +132,7 @@ module _ {counts bits : List ℕ} (r : ℕ) (below : r < length counts) (s : Buc
   pub enter-moves : (at bit : ℕ) (bits′ : List ℕ) → getD counts r 0 ≡ 0 → at ≡ wordOf 1 r → bit ≡ bitFor 1 r
       → bits′ ≡ set bits at (bitXor (getD bits at 0) bit) → Moved r 1 counts (set counts r 1) bits′
   enter-moves at bit bits′ none a b t =
-      rw (t ∙ turns bits 1 1 at bit a b ∙ turned-some bits 1 r 1 (omega arith))
+      rw (t ∙ flips bits 1 1 at bit a b ∙ flipped-some bits 1 r 1 (omega arith))
       (moved 1 (flip bits (slotOf 1 r)) (omega arith) (length-flip bits (slotOf 1 r))
       (λ c q some most h e. flip-others bits 1 c q (omega arith) most e)
       (λ c some most. own c some most (ℕ-discrete c 1)))
@@ -150,11 +150,11 @@ module _ {counts bits : List ℕ} (r : ℕ) (below : r < length counts) (s : Buc
       → bit ≡ bitFor count r → bits′ ≡ set bits at (bitXor (getD bits at 0) bit)
       → Moved r 0 counts (set counts r 0) bits′
   leave-moves zero at bit bits′ e a b t =
-      rw (t ∙ turns bits 0 0 at bit a b ∙ turned-none bits 0 r 0 refl)
+      rw (t ∙ flips bits 0 0 at bit a b ∙ flipped-none bits 0 r 0 refl)
       (moved 0 bits (omega arith) refl (λ c q some most h d. refl)
       (λ c some most. own-bit c some most ∙ ap (λ (x : ℕ). eqb x c) (sym e)))
   leave-moves (suc k) at bit bits′ e a b t =
-      rw (t ∙ turns bits (suc k) (suc k) at bit a b ∙ turned-some bits (suc k) r (suc k) (omega arith))
+      rw (t ∙ flips bits (suc k) (suc k) at bit a b ∙ flipped-some bits (suc k) r (suc k) (omega arith))
       (moved 0 (flip bits (slotOf (suc k) r)) (omega arith) (length-flip bits (slotOf (suc k) r))
       (λ c q some most h d. flip-others bits (suc k) c q few most d)
       (λ c some most. own c some most (ℕ-discrete c (suc k))))
@@ -183,10 +183,10 @@ module _ {counts bits : List ℕ} (r : ℕ) (below : r < length counts) (s : Buc
       (λ c some most. own-bit c some most ∙ ap (λ (x : ℕ). eqb x c) (sym e)))
     where
       first : bits₁ ≡ bits
-      first = t ∙ turns bits 0 0 at bit a b ∙ turned-none bits 0 r 0 refl
+      first = t ∙ flips bits 0 0 at bit a b ∙ flipped-none bits 0 r 0 refl
 
       second : bits₂ ≡ bits₁
-      second = u ∙ turns bits₁ 1 0 (at + 1) bit (omega (arith, a)) b ∙ turned-none bits₁ 1 r 0 refl
+      second = u ∙ flips bits₁ 1 0 (at + 1) bit (omega (arith, a)) b ∙ flipped-none bits₁ 1 r 0 refl
   raise-moves (suc k) at bit bits₁ bits₂ e few a b t u =
       rw (raised-some (suc k) (omega arith), second)
       (moved (suc k + 1) after (omega arith) long
@@ -201,13 +201,13 @@ module _ {counts bits : List ℕ} (r : ℕ) (below : r < length counts) (s : Buc
       after = flip before (slotOf (suc k + 1) r)
 
       first : bits₁ ≡ before
-      first = t ∙ turns bits (suc k) (suc k) at bit a b ∙ turned-some bits (suc k) r (suc k) (omega arith)
+      first = t ∙ flips bits (suc k) (suc k) at bit a b ∙ flipped-some bits (suc k) r (suc k) (omega arith)
 
       second : bits₂ ≡ after
       second =
           u
-          ∙ turns bits₁ (suc k + 1) (suc k) (at + 1) bit (omega (arith, a)) b
-          ∙ turned-some bits₁ (suc k + 1) r (suc k) (omega arith)
+          ∙ flips bits₁ (suc k + 1) (suc k) (at + 1) bit (omega (arith, a)) b
+          ∙ flipped-some bits₁ (suc k + 1) r (suc k) (omega arith)
           ∙ ap (λ (l : List ℕ). flip l (slotOf (suc k + 1) r)) first
 
       long : length after ≡ length bits

@@ -104,9 +104,9 @@ pub chained-none : {lows highs first nexts : List ℕ} → Chainable lows highs 
     → ChainedFrom lows highs (length lows) first nexts
 chained-none {lows} {highs} {first} h =
     record {
-      room = h .room;
+      room = h .noChains .room;
       heads = λ r b.
-          h .none r b ∙ sym (half-none lows highs r (length lows) (omega (arith, next-end lows highs r)));
+          h .noChains .none r b ∙ sym (half-none lows highs r (length lows) (omega (arith, next-end lows highs r)));
       low = λ j b d. absurd (omega arith);
       high = λ j b d. absurd (omega arith);
     }

@@ -55,15 +55,15 @@ module _ {n : ℕ} {lows highs : List ℕ} {k : ℕ} {counts : List ℕ} (at : C
         (omega (arith, h .most y, own, other), λ e. h .lowest y (omega (arith, own, other, e))))
 
 -- Where no relay is placed, all counts are 1, and the lowest relay number comes first.
-first : {n : ℕ} {lows highs counts : List ℕ} {x : ℕ} → CountsAt n lows highs 0 counts → 0 < n → Heaviest counts x
+first-follows : {n : ℕ} {lows highs counts : List ℕ} {x : ℕ} → CountsAt n lows highs 0 counts → 0 < n → Heaviest counts x
     → following n lows highs 0 ≡ x
 unfolding placedAfter weight count has firstRelay
-first {n} {lows} {highs} {counts} {x} at within h =
+first-follows {n} {lows} {highs} {counts} {x} at within h =
     let own : getD counts x 0 ≡ 1 = at .count x (below at within h) in
     let zeroth : getD counts 0 0 ≡ 1 = at .count 0 within in
     omega (arith, following-first n lows highs, h .lowest 0 (zeroth ∙ sym own))
 
 pub heaviest-follows : {n : ℕ} {lows highs : List ℕ} (k : ℕ) {counts : List ℕ} {x : ℕ} → CountsAt n lows highs k counts → k < n
     → Heaviest counts x → following n lows highs k ≡ x
-heaviest-follows zero at within h = first at within h
+heaviest-follows zero at within h = first-follows at within h
 heaviest-follows (suc k) at within h = later at within h (omega arith)

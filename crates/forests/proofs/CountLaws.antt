@@ -7,7 +7,7 @@ use native.Mathlib.Omega.{arith}
 use borrow.Author.Tests.{eq-eqb, ne-eqb}
 use lib.ListN.{length, getD, set, replicate, length-set}
 use lib.Seq.{getD-set-same, getD-set-other}
-use Rattle.forests.specs.Counts.{raisedCount, numberOf, StartCounts}
+use Rattle.forests.specs.Counts.{raisedCount, forestNumber, StartCounts}
 
 pub raised-none : (count : ℕ) → count ≡ 0 → raisedCount count ≡ 0
 unfolding raisedCount
@@ -21,16 +21,16 @@ pub raised-most : (count : ℕ) → raisedCount count ≤ count + 1
 raised-most zero = omega (arith, raised-none zero refl)
 raised-most (suc count) = omega (arith, raised-some (suc count) (omega arith))
 
-pub number-none : (count old : ℕ) → count ≡ 0 → numberOf count old ≡ old
-unfolding numberOf
+pub number-none : (count old : ℕ) → count ≡ 0 → forestNumber count old ≡ old
+unfolding forestNumber
 number-none count old e = rw (eq-eqb count 0 e)
 
-pub number-some : (count old : ℕ) → 0 < count → numberOf count old ≡ count
-unfolding numberOf
+pub number-some : (count old : ℕ) → 0 < count → forestNumber count old ≡ count
+unfolding forestNumber
 number-some count old h = rw (ne-eqb count 0 (λ e. omega arith))
 
 -- Of a waiting relay's count and the number that stands there one is 0, so their sum is the number.
-pub number-sum : (count old : ℕ) → (0 < count → old ≡ 0) → old + count ≡ numberOf count old
+pub number-sum : (count old : ℕ) → (0 < count → old ≡ 0) → old + count ≡ forestNumber count old
 number-sum zero old fresh = omega (arith, number-none zero old refl)
 number-sum (suc count) old fresh = omega (arith, fresh (omega arith), number-some (suc count) old (omega arith))
 

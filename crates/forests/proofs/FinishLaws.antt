@@ -18,16 +18,16 @@ use Rattle.theory.specs.Ordering.{placed-front, placed-at, later-unplaced, orde
 use Rattle.theory.specs.Left.{forest-weight}
 use Rattle.theory.specs.Links.{joined-linked}
 use Rattle.theory.specs.ForestNumbers.{earlierPlace, laterPlace, forest-of-link}
+use Rattle.forests.specs.Fronts.{SameBeyond}
 use Rattle.forests.specs.Scan.{placed, following, PlacesAt, ForestsAt}
 use Rattle.forests.proofs.OrderLaws.{placed-long, weight-linked}
 
 -- A list whose front is a table and whose rest is as it was is overwritten by the table.
-pub overwritten : (f : ℕ → ℕ) (n : ℕ) (old new : List ℕ) → n ≤ length old → length new ≡ length old
-    → ((i : ℕ) → i < n → getD new i 0 ≡ f i) → ((i : ℕ) → n ≤ i → getD new i 0 ≡ getD old i 0)
-    → new ≡ overwrite (table f 0 n) old
-overwritten f n old new room long front rest =
+overwritten : (f : ℕ → ℕ) (n : ℕ) (old new : List ℕ) → n ≤ length old → SameBeyond n old new
+    → ((i : ℕ) → i < n → getD new i 0 ≡ f i) → new ≡ overwrite (table f 0 n) old
+overwritten f n old new room beyond front =
     ext-getD 0 new (overwrite (table f 0 n) old)
-    (long ∙ sym (length-overwrite (table f 0 n) old (omega (arith, length-table f 0 n))))
+    (beyond .long ∙ sym (length-overwrite (table f 0 n) old (omega (arith, length-table f 0 n))))
     (λ i h. go i (decLt i n))
   where
     go : (i : ℕ) → Dec (i < n) → getD new i 0 ≡ getD (overwrite (table f 0 n) old) i 0
@@ -36,16 +36,16 @@ overwritten f n old new room long front rest =
         front i p
         ∙ sym (getD-overwrite (table f 0 n) old i 0 (omega (arith, length-table f 0 n)) ∙ getD-table f 0 n i 0 p ∙ ap f z)
     go i (no p) =
-        rest i (omega arith) ∙ sym (getD-overwrite-past (table f 0 n) old i 0 (omega (arith, length-table f 0 n)))
+        beyond .rest i (omega arith) ∙ sym (getD-overwrite-past (table f 0 n) old i 0 (omega (arith, length-table f 0 n)))
 
 module _ (n : ℕ) (lows highs : List ℕ) where
   pub places-finish : (start places : List ℕ) → n ≤ length start → PlacesAt n lows highs n start places
       → places ≡ overwrite (placesOf n (orderOf n lows highs)) start
   unfolding placesOf placeOf orderOf
   places-finish start places room f =
-      overwritten (position (placed n lows highs n)) n start places room (f .long)
+      overwritten (position (placed n lows highs n)) n start places room
+      (record { long = f .long; rest = λ r h. f .rest r (go r h (has (placed n lows highs n) r) refl) })
       (λ r h. f .place r (order-has n lows highs r h))
-      (λ r h. f .rest r (go r h (has (placed n lows highs n) r) refl))
     where
       go : (r : ℕ) → n ≤ r → (b : Bool) → has (placed n lows highs n) r ≡ b → b ≡ false
       go r h true e = absurd (omega (arith, order-below n lows highs r e))
@@ -81,9 +81,8 @@ module _ (n : ℕ) (lows highs : List ℕ) where
       → ForestsAt n lows highs n start forests → forests ≡ overwrite (forestsOf n lows highs) start
   unfolding forestsOf forestOf
   forests-finish start forests ok room f =
-      overwritten (forestOf (linked lows highs) (orderOf n lows highs) lows highs) (length lows) start forests room (f .long)
+      overwritten (forestOf (linked lows highs) (orderOf n lows highs) lows highs) (length lows) start forests room (f .beyond)
       number
-      (f .rest)
     where
       number : (i : ℕ) → i < length lows → getD forests i 0 ≡ forestOf (linked lows highs) (orderOf n lows highs) lows highs i
       number i h =

@@ -50,7 +50,7 @@ module _ (n : ℕ) (lows highs : List ℕ) where
   unfolding placedAfter placeNext
   placed-suc k = refl
 
-  pub has-suc : (k r : ℕ)
+  has-suc : (k r : ℕ)
       → has (placed n lows highs (suc k)) r ≡ (has (placed n lows highs k) r || (eqb (following n lows highs k) r || false))
   unfolding has
   has-suc k r =

@@ -1,5 +1,5 @@
 -- The scan from its start over each step to its end. Assumes nothing.
-use Prim.Native.Nat.{ℕ, suc, _+_, _-_, _*_, _/_, _≤_, _<_}
+use Prim.Native.Nat.{ℕ, suc, _+_, _-_, _*_, _≤_, _<_}
 use mathlib.Core.Bool.{Bool, true, false}
 use mathlib.Core.List.{List}
 use mathlib.Core.Path.{_≡_, refl, sym, _∙_, ap}
@@ -20,7 +20,7 @@ use Rattle.forests.specs.Chains.{touches, Chainable}
 use Rattle.forests.specs.Counts.{raisedCount, Heaviest}
 use Rattle.forests.specs.Buckets.{wordBits, columnWords, mostColumns, mostCount, columnsFor, Buckets, Leads}
 use Rattle.forests.specs.Walk.{farEnd, Walked}
-use Rattle.forests.specs.Scan.{placed, following, Placeable, PlacedOne, CountsAt, ScannedTo, Workspace, Startable, Scanned}
+use Rattle.forests.specs.Scan.{placed, following, Placeable, PlacedOne, CountsAt, ScannedTo, ScanArrays, Startable, Scanned}
 use Rattle.forests.proofs.CountLaws.{raised-most, start-none}
 use Rattle.forests.proofs.BucketLaws.{buckets-none}
 use Rattle.forests.proofs.LeadLaws.{leads-heaviest}
@@ -102,19 +102,22 @@ wide h few t =
     }
 
 -- Arrays of enough relays and links.
-pub workspace : (size halves columns n : ℕ) {lows first nexts counts bits : List ℕ} → n ≤ size → size ≤ 1000 → 2 * length lows ≤ halves
+pub scan-arrays : (size halves columns n : ℕ) {lows first nexts counts bits : List ℕ} → n ≤ size → size ≤ 1000 → 2 * length lows ≤ halves
     → size ≤ columns * wordBits → first ≡ replicate size (2 * length lows) → nexts ≡ replicate halves 0
     → counts ≡ replicate size 0 → bits ≡ replicate (columns * columnWords) 0
-    → Workspace n lows first nexts counts bits
-workspace size halves columns n {lows} {first} {nexts} {counts} {bits} heads few room wide f h c b =
+    → ScanArrays n lows first nexts counts bits
+scan-arrays size halves columns n {lows} {first} {nexts} {counts} {bits} heads few room wide f h c b =
     let long : length first ≡ size = ap length f ∙ length-replicate size (2 * length lows) in
     let counted : length counts ≡ size = ap length c ∙ length-replicate {A = ℕ} size 0 in
     let start = start-none size counts c in
     record {
       heads = omega arith;
       few = omega arith;
-      none = λ r p. ap (λ z. getD z r 0) f ∙ getD-replicate size r (2 * length lows) 0 (omega arith);
-      nextRoom = omega (arith, ap length h, length-replicate {A = ℕ} halves 0);
+      noChains =
+          record {
+            none = λ r p. ap (λ z. getD z r 0) f ∙ getD-replicate size r (2 * length lows) 0 (omega arith);
+            room = omega (arith, ap length h, length-replicate {A = ℕ} halves 0);
+          };
       countRoom = omega arith;
       noCounts = start;
       sorted = buckets-none columns counts bits start b (omega arith);
@@ -122,17 +125,9 @@ workspace size halves columns n {lows} {first} {nexts} {counts} {bits} heads few
 
 -- Chains can be made of an accepted table.
 pub chain-ready : {n : ℕ} {lows highs first nexts counts bits : List ℕ} → Accepted n lows highs
-    → Workspace n lows first nexts counts bits → Chainable lows highs first nexts
+    → ScanArrays n lows first nexts counts bits → Chainable lows highs first nexts
 chain-ready {n} {lows} {highs} ok w =
-    let t = accepted n lows highs ok in
-    record {
-      short = t .short;
-      same = sym (t .even);
-      rises = t .ordered;
-      below = λ i h. omega (arith, t .below i h, w .heads);
-      none = w .none;
-      room = w .nextRoom;
-    }
+    record { proper = wide (w .heads) (w .few) (accepted n lows highs ok); noChains = w .noChains }
 
 -- A relay with one more link to a placed relay waits with at most 76 of them.
 counts-few : {n : ℕ} {lows highs counts : List ℕ} (k : ℕ) → Accepted n lows highs → k < n → CountsAt n lows highs k counts
@@ -224,7 +219,7 @@ module _ {n : ℕ} {lows highs first nexts counts bits relays places forests : L
                     chained = can .chained;
                     relay = omega (arith, following-new n lows highs k within .0, can .heads);
                     countRoom = room;
-                    room = omega (arith, at .forestsAt .long, can .scannable .forestRoom);
+                    room = omega (arith, at .forestsAt .beyond .long, can .scannable .forestRoom);
                     sorted = sorted;
                     bound = counts-few k (can .scannable .accepted) within (at .countsAt);
                     fresh = unnumbered proper k within (at .countsAt) (at .forestsAt);

@@ -18,7 +18,7 @@ use Rattle.lists.specs.Tests.{or-either}
 use Rattle.theory.specs.Accepted.{ProperTable}
 use Rattle.theory.specs.Links.{joins-ends, joins-sym, joined-linked}
 use Rattle.forests.specs.Chains.{touches}
-use Rattle.forests.specs.Counts.{raisedCount, numberOf, StartCounts}
+use Rattle.forests.specs.Counts.{raisedCount, forestNumber, StartCounts}
 use Rattle.forests.specs.Walk.{otherEnd, farEnd, Walked}
 use Rattle.forests.specs.Scan.{placed, following, CountsAt, PlacesAt, ForestsAt}
 use Rattle.forests.proofs.CountLaws.{raised-none, raised-some, number-none, number-some}
@@ -38,7 +38,11 @@ places-start places = record { long = refl; place = λ r h. absurd (true≢false
 pub forests-start : {n : ℕ} {lows highs : List ℕ} (forests : List ℕ) → ((i : ℕ) → i < length lows → getD forests i 0 ≡ 0)
     → ForestsAt n lows highs 0 forests forests
 forests-start forests zeros =
-    record { long = refl; forest = λ i j y a b. absurd (omega arith); waiting = λ i h a b. zeros i h; rest = λ i h. refl }
+    record {
+      forest = λ i j y a b. absurd (omega arith);
+      waiting = λ i h a b. zeros i h;
+      beyond = record { long = refl; rest = λ i h. refl };
+    }
 
 -- One entry more is written over a list.
 pub overwrite-next : (new old : List ℕ) (k x : ℕ) → length new ≡ k → k < length old
@@ -214,7 +218,7 @@ module _ {n : ℕ} {lows highs : List ℕ} (t : ProperTable n lows highs) (k : �
 
           go : (b : Bool) → touches lows highs (following n lows highs k) i ≡ b
               → pick b
-              (numberOf (getD (set counts (following n lows highs k) 0) (farEnd lows highs (following n lows highs k) i) 0) (getD forests i 0))
+              (forestNumber (getD (set counts (following n lows highs k) 0) (farEnd lows highs (following n lows highs k) i) 0) (getD forests i 0))
               (getD forests i 0)
               ≡ getD forests i 0
           go false f = refl
@@ -237,13 +241,16 @@ module _ {n : ℕ} {lows highs : List ℕ} (t : ProperTable n lows highs) (k : �
       pub forests-step : (start : List ℕ) → ForestsAt n lows highs k start forests → ForestsAt n lows highs (suc k) start forests′
       forests-step start f =
           record {
-            long = w .long ∙ f .long;
             forest = λ i j y h early e p. go i j y h early e p (ℕ-discrete j k);
             waiting = λ i h low high.
                 w .forest i
                 ∙ rw (lt-ltb i (length lows) h, untouched i (another (getD lows i 0) low) (another (getD highs i 0) high))
                 (f .waiting i h (waited (getD lows i 0) low) (waited (getD highs i 0) high));
-            rest = λ i h. w .forest i ∙ rw (le-ltb i (length lows) h) (f .rest i h);
+            beyond =
+                record {
+                  long = w .long ∙ f .beyond .long;
+                  rest = λ i h. w .forest i ∙ rw (le-ltb i (length lows) h) (f .beyond .rest i h);
+                };
           }
         where
           go : (i j y : ℕ) → i < length lows → j < suc k → joins lows highs (following n lows highs j) y i ≡ true

@@ -18,7 +18,7 @@ use Rattle.lists.specs.Stretches.{some-skip, and-skip}
 use Rattle.theory.specs.Accepted.{ProperTable}
 use Rattle.theory.specs.Links.{one-link}
 use Rattle.forests.specs.Chains.{touches, halfOf, nextHalf, ChainedFrom}
-use Rattle.forests.specs.Counts.{raisedCount, numberOf}
+use Rattle.forests.specs.Counts.{raisedCount, forestNumber}
 use Rattle.forests.specs.Walk.{otherEnd, farEnd, acrossOf, across, WalkedTo}
 
 pub pick-eq : {A : Type 0} (x y : ℕ) (a b : A) → x ≡ y → pick (eqb x y) a b ≡ a
@@ -148,7 +148,7 @@ module _ (lows highs : List ℕ) (x : ℕ) where
       → WalkedTo lows highs x (suc i) counts
       (set counts′ (farEnd lows highs x i) (raisedCount (getD counts′ (farEnd lows highs x i) 0)))
       forests
-      (set forests′ i (numberOf (getD counts′ (farEnd lows highs x i) 0) (getD forests′ i 0)))
+      (set forests′ i (forestNumber (getD counts′ (farEnd lows highs x i) 0) (getD forests′ i 0)))
   unfolding someBelow
   walked-one {n} {counts} {counts′} {forests} {forests′} i t within countRoom room at w =
       record {
@@ -180,18 +180,18 @@ module _ (lows highs : List ℕ) (x : ℕ) where
           (getD-set-other counts′ y r (raisedCount (getD counts′ y 0)) 0 e ∙ w .count r)
 
       forest : (j : ℕ) → Dec (j ≡ i)
-          → getD (set forests′ i (numberOf (getD counts′ y 0) (getD forests′ i 0))) j 0
+          → getD (set forests′ i (forestNumber (getD counts′ y 0) (getD forests′ i 0))) j 0
           ≡ pick (ltb j (suc i) && touches lows highs x j)
-          (numberOf (getD counts (farEnd lows highs x j) 0) (getD forests j 0))
+          (forestNumber (getD counts (farEnd lows highs x j) 0) (getD forests j 0))
           (getD forests j 0)
       forest j (yes e) =
           rw (e, at, lt-ltb i (suc i) (omega arith))
-          (getD-set-same forests′ i (numberOf (getD counts′ y 0) (getD forests′ i 0)) 0 (omega (arith, w .long))
-          ∙ ap₂ numberOf old (w .forest i ∙ rw (le-ltb i i (omega arith))))
+          (getD-set-same forests′ i (forestNumber (getD counts′ y 0) (getD forests′ i 0)) 0 (omega (arith, w .long))
+          ∙ ap₂ forestNumber old (w .forest i ∙ rw (le-ltb i i (omega arith))))
       forest j (no e) =
-          getD-set-other forests′ i j (numberOf (getD counts′ y 0) (getD forests′ i 0)) 0 e
+          getD-set-other forests′ i j (forestNumber (getD counts′ y 0) (getD forests′ i 0)) 0 e
           ∙ w .forest j
-          ∙ ap (λ b. pick (b && touches lows highs x j) (numberOf (getD counts (farEnd lows highs x j) 0) (getD forests j 0)) (getD forests j 0)) (same (decLt j i))
+          ∙ ap (λ b. pick (b && touches lows highs x j) (forestNumber (getD counts (farEnd lows highs x j) 0) (getD forests j 0)) (getD forests j 0)) (same (decLt j i))
         where
           same : Dec (j < i) → ltb j i ≡ ltb j (suc i)
           same (yes p) = lt-ltb j i p ∙ sym (lt-ltb j (suc i) (omega arith))

@@ -8,7 +8,7 @@ use native.Mathlib.Omega.{arith}
 use borrow.Author.Tests.{le-ltb}
 use lib.ListN.{length, getD, set, length-set}
 use Rattle.forests.specs.Chains.{touches, nextFrom, halfOf, nextHalf}
-use Rattle.forests.specs.Counts.{raisedCount, numberOf}
+use Rattle.forests.specs.Counts.{raisedCount, forestNumber}
 use Rattle.forests.specs.Buckets.{Buckets, Moved}
 use Rattle.forests.specs.Walk.{farEnd, across, Visitable, Visited, WalkedTo, Walkable}
 use Rattle.forests.proofs.ChainLaws.{next-within, next-touches, next-between, half-some, half-none, half-link}
@@ -17,14 +17,14 @@ use Rattle.forests.proofs.WalkLaws.{across-far, far-below, far-count, n
 -- What a visit did, in the code's terms.
 pub visit-done : {h : ℕ} {lows highs nexts counts counts′ bits′ forests : List ℕ} {count number next : ℕ} (y : ℕ)
     → y ≡ across lows highs h → (count ≡ getD counts y 0) × Moved y (raisedCount count) counts counts′ bits′
-    → number ≡ numberOf count (getD forests (h / 2) 0) → next ≡ getD nexts h 0
+    → number ≡ forestNumber count (getD forests (h / 2) 0) → next ≡ getD nexts h 0
     → Visited h lows highs nexts counts counts′ bits′ forests (set forests (h / 2) number) next
 visit-done {h} {lows} {highs} {nexts} {counts} {counts′} {bits′} {forests} {count} {number} {next} y e m f n =
     let old : count ≡ getD counts (across lows highs h) 0 = m .0 ∙ ap (λ z. getD counts z 0) e in
     record {
       count = m .1 .stored ∙ ap₂ (set counts) e (ap raisedCount old);
       sorted = m .1 .sorted;
-      forest = ap (set forests (h / 2)) (f ∙ ap (λ z. numberOf z (getD forests (h / 2) 0)) old);
+      forest = ap (set forests (h / 2)) (f ∙ ap (λ z. forestNumber z (getD forests (h / 2) 0)) old);
       onward = n;
     }
 

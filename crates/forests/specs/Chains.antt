@@ -7,6 +7,7 @@ use mathlib.Core.Path.{_≡_}
 use lib.Dec.{eqb, ltb}
 use lib.ListN.{length, getD}
 use Rattle.definitions.specs.Outcome.{pick}
+use Rattle.theory.specs.Accepted.{ProperTable}
 
 -- Link i has relay r as an end.
 unfoldable pub touches : List ℕ → List ℕ → ℕ → ℕ → Bool
@@ -29,14 +30,15 @@ halfOf lows r i = pick (eqb (getD lows i 0) r) (2 * i) (2 * i + 1)
 unfoldable pub nextHalf : List ℕ → List ℕ → ℕ → ℕ → ℕ
 nextHalf lows highs r i = pick (ltb (nextFrom lows highs r i) (length lows)) (halfOf lows r (nextFrom lows highs r i)) (2 * length lows)
 
--- What making the chains asks: at most 3,000 links, each from a relay to a higher one that has a head, and no chain yet.
-pub record Chainable (lows highs first nexts : List ℕ) : Type 0 where
-  pub short : length lows ≤ 3000
-  pub same : length highs ≡ length lows
-  pub rises : (i : ℕ) → i < length lows → getD lows i 0 < getD highs i 0
-  pub below : (i : ℕ) → i < length lows → getD highs i 0 < length first
+-- No relay has a chain yet, and there is room for all half-links.
+pub record NoChains (lows first nexts : List ℕ) : Type 0 where
   pub none : (r : ℕ) → r < length first → getD first r 0 ≡ 2 * length lows
   pub room : 2 * length lows ≤ length nexts
+
+-- What making the chains asks: a table of relays that have a head each, and no chain yet.
+pub record Chainable (lows highs first nexts : List ℕ) : Type 0 where
+  pub proper : ProperTable (length first) lows highs
+  pub noChains : NoChains lows first nexts
 
 -- The chains of all links from i on: of each relay, and of each half-link.
 pub record ChainedFrom (lows highs : List ℕ) (i : ℕ) (first nexts : List ℕ) : Type 0 where

@@ -12,8 +12,8 @@ raisedCount count = pick (eqb count 0) 0 (count + 1)
 
 -- The links that a waiting relay has to placed ones after that link, which is its count before, are the link's forest number;
 -- with a placed relay the number was given before.
-unfoldable pub numberOf : ℕ → ℕ → ℕ
-numberOf count old = pick (eqb count 0) old count
+unfoldable pub forestNumber : ℕ → ℕ → ℕ
+forestNumber count old = pick (eqb count 0) old count
 
 -- The counts when the first n relays wait and none is placed.
 pub record StartCounts (n : ℕ) (counts : List ℕ) : Type 0 where

@@ -9,6 +9,7 @@ use Rattle.definitions.specs.Network.{linked, Accepted}
 use Rattle.definitions.specs.Order.{orderOf, placeOf}
 use Rattle.definitions.specs.Forests.{forestOf}
 use Rattle.definitions.specs.Route.{leftOf}
+use Rattle.forests.specs.Fronts.{SameBeyond}
 
 -- Where the entry of forest i and place v stands, both from 1.
 abbrev pub leftIndex : ℕ → ℕ → ℕ → ℕ
@@ -52,6 +53,5 @@ pub record LeftInput (n k : ℕ) (lows highs places forests table : List ℕ) : 
 
 -- The left table, and nothing else has changed.
 pub record LeftTable (n k : ℕ) (lows highs table table′ : List ℕ) : Type 0 where
-  pub long : length table′ ≡ length table
   pub entry : (i v : ℕ) → 1 ≤ i → i ≤ k → 1 ≤ v → v ≤ n → getD table′ (leftIndex n i v) 0 ≡ leftOf n lows highs i v
-  pub rest : (j : ℕ) → k * n ≤ j → getD table′ j 0 ≡ getD table j 0
+  pub beyond : SameBeyond (k * n) table table′

@@ -1,16 +1,17 @@
 -- What the scan promises: order, places and forest numbers of an accepted table; and its steps. Assumes nothing.
-use Prim.Native.Nat.{ℕ, suc, _-_, _*_, _≤_, _<_}
+use Prim.Native.Nat.{ℕ, suc, _-_, _≤_, _<_}
 use mathlib.Core.Bool.{Bool, true, false, _&&_}
 use mathlib.Core.List.{List}
 use mathlib.Core.Path.{_≡_}
 use lib.Dec.{leb}
 use lib.ListN.{length, getD, set}
 use Rattle.definitions.specs.Outcome.{pick}
-use Rattle.definitions.specs.Lists.{table, overwrite, has, position}
+use Rattle.definitions.specs.Lists.{overwrite, has, position}
 use Rattle.definitions.specs.Network.{joins, linked, Accepted}
 use Rattle.definitions.specs.Order.{weight, nextRelay, placedAfter, allRelays, firstRelay, orderOf, placesOf}
 use Rattle.definitions.specs.Forests.{forestsOf}
-use Rattle.forests.specs.Chains.{ChainedFrom}
+use Rattle.forests.specs.Fronts.{SameBeyond}
+use Rattle.forests.specs.Chains.{NoChains, ChainedFrom}
 use Rattle.forests.specs.Counts.{StartCounts}
 use Rattle.forests.specs.Buckets.{columnWords, Buckets}
 use Rattle.forests.specs.Walk.{Walkable, Walked}
@@ -61,14 +62,13 @@ pub record PlacesAt (n : ℕ) (lows highs : List ℕ) (k : ℕ) (places places�
 -- The forest numbers when k relays are placed: of a link from the j-th of them to a relay y that was not placed then, the
 -- number of links of y to relays placed by then; of a link between waiting relays, 0.
 pub record ForestsAt (n : ℕ) (lows highs : List ℕ) (k : ℕ) (forests forests′ : List ℕ) : Type 0 where
-  pub long : length forests′ ≡ length forests
   pub forest : (i j y : ℕ) → i < length lows → j < k
       → joins lows highs (following n lows highs j) y i ≡ true → has (placed n lows highs j) y ≡ false
       → getD forests′ i 0 ≡ weight (linked lows highs) (placed n lows highs (suc j)) y
   pub waiting : (i : ℕ) → i < length lows
       → has (placed n lows highs k) (getD lows i 0) ≡ false → has (placed n lows highs k) (getD highs i 0) ≡ false
       → getD forests′ i 0 ≡ 0
-  pub rest : (i : ℕ) → length lows ≤ i → getD forests′ i 0 ≡ getD forests i 0
+  pub beyond : SameBeyond (length lows) forests forests′
 
 -- All lists when k relays are placed.
 pub record ScannedTo (n : ℕ) (lows highs : List ℕ) (k : ℕ) (counts relays relays′ places places′ forests forests′ : List ℕ) : Type 0 where
@@ -85,11 +85,10 @@ pub record Scannable (n : ℕ) (lows highs relays places forests : List ℕ) : T
   pub forestRoom : length lows ≤ length forests
 
 -- Arrays with room for the scan, without chains and counts.
-pub record Workspace (n : ℕ) (lows first nexts counts bits : List ℕ) : Type 0 where
+pub record ScanArrays (n : ℕ) (lows first nexts counts bits : List ℕ) : Type 0 where
   pub heads : n ≤ length first
   pub few : length first ≤ 1000
-  pub none : (r : ℕ) → r < length first → getD first r 0 ≡ 2 * length lows
-  pub nextRoom : 2 * length lows ≤ length nexts
+  pub noChains : NoChains lows first nexts
   pub countRoom : length first ≤ length counts
   pub noCounts : StartCounts 0 counts
   pub sorted : Buckets counts bits

@@ -11,7 +11,7 @@ use Rattle.definitions.specs.Lists.{someBelow}
 use Rattle.definitions.specs.Network.{joins}
 use Rattle.theory.specs.Accepted.{ProperTable}
 use Rattle.forests.specs.Chains.{touches, ChainedFrom}
-use Rattle.forests.specs.Counts.{raisedCount, numberOf}
+use Rattle.forests.specs.Counts.{raisedCount, forestNumber}
 use Rattle.forests.specs.Buckets.{mostCount, Buckets}
 
 -- The end of a link that is not x.
@@ -46,7 +46,7 @@ pub record Visitable (h : ℕ) (lows highs nexts counts bits forests : List ℕ)
 pub record Visited (h : ℕ) (lows highs nexts counts counts′ bits′ forests forests′ : List ℕ) (next : ℕ) : Type 0 where
   pub count : counts′ ≡ set counts (across lows highs h) (raisedCount (getD counts (across lows highs h) 0))
   pub sorted : Buckets counts′ bits′
-  pub forest : forests′ ≡ set forests (h / 2) (numberOf (getD counts (across lows highs h) 0) (getD forests (h / 2) 0))
+  pub forest : forests′ ≡ set forests (h / 2) (forestNumber (getD counts (across lows highs h) 0) (getD forests (h / 2) 0))
   pub onward : next ≡ getD nexts h 0
 
 -- The counts and the forest numbers when all links of x below i were visited; `counts` and `forests` are those before.
@@ -57,7 +57,7 @@ pub record WalkedTo (lows highs : List ℕ) (x i : ℕ) (counts counts′ forest
       → getD counts′ r 0 ≡ pick (someBelow (joins lows highs x r) i) (raisedCount (getD counts r 0)) (getD counts r 0)
   pub forest : (j : ℕ)
       → getD forests′ j 0
-      ≡ pick (ltb j i && touches lows highs x j) (numberOf (getD counts (farEnd lows highs x j) 0) (getD forests j 0)) (getD forests j 0)
+      ≡ pick (ltb j i && touches lows highs x j) (forestNumber (getD counts (farEnd lows highs x j) 0) (getD forests j 0)) (getD forests j 0)
 
 -- What the walk over all links of x asks; a link from x to a waiting relay has no number yet.
 pub record Walkable (x : ℕ) (lows highs first nexts counts bits forests : List ℕ) : Type 0 where

@@ -35,14 +35,14 @@ const MOST_COLUMNS: usize = 16;
 const FEW_COLUMNS: usize = 2;
 
 // No relay waits.
-pub(crate) fn no_bits() -> [u64; MOST_COLUMNS * COLUMN_WORDS]
+pub(crate) fn column_zeros() -> [u64; MOST_COLUMNS * COLUMN_WORDS]
     ensures { λ r. ⌜ r ≡ replicate (mostColumns * columnWords) 0 ⌝ }
 {
     [0; MOST_COLUMNS * COLUMN_WORDS]
 }
 
 // The same for 128 relays.
-pub(crate) fn few_bits() -> [u64; FEW_COLUMNS * COLUMN_WORDS]
+pub(crate) fn few_column_zeros() -> [u64; FEW_COLUMNS * COLUMN_WORDS]
     ensures { λ r. ⌜ r ≡ replicate (fewColumns * columnWords) 0 ⌝ }
 {
     [0; FEW_COLUMNS * COLUMN_WORDS]
@@ -64,8 +64,8 @@ fn bit_of(count: u16, r: Relay) -> u64
     if count == 0 { 0 } else { 1u64 << shift }
 }
 
-// A bit is turned over in the word at `at`; none if `bit` is 0.
-fn turn(at: usize, bit: u64, bits: &mut [u64])
+// A bit is flipped in the word at `at`; none if `bit` is 0.
+fn flip(at: usize, bit: u64, bits: &mut [u64])
     requires { ⌜ at < length (now bits) ⌝ }
     ensures { λ _. ⌜ now (bits .exit) ≡ set (now (bits .entry)) at (bitXor (getD (now (bits .entry)) at 0) bit) ⌝ }
 {
@@ -80,7 +80,7 @@ fn enter(r: Relay, counts: &mut [u16], bits: &mut [u64])
 {
     let at = r.0 as usize;
     counts[at] = 1;
-    turn(word_of(1, r), bit_of(1, r), bits);
+    flip(word_of(1, r), bit_of(1, r), bits);
 }
 
 // Relays 0 to n − 1 wait for their places.
@@ -104,7 +104,7 @@ pub(crate) fn leave(r: Relay, counts: &mut [u16], bits: &mut [u64]) -> u16
     let at = r.0 as usize;
     let count = counts[at];
     counts[at] = 0;
-    turn(word_of(count, r), bit_of(count, r), bits);
+    flip(word_of(count, r), bit_of(count, r), bits);
     count
 }
 
@@ -119,8 +119,8 @@ pub(crate) fn raise(r: Relay, counts: &mut [u16], bits: &mut [u64]) -> u16
     let bit = bit_of(count, r);
     let word = word_of(count, r);
     counts[at] = raised(count);
-    turn(word, bit, bits);
-    turn(word + 1, bit, bits);
+    flip(word, bit, bits);
+    flip(word + 1, bit, bits);
     count
 }
 

@@ -12,6 +12,7 @@ ghost use Rattle.definitions.specs.Order.{orderAnswer, relaysAfter, placesAfter
 ghost use Rattle.definitions.specs.Forests.{splitAnswer, forestsAfter, cutAnswer, marksAfter};
 ghost use Rattle.forests.specs.Answers.{orderOutcome, splitOutcome, cutOutcome};
 
+pub mod arrays;
 mod buckets;
 mod chains;
 pub mod clear;

@@ -1,26 +1,28 @@
 // The scan: relays are placed one after another, and each link gets its forest number in the same pass.
+use crate::arrays::few_half_link_zeros;
+use crate::arrays::few_link_zeros;
+use crate::arrays::few_relay_copies;
+use crate::arrays::half_link_zeros;
+use crate::arrays::link_zeros;
+use crate::arrays::relay_copies;
+use crate::buckets::column_zeros;
 use crate::buckets::columns_of;
-use crate::buckets::few_bits;
+use crate::buckets::few_column_zeros;
 use crate::buckets::leading;
-use crate::buckets::no_bits;
 use crate::buckets::start_counts;
-use crate::chains::few_nexts;
-use crate::chains::for_few_relays;
-use crate::chains::for_relays;
 use crate::chains::link_up;
-use crate::chains::no_nexts;
 use crate::clear::clear;
 use crate::walk::walk;
 use network::Place;
 use network::Relay;
 ghost use Prim.Native.Nat.{_-_, _<_, _≤_};
 ghost use mathlib.Core.Path.{_≡_};
-ghost use lib.ListN.{length, getD, set, replicate};
+ghost use lib.ListN.{length, getD, set};
 ghost use Rattle.definitions.specs.Lists.{overwrite};
 ghost use Rattle.definitions.specs.Network.{Accepted};
 ghost use Rattle.definitions.specs.Order.{orderOf, placesOf};
 ghost use Rattle.definitions.specs.Forests.{forestsOf};
-ghost use Rattle.forests.specs.Scan.{Placeable, PlacedOne, Startable, Scannable, Workspace, isSmall, Scanned};
+ghost use Rattle.forests.specs.Scan.{Placeable, PlacedOne, Startable, Scannable, ScanArrays, isSmall, Scanned};
 
 // The place of a relay, from the list of places.
 pub fn place_of(places: &[u16], r: Relay) -> Place
@@ -109,19 +111,6 @@ fn place_all(
     }
 }
 
-// No link has a number: for 3,000 links, and for 384.
-fn no_numbers() -> [u16; 3000]
-    ensures { λ r. ⌜ r ≡ replicate 3000 0 ⌝ }
-{
-    [0; 3000]
-}
-
-fn few_numbers() -> [u16; 384]
-    ensures { λ r. ⌜ r ≡ replicate 384 0 ⌝ }
-{
-    [0; 384]
-}
-
 // The scan in arrays that are lent to it.
 fn scan_in(
     n: u16,
@@ -136,7 +125,7 @@ fn scan_in(
     forests: &mut [u16],
 )
     requires { ⌜ Scannable n (now lows) (now highs) (now relays) (now places) (now forests)
-        × Workspace n (now lows) (now first) (now nexts) (now counts) (now bits) ⌝ }
+        × ScanArrays n (now lows) (now first) (now nexts) (now counts) (now bits) ⌝ }
     ensures { λ _. ⌜ Scanned n (now (lows .entry)) (now (highs .entry)) (now (relays .entry)) (now (relays .exit))
         (now (places .entry)) (now (places .exit)) (now (forests .entry)) (now (forests .exit)) ⌝ }
 {
@@ -177,10 +166,10 @@ fn scan_small(
         (now (places .entry)) (now (places .exit)) (now (forests .entry)) (now (forests .exit)) ⌝ }
 {
     let none = 2 * lows.len() as u16;
-    let mut first = for_few_relays(none);
-    let mut nexts = few_nexts();
-    let mut counts = for_few_relays(0);
-    let mut bits = few_bits();
+    let mut first = few_relay_copies(none);
+    let mut nexts = few_half_link_zeros();
+    let mut counts = few_relay_copies(0);
+    let mut bits = few_column_zeros();
     scan_in(
         n,
         lows,
@@ -208,10 +197,10 @@ fn scan_large(
         (now (places .entry)) (now (places .exit)) (now (forests .entry)) (now (forests .exit)) ⌝ }
 {
     let none = 2 * lows.len() as u16;
-    let mut first = for_relays(none);
-    let mut nexts = no_nexts();
-    let mut counts = for_relays(0);
-    let mut bits = no_bits();
+    let mut first = relay_copies(none);
+    let mut nexts = half_link_zeros();
+    let mut counts = relay_copies(0);
+    let mut bits = column_zeros();
     scan_in(
         n,
         lows,
@@ -260,10 +249,10 @@ pub(crate) fn place_relays(
         ≡ overwrite (placesOf n (orderOf n (now (lows .entry)) (now (highs .entry)))) (now (places .entry)) ⌝ }
 {
     if lows.len() <= 384 {
-        let mut forests = few_numbers();
+        let mut forests = few_link_zeros();
         scan(n, lows, highs, relays, places, &mut forests);
     } else {
-        let mut forests = no_numbers();
+        let mut forests = link_zeros();
         scan(n, lows, highs, relays, places, &mut forests);
     }
 }
@@ -274,12 +263,12 @@ pub(crate) fn number_links(n: u16, lows: &[u16], highs: &[u16], forests: &mut [u
     ensures { λ _. ⌜ now (forests .exit) ≡ overwrite (forestsOf n (now (lows .entry)) (now (highs .entry))) (now (forests .entry)) ⌝ }
 {
     if n <= 128 {
-        let mut relays = for_few_relays(0);
-        let mut places = for_few_relays(0);
+        let mut relays = few_relay_copies(0);
+        let mut places = few_relay_copies(0);
         scan(n, lows, highs, &mut relays, &mut places, forests);
     } else {
-        let mut relays = for_relays(0);
-        let mut places = for_relays(0);
+        let mut relays = relay_copies(0);
+        let mut places = relay_copies(0);
         scan(n, lows, highs, &mut relays, &mut places, forests);
     }
 }

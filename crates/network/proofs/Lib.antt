@@ -1,3 +1,3 @@
 -- Laws of this crate's proofs, a module a subject.
-pub mod Links
-pub mod Turns
+pub mod LinkFaults
+pub mod LinkTurns

@@ -4,8 +4,9 @@ use mathlib.Core.Path.{sym, _∙_, ap}
 use native.Mathlib.Omega.{arith}
 use denote.Ref.{now}
 use Rattle.definitions.specs.Network.{Accepted}
+use Rattle.lists.specs.Ranges.{inside, below, above}
 use Rattle.network.specs.Answers.{checkOutcome}
-use Rattle.forests.proofs.AnswerLaws.{outside-low, outside-high, inside, cut-refused, cut-count, cut-short, cut-done}
+use Rattle.forests.proofs.AnswerLaws.{cut-refused, cut-count, cut-short, cut-done}
 use borrow.Author.Needs.{needs}
 use Rattle.forests.proofs.cut.Statement.{statement}
 use Rattle.forests.proofs.cut.Tie as tie
@@ -27,21 +28,21 @@ enum-told c = search needs
 returns : tie.Need-returns
 returns c =
     let a = c .before .before .before .before .before .before .before .args in
-    cut-count (a .n) (now (a .lows)) (now (a .highs)) (a .k) (now (a .marks)) (good (c .before)) (outside-low (a .k) (c .if1 .taken))
+    cut-count (a .n) (now (a .lows)) (now (a .highs)) (a .k) (now (a .marks)) (good (c .before)) (below 1 32 (a .k) (c .if1 .taken))
 
 returns-2 : tie.Need-returns-2
 returns-2 c =
     let start = c .before .before .before .before .before .before .before .before in
     let a = start .args in
     cut-count (a .n) (now (a .lows)) (now (a .highs)) (a .k) (now (a .marks)) (good (c .before .before))
-    (outside-high (a .k) (c .if2 .taken))
+    (above 1 32 (a .k) (c .before .if1 .left) (c .if2 .taken))
 
 returns-3 : tie.Need-returns-3
 returns-3 c =
     let start = c .before .before .before .before .before .before .before .before .before in
     let a = start .args in
     cut-short (a .n) (now (a .lows)) (now (a .highs)) (a .k) (now (a .marks)) (good (c .before .before .before))
-    (inside (a .k) (c .before .before .if1 .left) (c .before .if2 .left)) (c .if3 .taken)
+    (inside 1 32 (a .k) (c .before .before .if1 .left) (c .before .if2 .left)) (c .if3 .taken)
 
 number-links-requires : tie.Need-number-links-requires
 number-links-requires c κs = (good (c .before .before .before .before), c .before .if3 .left)
@@ -73,7 +74,7 @@ returns-5 c =
     let atIf1 = atIf2 .before in
     let start = atIf1 .before .before .before .before .before .before .before in
     let a = start .args in
-    let inRange = inside (a .k) (atIf1 .if1 .left) (atIf2 .if2 .left) in
+    let inRange = inside 1 32 (a .k) (atIf1 .if1 .left) (atIf2 .if2 .left) in
     let enough = atIf3 .if3 .left in
     let stored = atNumberLinks .number-links .ensures in
     let marked = c .before .before .mark-links in

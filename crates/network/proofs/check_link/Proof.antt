@@ -2,7 +2,7 @@
 use mathlib.Core.Logic.{⊎-elim}
 use native.Mathlib.Omega.{arith}
 use borrow.Author.Needs.{needs}
-use Rattle.network.proofs.Links.{unfit}
+use Rattle.network.proofs.LinkFaults.{unfit}
 use Rattle.network.proofs.check_link.Statement.{statement}
 use Rattle.network.proofs.check_link.Tie as tie
 

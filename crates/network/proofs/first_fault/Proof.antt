@@ -5,7 +5,7 @@ use native.Mathlib.Omega.{arith}
 use borrow.Author.Needs.{needs}
 use borrow.Author.Tests.{ne-eqb}
 use Rattle.network.specs.Seen.{faultOf}
-use Rattle.network.proofs.Links.{some-fault}
+use Rattle.network.proofs.LinkFaults.{some-fault}
 use Rattle.network.proofs.first_fault.Statement.{statement}
 use Rattle.network.proofs.first_fault.Tie as tie
 

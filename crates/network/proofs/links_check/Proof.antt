@@ -10,7 +10,7 @@ use lib.ListN.{length, getD}
 use Rattle.definitions.specs.Outcome.{Answer, refused}
 use Rattle.definitions.specs.Network.{linksCheck}
 use Rattle.network.specs.Seen.{faultOf, Seen, seen-next}
-use Rattle.network.proofs.Turns.{turn-refused, turn-fine, links-end}
+use Rattle.network.proofs.LinkTurns.{turn-refused, turn-fine, links-end}
 use Rattle.network.proofs.links_check.Statement.{statement}
 use Rattle.network.proofs.links_check.Tie as tie
 

@@ -1,10 +1,10 @@
--- `network::mark_pair` meets its contract: proofs/Links.antt has each way through the code. Assumes nothing.
+-- `network::mark_pair` meets its contract: proofs/LinkFaults.antt has each way through the code. Assumes nothing.
 use Prim.Native.Nat.{_<_, _/_}
 use native.Mathlib.Omega.{arith}
 use borrow.Author.Needs.{needs}
 use lib.ListN.{length}
 use Rattle.network.specs.Pairs.{pair-below}
-use Rattle.network.proofs.Links.{repeated, fine}
+use Rattle.network.proofs.LinkFaults.{repeated, fine}
 use Rattle.network.proofs.mark_pair.Statement.{statement}
 use Rattle.network.proofs.mark_pair.Tie as tie
 

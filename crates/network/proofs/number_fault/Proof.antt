@@ -1,6 +1,6 @@
 -- `network::number_fault` meets its contract. Assumes nothing.
 use borrow.Author.Needs.{needs}
-use Rattle.network.proofs.Links.{numbers-first}
+use Rattle.network.proofs.LinkFaults.{numbers-first}
 use Rattle.network.proofs.number_fault.Statement.{statement}
 use Rattle.network.proofs.number_fault.Tie as tie
 

@@ -21,9 +21,9 @@ word-of-requires c κs = search needs
 bit-of-requires : tie.Need-bit-of-requires
 bit-of-requires c κs = search needs
 
-turn-requires : tie.Need-turn-requires
+flip-requires : tie.Need-flip-requires
 unfolding wordOf
-turn-requires c κs =
+flip-requires c κs =
     let atWord = c .before .before in
     let start = atWord .before .before .before .before in
     let p = start .pre in
@@ -37,12 +37,12 @@ same-length-2 c = search needs
 
 returns : tie.Need-returns
 returns c =
-    let turned = c .before .before in
-    let atBit = turned .before .before in
+    let flipped = c .before .before in
+    let atBit = flipped .before .before in
     let start = atBit .before .before .before .before .before in
     let p = start .pre in
-    enter-moves (start .args .r .0) (p .0) (p .2) (atBit .before .word-of .result) (atBit .bit-of .result) (turned .turn .last .1 .1 .0)
-    (p .1) (atBit .before .word-of .ensures) (atBit .bit-of .ensures) (turned .turn .ensures)
+    enter-moves (start .args .r .0) (p .0) (p .2) (atBit .before .word-of .result) (atBit .bit-of .result) (flipped .flip .last .1 .1 .0)
+    (p .1) (atBit .before .word-of .ensures) (atBit .bit-of .ensures) (flipped .flip .ensures)
 
 pub enter-spec : {M : Type 1} → statement M
 enter-spec =
@@ -53,7 +53,7 @@ enter-spec =
     slice-write-counts
     word-of-requires
     bit-of-requires
-    turn-requires
+    flip-requires
     same-length
     same-length-2
     returns)

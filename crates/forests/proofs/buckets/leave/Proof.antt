@@ -1,4 +1,4 @@
--- The bit of a relay that is placed is turned over in the word of its count. Assumes nothing.
+-- The bit of a relay that is placed is flipped in the word of its count. Assumes nothing.
 use mathlib.Core.Path.{refl}
 use native.Mathlib.Omega.{arith}
 use lib.ListN.{getD}
@@ -29,9 +29,9 @@ word-of-requires c κs = search needs
 bit-of-requires : tie.Need-bit-of-requires
 bit-of-requires c κs = search needs
 
-turn-requires : tie.Need-turn-requires
+flip-requires : tie.Need-flip-requires
 unfolding wordOf
-turn-requires c κs =
+flip-requires c κs =
     let atWord = c .before .before in
     let start = atWord .before .before .before .before .before in
     let p = start .pre in
@@ -45,14 +45,14 @@ same-length-2 c = search needs
 
 returns : tie.Need-returns
 returns c =
-    let turned = c .before .before in
-    let atBit = turned .before .before in
+    let flipped = c .before .before in
+    let atBit = flipped .before .before in
     let start = atBit .before .before .before .before .before .before in
     let p = start .pre in
     let count = getD (start .args .counts .now) (start .args .r .0) 0 in (
       refl,
       leave-moves (start .args .r .0) (p .0) (p .1) count (atBit .before .word-of .result) (atBit .bit-of .result)
-          (turned .turn .last .1 .1 .0) refl (atBit .before .word-of .ensures) (atBit .bit-of .ensures) (turned .turn .ensures),
+          (flipped .flip .last .1 .1 .0) refl (atBit .before .word-of .ensures) (atBit .bit-of .ensures) (flipped .flip .ensures),
     )
 
 pub leave-spec : {M : Type 1} → statement M
@@ -66,7 +66,7 @@ leave-spec =
     slice-write-counts
     word-of-requires
     bit-of-requires
-    turn-requires
+    flip-requires
     same-length
     same-length-2
     returns)

@@ -33,31 +33,31 @@ mul-counts c = search needs
 slice-write-counts : tie.Need-slice-write-counts
 slice-write-counts c = search needs
 
-turn-requires : tie.Need-turn-requires
+flip-requires : tie.Need-flip-requires
 unfolding wordOf
-turn-requires c κs =
+flip-requires c κs =
     let atWord = c .before .before in
     let start = atWord .before .before .before .before .before .before in
     let p = start .pre in
     omega (arith, atWord .word-of .ensures, p .2 .room (start .args .r .0) (p .0))
 
-add-turn : tie.Need-add-turn
+add-flip : tie.Need-add-flip
 unfolding wordOf
-add-turn c =
+add-flip c =
     let atWord = c .before .before .before .before .before in
     let start = atWord .before .before .before .before .before .before in
     omega (arith, atWord .word-of .ensures, start .pre .1)
 
-turn-requires-2 : tie.Need-turn-requires-2
+flip-requires-2 : tie.Need-flip-requires-2
 unfolding wordOf
-turn-requires-2 c κs =
-    let turned = c .before .before .before in
-    let atWord = turned .before .before .before in
+flip-requires-2 c κs =
+    let flipped = c .before .before .before in
+    let atWord = flipped .before .before .before in
     let start = atWord .before .before .before .before .before .before in
     let p = start .pre in
     let bits = start .args .bits .now in
     let word = atWord .word-of .result in
-    let long = ap length (turned .turn .ensures) ∙ length-set bits word (bitXor (getD bits word 0) (atWord .before .bit-of .result)) in
+    let long = ap length (flipped .flip .ensures) ∙ length-set bits word (bitXor (getD bits word 0) (atWord .before .bit-of .result)) in
     omega (arith, atWord .word-of .ensures, p .1, p .2 .room (start .args .r .0) (p .0), long)
 
 same-length : tie.Need-same-length
@@ -69,15 +69,15 @@ same-length-2 c = search needs
 returns : tie.Need-returns
 returns c =
     let again = c .before .before in
-    let turned = again .before .before .before .before in
-    let atRaised = turned .before .before in
+    let flipped = again .before .before .before .before in
+    let atRaised = flipped .before .before in
     let atWord = atRaised .before in
     let start = atWord .before .before .before .before .before .before in
     let p = start .pre in
     let count = getD (start .args .counts .now) (start .args .r .0) 0 in
     let moved = raise-moves (start .args .r .0) (p .0) (p .2) count (atWord .word-of .result) (atWord .before .bit-of .result)
-    (turned .turn .last .1 .1 .0) (again .turn2 .last .1 .1 .0) refl (p .1) (atWord .word-of .ensures) (atWord .before .bit-of .ensures)
-    (turned .turn .ensures) (again .turn2 .ensures) in
+    (flipped .flip .last .1 .1 .0) (again .flip2 .last .1 .1 .0) refl (p .1) (atWord .word-of .ensures) (atWord .before .bit-of .ensures)
+    (flipped .flip .ensures) (again .flip2 .ensures) in
     (refl, rw (atRaised .raised .ensures) moved)
 
 pub raise-spec : {M : Type 1} → statement M
@@ -92,9 +92,9 @@ raise-spec =
     raised-requires
     mul-counts
     slice-write-counts
-    turn-requires
-    add-turn
-    turn-requires-2
+    flip-requires
+    add-flip
+    flip-requires-2
     same-length
     same-length-2
     returns)

@@ -24,8 +24,8 @@ ends : (c : tie.In-loop Inv-loop μ-loop)
 ends c =
     let i = c .before .loop .i in
     let h : i - 1 < length (c .before .before .args .lows .now) = omega arith in
-    let p = c .before .before .pre in
-    (omega (arith, p .rises (i - 1) h, p .below (i - 1) h), omega (arith, p .below (i - 1) h))
+    let p = c .before .before .pre .proper in
+    (omega (arith, p .ordered (i - 1) h, p .below (i - 1) h), omega (arith, p .below (i - 1) h))
 
 loop-holds : tie.Need-loop-holds Inv-loop μ-loop
 loop-holds c = (omega arith, chained-none (c .pre), refl, refl)
@@ -108,7 +108,7 @@ loop-again c =
     let i = at .loop .i in
     let e = ends (c .before .before .before .before) in (
       omega arith,
-      chained-more i (i - 1) (at .loop .inv .1) (omega arith) (omega arith) (at .before .pre .rises (i - 1) (omega arith)) (e .1),
+      chained-more i (i - 1) (at .loop .inv .1) (omega arith) (omega arith) (at .before .pre .proper .ordered (i - 1) (omega arith)) (e .1),
       simp length-set (at .loop .inv .2),
       simp length-set (at .loop .inv .3),
     )

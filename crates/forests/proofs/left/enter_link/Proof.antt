@@ -2,7 +2,7 @@
 use Prim.Native.Nat.{min, max}
 use mathlib.Core.Path.{_≡_, _∙_, ap₂}
 use Rattle.forests.specs.Left.{laterAt, earlierAt}
-use Rattle.forests.proofs.LeftLaws.{entered-some, entered-none}
+use Rattle.forests.proofs.LeftTableLaws.{entered-some, entered-none}
 use borrow.Author.Needs.{needs}
 use Rattle.forests.proofs.left.enter_link.Statement.{statement}
 use Rattle.forests.proofs.left.enter_link.Tie as tie

@@ -3,7 +3,7 @@ use Prim.Native.Nat.{_-_, _≤_}
 use mathlib.Core.Path.{_≡_}
 use native.Mathlib.Omega.{arith}
 use lib.ListN.{length}
-use Rattle.forests.proofs.LeftLaws.{LeftTo, left-starts, left-enters, left-moves, left-ends}
+use Rattle.forests.proofs.LeftTableLaws.{LeftTo, left-starts, left-enters, left-moves, left-ends}
 use Rattle.forests.proofs.left.left_table.Statement.{statement}
 use Rattle.forests.proofs.left.left_table.Tie as tie
 
@@ -35,7 +35,7 @@ loop-again c =
     (omega arith, left-moves (start .pre) (at .i) (omega arith) (at .inv .1) (c .before .before .enter-link .ensures))
 
 same-length : tie.Need-same-length Inv-loop μ-loop
-same-length c = c .before .loop .inv .1 .long
+same-length c = c .before .loop .inv .1 .beyond .long
 
 returns : tie.Need-returns Inv-loop μ-loop
 returns c =

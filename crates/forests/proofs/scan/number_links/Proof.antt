@@ -4,11 +4,11 @@ use borrow.Author.Needs.{needs}
 use Rattle.forests.proofs.scan.number_links.Statement.{statement}
 use Rattle.forests.proofs.scan.number_links.Tie as tie
 
-for-few-relays-requires : tie.Need-for-few-relays-requires
-for-few-relays-requires c κs = search needs
+few-relay-copies-requires : tie.Need-few-relay-copies-requires
+few-relay-copies-requires c κs = search needs
 
-for-few-relays-requires-2 : tie.Need-for-few-relays-requires-2
-for-few-relays-requires-2 c κs = search needs
+few-relay-copies-requires-2 : tie.Need-few-relay-copies-requires-2
+few-relay-copies-requires-2 c κs = search needs
 
 slice-aggregate-scan : tie.Need-slice-aggregate-scan
 slice-aggregate-scan c = search needs
@@ -19,11 +19,11 @@ slice-aggregate-scan-2 c = search needs
 scan-requires : tie.Need-scan-requires
 scan-requires c κs = search needs
 
-for-relays-requires : tie.Need-for-relays-requires
-for-relays-requires c κs = search needs
+relay-copies-requires : tie.Need-relay-copies-requires
+relay-copies-requires c κs = search needs
 
-for-relays-requires-2 : tie.Need-for-relays-requires-2
-for-relays-requires-2 c κs = search needs
+relay-copies-requires-2 : tie.Need-relay-copies-requires-2
+relay-copies-requires-2 c κs = search needs
 
 slice-aggregate-scan-3 : tie.Need-slice-aggregate-scan-3
 slice-aggregate-scan-3 c = search needs
@@ -34,8 +34,8 @@ slice-aggregate-scan-4 c = search needs
 scan-requires-2 : tie.Need-scan-requires-2
 scan-requires-2 c κs =
     let s = c .before .before .before .before .before .before .before .before .before in
-    let relays = c .before .before .before .before .for-relays in
-    let places = c .before .before .before .for-relays2 in
+    let relays = c .before .before .before .before .relay-copies in
+    let places = c .before .before .before .relay-copies2 in
     record {
       accepted = s .pre .0;
       relayRoom = relay-room (s .args .n) (s .args .lows .now) (s .args .highs .now) (relays .result) (s .pre .0) (relays .ensures);
@@ -59,13 +59,13 @@ pub number-links-spec : {M : Type 1} → statement M
 number-links-spec =
     tie.close
     (tie.spec
-    for-few-relays-requires
-    for-few-relays-requires-2
+    few-relay-copies-requires
+    few-relay-copies-requires-2
     slice-aggregate-scan
     slice-aggregate-scan-2
     scan-requires
-    for-relays-requires
-    for-relays-requires-2
+    relay-copies-requires
+    relay-copies-requires-2
     slice-aggregate-scan-3
     slice-aggregate-scan-4
     scan-requires-2

@@ -74,7 +74,7 @@ same-length-4 : tie.Need-same-length-4 Inv-loop μ-loop
 same-length-4 c = c .before .loop .inv .1 .placesAt .long
 
 same-length-5 : tie.Need-same-length-5 Inv-loop μ-loop
-same-length-5 c = c .before .loop .inv .1 .forestsAt .long
+same-length-5 c = c .before .loop .inv .1 .forestsAt .beyond .long
 
 returns : tie.Need-returns Inv-loop μ-loop
 returns c =

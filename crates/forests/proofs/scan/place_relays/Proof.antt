@@ -4,8 +4,8 @@ use borrow.Author.Needs.{needs}
 use Rattle.forests.proofs.scan.place_relays.Statement.{statement}
 use Rattle.forests.proofs.scan.place_relays.Tie as tie
 
-few-numbers-requires : tie.Need-few-numbers-requires
-few-numbers-requires c κs = search needs
+few-link-zeros-requires : tie.Need-few-link-zeros-requires
+few-link-zeros-requires c κs = search needs
 
 slice-aggregate-scan : tie.Need-slice-aggregate-scan
 slice-aggregate-scan c = search needs
@@ -13,8 +13,8 @@ slice-aggregate-scan c = search needs
 scan-requires : tie.Need-scan-requires
 scan-requires c κs = search needs
 
-no-numbers-requires : tie.Need-no-numbers-requires
-no-numbers-requires c κs = search needs
+link-zeros-requires : tie.Need-link-zeros-requires
+link-zeros-requires c κs = search needs
 
 slice-aggregate-scan-2 : tie.Need-slice-aggregate-scan-2
 slice-aggregate-scan-2 c = search needs
@@ -22,7 +22,7 @@ slice-aggregate-scan-2 c = search needs
 scan-requires-2 : tie.Need-scan-requires-2
 scan-requires-2 c κs =
     let s = c .before .before .before .before .before .before .before .before .before in
-    let own = c .before .before .before .no-numbers in
+    let own = c .before .before .before .link-zeros in
     record {
       accepted = s .pre .0;
       relayRoom = s .pre .1;
@@ -52,10 +52,10 @@ pub place-relays-spec : {M : Type 1} → statement M
 place-relays-spec =
     tie.close
     (tie.spec
-    few-numbers-requires
+    few-link-zeros-requires
     slice-aggregate-scan
     scan-requires
-    no-numbers-requires
+    link-zeros-requires
     slice-aggregate-scan-2
     scan-requires-2
     same-length

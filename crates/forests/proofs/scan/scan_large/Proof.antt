@@ -2,7 +2,7 @@
 use native.Mathlib.Omega.{arith}
 use Rattle.theory.specs.Accepted.{accepted}
 use Rattle.forests.specs.Buckets.{mostColumns}
-use Rattle.forests.proofs.ScanLaws.{workspace}
+use Rattle.forests.proofs.ScanLaws.{scan-arrays}
 use borrow.Author.Needs.{needs}
 use Rattle.forests.proofs.scan.scan_large.Statement.{statement}
 use Rattle.forests.proofs.scan.scan_large.Tie as tie
@@ -17,17 +17,17 @@ mul-none c =
     let s = c .before .before .before .before .before in
     omega (arith, accepted (s .args .n) (s .args .lows .now) (s .args .highs .now) (s .pre .accepted) .short)
 
-for-relays-requires : tie.Need-for-relays-requires
-for-relays-requires c κs = search needs
+relay-copies-requires : tie.Need-relay-copies-requires
+relay-copies-requires c κs = search needs
 
-no-nexts-requires : tie.Need-no-nexts-requires
-no-nexts-requires c κs = search needs
+half-link-zeros-requires : tie.Need-half-link-zeros-requires
+half-link-zeros-requires c κs = search needs
 
-for-relays-requires-2 : tie.Need-for-relays-requires-2
-for-relays-requires-2 c κs = search needs
+relay-copies-requires-2 : tie.Need-relay-copies-requires-2
+relay-copies-requires-2 c κs = search needs
 
-no-bits-requires : tie.Need-no-bits-requires
-no-bits-requires c κs = search needs
+column-zeros-requires : tie.Need-column-zeros-requires
+column-zeros-requires c κs = search needs
 
 slice-aggregate-scan-in : tie.Need-slice-aggregate-scan-in
 slice-aggregate-scan-in c = search needs
@@ -50,8 +50,8 @@ scan-in-requires c κs =
     let s = first .before .before .before .before .before .before in
     let t = accepted (s .args .n) (s .args .lows .now) (s .args .highs .now) (s .pre .accepted) in (
       s .pre,
-      workspace 1000 6000 mostColumns (s .args .n) (t .few) (omega arith) (omega (arith, t .short)) (omega arith)
-          (first .for-relays .ensures) (nexts .no-nexts .ensures) (counts .for-relays2 .ensures) (bits .no-bits .ensures),
+      scan-arrays 1000 6000 mostColumns (s .args .n) (t .few) (omega arith) (omega (arith, t .short)) (omega arith)
+          (first .relay-copies .ensures) (nexts .half-link-zeros .ensures) (counts .relay-copies2 .ensures) (bits .column-zeros .ensures),
     )
 
 same-length : tie.Need-same-length
@@ -72,10 +72,10 @@ scan-large-spec =
     (tie.spec
     cast-none
     mul-none
-    for-relays-requires
-    no-nexts-requires
-    for-relays-requires-2
-    no-bits-requires
+    relay-copies-requires
+    half-link-zeros-requires
+    relay-copies-requires-2
+    column-zeros-requires
     slice-aggregate-scan-in
     slice-aggregate-scan-in-2
     slice-aggregate-scan-in-3

@@ -1,7 +1,7 @@
 -- The scan in small arrays. Assumes nothing.
 use native.Mathlib.Omega.{arith}
 use Rattle.forests.specs.Buckets.{fewColumns}
-use Rattle.forests.proofs.ScanLaws.{workspace}
+use Rattle.forests.proofs.ScanLaws.{scan-arrays}
 use borrow.Author.Needs.{needs}
 use Rattle.forests.proofs.scan.scan_small.Statement.{statement}
 use Rattle.forests.proofs.scan.scan_small.Tie as tie
@@ -12,17 +12,17 @@ cast-none c = search needs
 mul-none : tie.Need-mul-none
 mul-none c = search needs
 
-for-few-relays-requires : tie.Need-for-few-relays-requires
-for-few-relays-requires c κs = search needs
+few-relay-copies-requires : tie.Need-few-relay-copies-requires
+few-relay-copies-requires c κs = search needs
 
-few-nexts-requires : tie.Need-few-nexts-requires
-few-nexts-requires c κs = search needs
+few-half-link-zeros-requires : tie.Need-few-half-link-zeros-requires
+few-half-link-zeros-requires c κs = search needs
 
-for-few-relays-requires-2 : tie.Need-for-few-relays-requires-2
-for-few-relays-requires-2 c κs = search needs
+few-relay-copies-requires-2 : tie.Need-few-relay-copies-requires-2
+few-relay-copies-requires-2 c κs = search needs
 
-few-bits-requires : tie.Need-few-bits-requires
-few-bits-requires c κs = search needs
+few-column-zeros-requires : tie.Need-few-column-zeros-requires
+few-column-zeros-requires c κs = search needs
 
 slice-aggregate-scan-in : tie.Need-slice-aggregate-scan-in
 slice-aggregate-scan-in c = search needs
@@ -44,8 +44,8 @@ scan-in-requires c κs =
     let first = nexts .before in
     let s = first .before .before .before .before .before .before in (
       s .pre .0,
-      workspace 128 768 fewColumns (s .args .n) (s .pre .1) (omega arith) (omega (arith, s .pre .2)) (omega arith)
-          (first .for-few-relays .ensures) (nexts .few-nexts .ensures) (counts .for-few-relays2 .ensures) (bits .few-bits .ensures),
+      scan-arrays 128 768 fewColumns (s .args .n) (s .pre .1) (omega arith) (omega (arith, s .pre .2)) (omega arith)
+          (first .few-relay-copies .ensures) (nexts .few-half-link-zeros .ensures) (counts .few-relay-copies2 .ensures) (bits .few-column-zeros .ensures),
     )
 
 same-length : tie.Need-same-length
@@ -66,10 +66,10 @@ scan-small-spec =
     (tie.spec
     cast-none
     mul-none
-    for-few-relays-requires
-    few-nexts-requires
-    for-few-relays-requires-2
-    few-bits-requires
+    few-relay-copies-requires
+    few-half-link-zeros-requires
+    few-relay-copies-requires-2
+    few-column-zeros-requires
     slice-aggregate-scan-in
     slice-aggregate-scan-in-2
     slice-aggregate-scan-in-3

@@ -9,18 +9,15 @@ use lib.Dec.{leb}
 use lib.ListN.{length, getD, set, length-set}
 use lib.Seq.{getD-set-same, getD-set-other}
 use Rattle.definitions.specs.Outcome.{pick}
-use Rattle.definitions.specs.Lists.{table as tableOf, overwrite}
 use Rattle.definitions.specs.Network.{linked}
-use Rattle.definitions.specs.Order.{orderOf, placeOf, placesOf}
-use Rattle.definitions.specs.Forests.{forestOf, forestsOf}
+use Rattle.definitions.specs.Order.{orderOf}
+use Rattle.definitions.specs.Forests.{forestOf}
 use Rattle.definitions.specs.Route.{leftOf}
-use Rattle.lists.specs.Tables.{length-table, getD-table, length-overwrite}
-use Rattle.lists.specs.Overwritten.{getD-overwrite}
 use Rattle.lists.specs.Grids.{grid-within, grid-row, grid-entry}
 use Rattle.theory.specs.Accepted.{accepted}
 use Rattle.theory.specs.Ordering.{order-length}
 use Rattle.theory.specs.ForestNumbers.{earlierPlace, laterPlace, LinkForest, forest-of-link, link-of-left}
-use Rattle.forests.specs.Scan.{Scannable, Scanned}
+use Rattle.forests.specs.Fronts.{SameBeyond}
 use Rattle.forests.specs.Left.{leftIndex, laterAt, earlierAt, Enterable, entered, LeftInput, LeftTable}
 
 -- A link entered or passed over, in the code's terms.
@@ -50,12 +47,11 @@ module _ (n : ℕ) (lows highs : List ℕ) where
 
 -- The table when the links below i are entered.
 pub record LeftTo (n k : ℕ) (lows highs : List ℕ) (i : ℕ) (table table′ : List ℕ) : Type 0 where
-  pub long : length table′ ≡ length table
   pub sound : (f v : ℕ) → 1 ≤ f → f ≤ k → 1 ≤ v → v ≤ n → 0 < getD table′ (leftIndex n f v) 0
       → getD table′ (leftIndex n f v) 0 ≡ leftOf n lows highs f v
   pub full : (j : ℕ) → j < i → j < length lows → numberAt n lows highs j ≤ k
       → getD table′ (leftIndex n (numberAt n lows highs j) (lateAt n lows highs j)) 0 ≡ earlyAt n lows highs j
-  pub rest : (j : ℕ) → k * n ≤ j → getD table′ j 0 ≡ getD table j 0
+  pub beyond : SameBeyond (k * n) table table′
 
 -- Two places of the table with one index are one.
 index-same : (n f v g w : ℕ) → 1 ≤ f → 1 ≤ v → v ≤ n → 1 ≤ g → 1 ≤ w → w ≤ n → leftIndex n f v ≡ leftIndex n g w
@@ -92,10 +88,9 @@ module _ {n k : ℕ} {lows highs places forests table : List ℕ} (can : LeftInp
   pub left-starts : LeftTo n k lows highs 0 table table
   left-starts =
       record {
-        long = refl;
         sound = λ f v a b c d p. absurd (omega (arith, can .zeros (leftIndex n f v) (index-within n k f v a b c d)));
         full = λ j h. absurd (omega arith);
-        rest = λ j h. refl;
+        beyond = record { long = refl; rest = λ j h. refl };
       }
 
   pub left-enters : {table′ : List ℕ} (i : ℕ) → i < length lows → LeftTo n k lows highs i table table′
@@ -117,7 +112,7 @@ module _ {n k : ℕ} {lows highs places forests table : List ℕ} (can : LeftInp
             rw (late, number)
             (omega (
               arith,
-              at .long,
+              at .beyond .long,
               can .tableRoom,
               index-within n k (numberAt n lows highs i) (lateAt n lows highs i) (l .forest) (omega arith) (omega (arith, l .under)) (late-within i h),
             ));
@@ -128,10 +123,9 @@ module _ {n k : ℕ} {lows highs places forests table : List ℕ} (can : LeftInp
     passed : k < numberAt n lows highs i → LeftTo n k lows highs (i + 1) table table′
     passed p =
         record {
-          long = at .long;
           sound = at .sound;
           full = λ j a b c. at .full j (below j a c (ℕ-discrete j i)) b c;
-          rest = at .rest;
+          beyond = at .beyond;
         }
       where
         below : (j : ℕ) → j < i + 1 → numberAt n lows highs j ≤ k → Dec (j ≡ i) → j < i
@@ -144,10 +138,13 @@ module _ {n k : ℕ} {lows highs places forests table : List ℕ} (can : LeftInp
         (set table′ (leftIndex n (numberAt n lows highs i) (lateAt n lows highs i)) (earlyAt n lows highs i))
     entry p =
         record {
-          long = length-set table′ at-index (earlyAt n lows highs i) ∙ at .long;
           sound = λ f v a b c d q. sound f v a b c d (ℕ-discrete (leftIndex n f v) at-index) q;
           full = λ j a b c. full j a b c (ℕ-discrete (leftIndex n (numberAt n lows highs j) (lateAt n lows highs j)) at-index);
-          rest = λ j a. getD-set-other table′ at-index j (earlyAt n lows highs i) 0 (λ e. omega (arith, within)) ∙ at .rest j a;
+          beyond =
+              record {
+                long = length-set table′ at-index (earlyAt n lows highs i) ∙ at .beyond .long;
+                rest = λ j a. getD-set-other table′ at-index j (earlyAt n lows highs i) 0 (λ e. omega (arith, within)) ∙ at .beyond .rest j a;
+              };
         }
       where
         l : LinkForest (orderOf n lows highs) lows highs i
@@ -160,7 +157,7 @@ module _ {n k : ℕ} {lows highs places forests table : List ℕ} (can : LeftInp
         within = index-within n k (numberAt n lows highs i) (lateAt n lows highs i) (l .forest) p (omega (arith, l .under)) (late-within i h)
 
         here : getD (set table′ at-index (earlyAt n lows highs i)) at-index 0 ≡ earlyAt n lows highs i
-        here = getD-set-same table′ at-index (earlyAt n lows highs i) 0 (omega (arith, within, at .long, can .tableRoom))
+        here = getD-set-same table′ at-index (earlyAt n lows highs i) 0 (omega (arith, within, at .beyond .long, can .tableRoom))
 
         -- What stands at the index of link i, by forest and place.
         same : (f v : ℕ) → 1 ≤ f → 1 ≤ v → v ≤ n → leftIndex n f v ≡ at-index → leftOf n lows highs f v ≡ earlyAt n lows highs i
@@ -211,9 +208,8 @@ module _ {n k : ℕ} {lows highs places forests table : List ℕ} (can : LeftInp
   pub left-ends : {table′ : List ℕ} → LeftTo n k lows highs (length lows) table table′ → LeftTable n k lows highs table table′
   left-ends {table′} at =
       record {
-        long = at .long;
         entry = λ i v a b c d. entry i v a b c d (decLe (getD table′ (leftIndex n i v) 0) 0) (decLe (leftOf n lows highs i v) 0);
-        rest = at .rest;
+        beyond = at .beyond;
       }
     where
       entry : (i v : ℕ) → 1 ≤ i → i ≤ k → 1 ≤ v → v ≤ n → Dec (getD table′ (leftIndex n i v) 0 ≤ 0) → Dec (leftOf n lows highs i v ≤ 0)
@@ -224,30 +220,3 @@ module _ {n k : ℕ} {lows highs places forests table : List ℕ} (can : LeftInp
           let w = link-of-left n lows highs i v (omega arith) in
           let full = at .full (w .0) (w .1) (w .1) (omega (arith, w .5)) in
           sym (ap₂ (λ f x. getD table′ (leftIndex n f x) 0) (w .5) (w .4)) ∙ full ∙ w .3
-
--- What the scan gives is what the left table is made from.
-pub scanned-input : (n k : ℕ) (lows highs relays relays′ places places′ forests forests′ table : List ℕ)
-    → Scannable n lows highs relays places forests
-    → Scanned n lows highs relays relays′ places places′ forests forests′
-    → k * n ≤ length table → ((j : ℕ) → j < k * n → getD table j 0 ≡ 0)
-    → LeftInput n k lows highs places′ forests′ table
-unfolding placesOf forestsOf
-scanned-input n k lows highs relays relays′ places places′ forests forests′ table can done room zeros =
-    record {
-      accepted = can .accepted;
-      placeRoom = omega (arith, ap length (done .thePlaces), longer (placeOf (orderOf n lows highs)) n places (can .placeRoom), can .placeRoom);
-      forestRoom =
-          omega (arith, ap length (done .theForests), longer (numberAt n lows highs) (length lows) forests (can .forestRoom), can .forestRoom);
-      tableRoom = room;
-      place = λ r h. ap (λ l. getD l r 0) (done .thePlaces) ∙ front (placeOf (orderOf n lows highs)) n places r h;
-      forest = λ i h. ap (λ l. getD l i 0) (done .theForests) ∙ front (numberAt n lows highs) (length lows) forests i h;
-      zeros = zeros;
-    }
-  where
-    longer : (f : ℕ → ℕ) (m : ℕ) (old : List ℕ) → m ≤ length old → length (overwrite (tableOf f 0 m) old) ≡ length old
-    longer f m old h = length-overwrite (tableOf f 0 m) old (omega (arith, length-table f 0 m))
-
-    front : (f : ℕ → ℕ) (m : ℕ) (old : List ℕ) (i : ℕ) → i < m → getD (overwrite (tableOf f 0 m) old) i 0 ≡ f i
-    front f m old i h =
-        let z : 0 + i ≡ i = omega arith in
-        getD-overwrite (tableOf f 0 m) old i 0 (omega (arith, length-table f 0 m)) ∙ getD-table f 0 m i 0 h ∙ ap f z
