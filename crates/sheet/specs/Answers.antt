@@ -11,7 +11,7 @@ use Rattle.definitions.specs.Plan.{planText, planAnswer, outputAfter}
 use Rattle.network.specs.Answers.{refusalOf}
 use Rattle.network.specs.declared.Refusal.the-variants.{Room}
 use Rattle.text.specs.Put.{Put}
-use Rattle.text.specs.Written.{stored-overwrite}
+use Rattle.lists.specs.Stores.{sets-overwrite}
 use Rattle.sheet.specs.declared.PlanAnswer.{PlanAnswer}
 use Rattle.sheet.specs.declared.PlanAnswer.the-variants as planning
 use Rattle.sheet.specs.Front.{front-is}
@@ -39,5 +39,5 @@ module _
         let ends : end ≡ length (planText input) = omega (arith, put .ends, ap length text) in
         rw (le-ltb (length output) (length (planText input)) (omega arith)) (
           ap (λ (n : ℕ). done (n ∷ [])) ends,
-          put .bytes ∙ rw text (stored-overwrite (planText input) output (omega arith)),
+          put .bytes ∙ rw text (sets-overwrite (planText input) output (omega arith)),
         )
