@@ -27,7 +27,7 @@ use Rattle.network.specs.declared.Refusal.{Refusal}
 use Rattle.theory.specs.ForestBound.{forests-length}
 
 -- After a refusal of the table check the refusal stands, and no list changes.
-pub refusal-stands : (refusal : Refusal) (check : Answer) (next : List ℕ → Answer) → check ≡ refusalOf refusal
+refusal-stands : (refusal : Refusal) (check : Answer) (next : List ℕ → Answer) → check ≡ refusalOf refusal
     → refusalOf refusal ≡ andThen check next
 refusal-stands refusal check next e = sym (ap (λ c. andThen c next) e ∙ refusal-then refusal next)
 
@@ -78,7 +78,7 @@ module _ (n : ℕ) (lows highs forests : List ℕ) where
       let short = lt-ltb (length forests) (length lows) h in
       (rw (ok, short), rw (ok, short))
 
-  pub front-forests : take (length lows) (overwrite (forestsOf n lows highs) forests) ≡ forestsOf n lows highs
+  front-forests : take (length lows) (overwrite (forestsOf n lows highs) forests) ≡ forestsOf n lows highs
   unfolding overwrite
   front-forests = take-at (forestsOf n lows highs) (drop (length (forestsOf n lows highs)) forests) (length lows) (forests-length n lows highs)
 

@@ -48,12 +48,12 @@ module _ (lows highs : List ℕ) (r : ℕ) where
       go false e f (no d) ih = let p : i ≡ j = omega arith in rw p at e
 
   -- One link more in front.
-  pub next-step : (i : ℕ) → i < length lows
+  next-step : (i : ℕ) → i < length lows
       → nextFrom lows highs r i ≡ pick (touches lows highs r i) i (nextFrom lows highs r (suc i))
   unfolding nextFrom nextAt
   next-step i h = let p : length lows - i ≡ suc (length lows - suc i) = omega arith in rw p
 
-  pub next-end : nextFrom lows highs r (length lows) ≡ length lows
+  next-end : nextFrom lows highs r (length lows) ≡ length lows
   unfolding nextFrom nextAt
   next-end = let p : length lows - length lows ≡ 0 = omega arith in rw p
 

@@ -62,7 +62,7 @@ module _ (n : ℕ) (lows highs : List ℕ) where
       ∙ rising-count test order j (omega (arith, order-length n lows highs))
       ∙ ap (count test) (sym (placed-front (linked lows highs) (firstRelay n lows highs) (allRelays n) n j (omega arith)))
 
-pub weight-bound : (n : ℕ) (lows highs : List ℕ) → Accepted n lows highs → (k r : ℕ) → r < n
+weight-bound : (n : ℕ) (lows highs : List ℕ) → Accepted n lows highs → (k r : ℕ) → r < n
     → has (placed n lows highs k) r ≡ false
     → weight (linked lows highs) (placed n lows highs k) r * suc (weight (linked lows highs) (placed n lows highs k) r)
     ≤ 2 * length lows

@@ -22,7 +22,7 @@ ghost use Rattle.definitions.specs.Lists.{overwrite};
 ghost use Rattle.definitions.specs.Network.{Accepted};
 ghost use Rattle.definitions.specs.Order.{orderOf, placesOf};
 ghost use Rattle.definitions.specs.Forests.{forestsOf};
-ghost use Rattle.forests.specs.Scan.{Placeable, PlacedOne, Startable, Scannable, ScanArrays, isSmall, Scanned};
+ghost use Rattle.forests.specs.Scan.{Startable, Scannable, ScanArrays, isSmall, Scanned};
 
 // The place of a relay, from the list of places.
 pub fn place_of(places: &[u16], r: Relay) -> Place
@@ -45,34 +45,7 @@ fn put(x: Relay, v: Place, relays: &mut [u16], places: &mut [u16])
     places[r] = v.0;
 }
 
-// The next relay gets place v; its count is at most `most`. Gives a bound for the counts afterwards.
-fn place_next(
-    n: u16,
-    v: Place,
-    most: u16,
-    lows: &[u16],
-    highs: &[u16],
-    first: &[u16],
-    nexts: &[u16],
-    counts: &mut [u16],
-    bits: &mut [u64],
-    relays: &mut [u16],
-    places: &mut [u16],
-    forests: &mut [u16],
-) -> u16
-    requires { ⌜ Placeable n (v .0) most (now lows) (now highs) (now first) (now nexts) (now counts) (now bits)
-        (now relays) (now places) (now forests) ⌝ }
-    ensures { λ r. ⌜ PlacedOne n (v .0) (now (lows .entry)) (now (highs .entry)) (now (counts .entry)) (now (counts .exit)) (now (bits .exit))
-        (now (relays .entry)) (now (relays .exit)) (now (places .entry)) (now (places .exit))
-        (now (forests .entry)) (now (forests .exit)) r ⌝ }
-{
-    let x = leading(columns_of(n), most, bits);
-    put(x, v, relays, places);
-    let count = walk(x, lows, highs, first, nexts, counts, bits, forests);
-    count + 1
-}
-
-// All n relays get their places.
+// All n relays get their places, each time the one that leads; no count is greater than `most`.
 fn place_all(
     n: u16,
     lows: &[u16],
@@ -90,24 +63,14 @@ fn place_all(
     ensures { λ _. ⌜ Scanned n (now (lows .entry)) (now (highs .entry)) (now (relays .entry)) (now (relays .exit))
         (now (places .entry)) (now (places .exit)) (now (forests .entry)) (now (forests .exit)) ⌝ }
 {
+    let columns = columns_of(n);
     let mut v = 0;
     let mut most = 1;
     while v < n {
         v += 1;
-        most = place_next(
-            n,
-            Place(v),
-            most,
-            lows,
-            highs,
-            first,
-            nexts,
-            counts,
-            bits,
-            relays,
-            places,
-            forests,
-        );
+        let x = leading(columns, most, bits);
+        put(x, Place(v), relays, places);
+        most = walk(x, lows, highs, first, nexts, counts, bits, forests) + 1;
     }
 }
 

@@ -49,7 +49,7 @@ rows-of-1000 n = rows-rise n 1000
 same-row : (a b c d : ℕ) → a < b → c < d → pairNumber a b ≡ pairNumber c d → b < d → ⊥
 same-row a b c d h k e l = omega (arith, in-row a b h, in-row c d k, rows-rise (suc b) d l)
 
-pub pair-high : (a b c d : ℕ) → a < b → c < d → pairNumber a b ≡ pairNumber c d → b ≡ d
+pair-high : (a b c d : ℕ) → a < b → c < d → pairNumber a b ≡ pairNumber c d → b ≡ d
 pair-high a b c d h k e = go (ltb b d) (ltb d b) refl refl
   where
     go : (less more : Bool) → ltb b d ≡ less → ltb d b ≡ more → b ≡ d
@@ -57,7 +57,7 @@ pair-high a b c d h k e = go (ltb b d) (ltb d b) refl refl
     go false true p q = absurd (same-row c d a b k h (sym e) (ltb-true d b q))
     go false false p q = omega (arith, ltb-false b d p, ltb-false d b q)
 
-pub pair-low : (a b c d : ℕ) → a < b → c < d → pairNumber a b ≡ pairNumber c d → a ≡ c
+pair-low : (a b c d : ℕ) → a < b → c < d → pairNumber a b ≡ pairNumber c d → a ≡ c
 unfolding pairNumber
 pair-low a b c d h k e = omega (arith, e, ap rowStart (pair-high a b c d h k e))
 

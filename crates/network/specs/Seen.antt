@@ -68,7 +68,7 @@ module _ (n : ℕ) (bits lows highs : List ℕ) where
   none-of-1000 h = seen-none 7805 (omega (arith, rows-of-1000 n h))
 
 -- The fault by the marks is the fault by the table.
-pub fault-same : (n a b : ℕ) (at : ℕ → Bool) (lows highs : List ℕ) (i : ℕ) → Marks n at lows highs i
+fault-same : (n a b : ℕ) (at : ℕ → Bool) (lows highs : List ℕ) (i : ℕ) → Marks n at lows highs i
     → faultAt n at a b ≡ linkFault n lows highs i a b
 unfolding faultAt linkFault
 fault-same n a b at lows highs i marks = go (leb n a) (leb n b) (leb b a) refl refl refl

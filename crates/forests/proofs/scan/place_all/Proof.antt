@@ -1,16 +1,29 @@
--- After each turn one relay more has its place. Assumes nothing.
-use Prim.Native.Nat.{ℕ, _-_, _≤_, _<_}
-use mathlib.Core.Path.{_≡_, refl, _∙_}
+-- After each turn one relay more has its place: the one that leads, which is the next one. Assumes nothing.
+use Prim.Native.Nat.{ℕ, _+_, _-_, _≤_, _<_}
+use mathlib.Core.Path.{_≡_, refl, sym, _∙_}
 use native.Mathlib.Omega.{arith}
+use borrow.Author.Needs.{needs}
 use lib.ListN.{length, getD, length-set}
 use Rattle.forests.specs.Buckets.{columnWords, Buckets}
-use Rattle.forests.specs.Scan.{ScannedTo}
-use Rattle.forests.proofs.ScanLaws.{relays-long, first-most, scan-starts, scan-places, scan-moves, scan-ends}
+use Rattle.forests.specs.Scan.{following, Placeable, ScannedTo}
+use Rattle.forests.proofs.ScanLaws.{
+  columns-room,
+  leads-most,
+  leads-next,
+  next-below,
+  placed-one,
+  relays-long,
+  first-most,
+  scan-starts,
+  scan-places,
+  scan-moves,
+  scan-ends,
+}
 use Rattle.forests.proofs.scan.place_all.Statement.{statement}
 use Rattle.forests.proofs.scan.place_all.Tie as tie
 
 abbrev Inv-loop : tie.InvT-loop
-Inv-loop n lows highs first nexts counts₀ bits₀ relays₀ places₀ forests₀ v₀ most₀ counts bits relays places forests v most =
+Inv-loop n lows highs first nexts counts₀ bits₀ relays₀ places₀ forests₀ columns v₀ most₀ counts bits relays places forests v most =
     (v ≤ n)
     × ScannedTo n lows highs v counts relays₀ relays places₀ places forests₀ forests
     × Buckets counts bits
@@ -20,42 +33,90 @@ Inv-loop n lows highs first nexts counts₀ bits₀ relays₀ places₀ forests�
     × (length bits ≡ length bits₀)
 
 abbrev μ-loop : tie.MeasureT-loop
-μ-loop n lows highs first nexts counts₀ bits₀ relays₀ places₀ forests₀ v₀ most₀ counts bits relays places forests v most = n - v
+μ-loop n lows highs first nexts counts₀ bits₀ relays₀ places₀ forests₀ columns v₀ most₀ counts bits relays places forests v most = n - v
+
+-- Where a turn begins, the next relay can be placed.
+ready : (turn : tie.In-loop Inv-loop μ-loop)
+    → let a = turn .before .before .before .before .before .before .before .before .before .before .before .before .args in
+    let at = turn .before .loop in
+    Placeable (a .n) (at .v + 1) (at .most) (a .lows .now) (a .highs .now) (a .first .now) (a .nexts .now)
+    (at .counts) (at .bits) (at .relays) (at .places) (at .forests)
+ready turn =
+    let at = turn .before .loop in
+    let p = turn .before .before .before .before .before .before .before .before .before .before .before .before .pre in
+    let inv = at .inv in
+    scan-places p (at .v) (turn .loop-test .taken) (inv .1) (at .most) (inv .2) (inv .3) (inv .4) (omega (arith, p .countRoom, inv .5))
+
+-- The relay that leads is the next one.
+which : (led : tie.After-leading Inv-loop μ-loop)
+    → let a = led .before .before .before .before .before .before .before .before .before .before .before .before .before .before .args in
+    following (a .n) (a .lows .now) (a .highs .now) (led .before .before .before .loop .v + 1 - 1) ≡ led .leading .result .0
+which led =
+    let turn = led .before .before in
+    let columns = turn .before .before .columns-of in
+    leads-next (ready turn) (columns .result) (columns .ensures) (led .leading .ensures)
+
+columns-of-requires : tie.Need-columns-of-requires Inv-loop μ-loop
+columns-of-requires c κs = search needs
 
 loop-holds : tie.Need-loop-holds Inv-loop μ-loop
 loop-holds c =
-    let start = c .before .before .before .before .before .before .before .before .before in
-    let p = start .pre in (omega arith, scan-starts p, p .sorted, first-most p, omega arith, refl, refl)
+    let p = c .before .before .before .before .before .before .before .before .before .before .pre in (omega arith, scan-starts p, p .sorted, first-most p, omega arith, refl, refl)
 
 add-v : tie.Need-add-v Inv-loop μ-loop
 add-v c = omega arith
 
-place-next-requires : tie.Need-place-next-requires Inv-loop μ-loop
-place-next-requires c κs =
-    let at = c .before .before .before .before .before .before in
-    let p = at .before .before .before .before .before .before .before .before .before .before .pre in
-    let inv = at .loop .inv in
-    scan-places p (at .loop .v) (omega arith) (inv .1) (at .loop .most) (inv .2) (inv .3) (inv .4) (omega (arith, p .countRoom, inv .5))
+leading-requires : tie.Need-leading-requires Inv-loop μ-loop
+leading-requires c κs =
+    let turn = c .before in
+    let columns = turn .before .before .columns-of in
+    let room = columns-room (ready turn) (columns .result) (columns .ensures) in
+    (turn .before .loop .inv .4, room .0, room .1)
+
+put-requires : tie.Need-put-requires Inv-loop μ-loop
+put-requires c κs =
+    let led = c .before .before in
+    let turn = led .before .before in
+    let p = ready turn in
+    let columns = turn .before .before .columns-of in
+    let new = next-below p (columns .result) (columns .ensures) in
+    (p .some, omega (arith, p .within, p .relayRoom), omega (arith, which led, new, p .placeRoom))
+
+walk-requires : tie.Need-walk-requires Inv-loop μ-loop
+walk-requires c κs =
+    let led = c .before .before .before .before .before .before .before .before .before .before in
+    rw (sym (which led)) (ready (led .before .before) .walkable)
+
+add-most : tie.Need-add-most Inv-loop μ-loop
+add-most c =
+    let walked = c .before .before .before .before .before .before in
+    let led = walked .before .before .before .before .before .before .before .before .before .before .before in
+    omega (arith, walked .walk .ensures .0, led .before .before .before .loop .inv .2 .few (led .leading .result .0))
 
 loop-less : tie.Need-loop-less Inv-loop μ-loop
-loop-less c =
-    let turn = c .before .before .before .before .before .before .before .before .before .before .before .before .before .before .before .before in omega (arith, turn .loop-test .taken)
+loop-less c = let turn = c .before .before .before .before .before .before .before .before .before .before .before .before .before .before .before .before .before .before .before in omega (arith, turn .loop-test .taken)
 
 loop-again : tie.Need-loop-again Inv-loop μ-loop
 loop-again c =
-    let placed = c .before .before .before .before .before .before .before .before .before .before in
-    let turn = c .before .before .before .before .before .before .before .before .before .before .before .before .before .before .before .before in
-    let at = turn .before in
-    let inv = at .loop .inv in
-    let one = placed .place-next .ensures in (
+    let walked = c .before .before .before .before .before .before in
+    let stored = walked .before .before .before .before .before .before .before .before in
+    let led = stored .before .before .before in
+    let turn = led .before .before in
+    let at = turn .before .loop in
+    let columns = turn .before .before .columns-of in
+    let s = turn .before .before .before .before .before .before .before .before .before .before .before .before in
+    let w = walked .walk .ensures in
+    let most = leads-most (ready turn) (columns .result) (columns .ensures) (led .leading .ensures) in
+    let one = placed-one {n = s .args .n} {v = at .v + 1} {lows = s .args .lows .now} {highs = s .args .highs .now}
+    (led .leading .result .0) (which led) most (at .inv .2 .few (led .leading .result .0))
+    (stored .put .ensures .0) (stored .put .ensures .1) (w .0, w .1 .0, w .1 .1) in (
       omega (arith, turn .loop-test .taken),
-      scan-moves (at .before .before .before .before .before .before .before .before .before .before .pre) (at .loop .v)
-          (turn .loop-test .taken) (inv .1) one,
+      scan-moves (s .pre) (at .v) (turn .loop-test .taken) (at .inv .1) one,
       one .sorted,
       one .bounded,
       one .mostFew,
-      one .walked .countRoom ∙ simp length-set (inv .5),
-      omega (arith, inv .6),
+      one .walked .countRoom ∙ simp length-set (at .inv .5),
+      omega (arith, walked .walk .kept, at .inv .6),
     )
 
 same-length : tie.Need-same-length Inv-loop μ-loop
@@ -66,7 +127,7 @@ same-length-2 c = c .before .loop .inv .6
 
 same-length-3 : tie.Need-same-length-3 Inv-loop μ-loop
 same-length-3 c =
-    let start = c .before .before .before .before .before .before .before .before .before .before .before in
+    let start = c .before .before .before .before .before .before .before .before .before .before .before .before in
     let at = c .before .loop in
     relays-long (start .pre) (at .v) (omega arith) (at .inv .1)
 
@@ -78,7 +139,7 @@ same-length-5 c = c .before .loop .inv .1 .forestsAt .beyond .long
 
 returns : tie.Need-returns Inv-loop μ-loop
 returns c =
-    let s = c .before .before .before .before .before .before .before .before .before .before .before in
+    let s = c .before .before .before .before .before .before .before .before .before .before .before .before in
     let p : c .before .loop .v ≡ s .args .n = omega arith in
     scan-ends (s .pre) (rw p at (c .before .loop .inv .1))
 
@@ -88,9 +149,13 @@ place-all-spec =
     (tie.spec
     Inv-loop
     μ-loop
+    columns-of-requires
     loop-holds
     add-v
-    place-next-requires
+    leading-requires
+    put-requires
+    walk-requires
+    add-most
     loop-less
     loop-again
     same-length
