@@ -6,7 +6,7 @@ use Rattle.definitions.specs.Network.{rowStart, pairNumber, pairAnswer, 
 use Rattle.definitions.specs.Order.{weight, heaviest, unplaced, heaviestOf, nextRelay, placeNext, placedAfter, allRelays, firstRelay, orderOf, placeOf, relayAt, orderAnswer, relaysAfter, placesOf, placesAfter}
 use Rattle.definitions.specs.Forests.{earlier, left, forestBetween, forestOf, forestsOf, rootWithin, oneTree, splitAnswer, forestsAfter, markOf, marksOf, cutAnswer, marksAfter}
 use Rattle.definitions.specs.Sweep.{endOf, beforeEnd, extend, slotAt, startSlot, slotAtT, endsA, endsB, together, previousIn, replaceEnds, exchange, downshift, settle, highestAt, shiftedSlot, slotElsewhere, slotAfter, slotsAfter, sweepFrom, sweep, slotRoute, sweepRoutes}
-use Rattle.definitions.specs.Route.{leftOf, routesBetween, routesOf, endsInOneTree, tooShort, routeAnswer, countsAfter, routeRelaysAfter, scratchUsed, scratchAfter}
+use Rattle.definitions.specs.Route.{leftOf, routesBetween, routesOf, oneTreeOf, tooShort, routeAnswer, countsAfter, routeRelaysAfter, scratchUsed, scratchAfter}
 use Rattle.definitions.specs.Form.{byteAt, scanWord, scanDigits, scanNumber, scanItem, withFront, following, scanForm, onScan, decimalWithin, decimal, writeForm}
 use Rattle.definitions.specs.Text.{headerForm, linkForm, endForm, readEnd, readLinks, readNetwork, readAnswer, filled, lowsAfter, highsAfter, linkLines, textOf, writeAnswer, bufferAfter}
 use Rattle.definitions.specs.Plan.{wishForm, sheetForm, keptForm, refusedForm, room, inputRoom, outputRoom, sheetFor, planned, spaced, routeLines, sheetText, printed, planText, planAnswer, outputAfter}
@@ -14,5 +14,5 @@ use Rattle.definitions.specs.Lease.{keepForm, leaseForm, keptLinkForm, d
 use Rattle.definitions.specs.Demand.{usesFrom, uses, cutUp}
 
 unfoldable pub opened : Unit {0}
-unfolding refuseIf andThen ifDone table overwrite zeroed outside someBelow largest firstFrom snocIf rising consIf keep has count positionFrom position total greatest joinAll rowStart pairNumber pairAnswer isPair joins linked linkFault linksCheck tableCheck weight heaviest unplaced heaviestOf nextRelay placeNext placedAfter allRelays firstRelay orderOf placeOf relayAt orderAnswer relaysAfter placesOf placesAfter earlier left forestBetween forestOf forestsOf rootWithin oneTree splitAnswer forestsAfter markOf marksOf cutAnswer marksAfter endOf beforeEnd extend slotAt startSlot slotAtT endsA endsB together previousIn replaceEnds exchange downshift settle highestAt shiftedSlot slotElsewhere slotAfter slotsAfter sweepFrom sweep slotRoute sweepRoutes leftOf routesBetween routesOf endsInOneTree tooShort routeAnswer countsAfter routeRelaysAfter scratchUsed scratchAfter byteAt scanWord scanDigits scanNumber scanItem withFront following scanForm onScan decimalWithin decimal writeForm headerForm linkForm endForm readEnd readLinks readNetwork readAnswer filled lowsAfter highsAfter linkLines textOf writeAnswer bufferAfter wishForm sheetForm keptForm refusedForm room inputRoom outputRoom sheetFor planned spaced routeLines sheetText printed planText planAnswer outputAfter keepForm leaseForm keptLinkForm droppedLinkForm droppedForm leaseRoom leaseFor leased leaseLine leaseLines leaseText keepText usesFrom uses cutUp
+unfolding refuseIf andThen ifDone table overwrite zeroed outside someBelow largest firstFrom snocIf rising consIf keep has count positionFrom position total greatest joinAll rowStart pairNumber pairAnswer isPair joins linked linkFault linksCheck tableCheck weight heaviest unplaced heaviestOf nextRelay placeNext placedAfter allRelays firstRelay orderOf placeOf relayAt orderAnswer relaysAfter placesOf placesAfter earlier left forestBetween forestOf forestsOf rootWithin oneTree splitAnswer forestsAfter markOf marksOf cutAnswer marksAfter endOf beforeEnd extend slotAt startSlot slotAtT endsA endsB together previousIn replaceEnds exchange downshift settle highestAt shiftedSlot slotElsewhere slotAfter slotsAfter sweepFrom sweep slotRoute sweepRoutes leftOf routesBetween routesOf oneTreeOf tooShort routeAnswer countsAfter routeRelaysAfter scratchUsed scratchAfter byteAt scanWord scanDigits scanNumber scanItem withFront following scanForm onScan decimalWithin decimal writeForm headerForm linkForm endForm readEnd readLinks readNetwork readAnswer filled lowsAfter highsAfter linkLines textOf writeAnswer bufferAfter wishForm sheetForm keptForm refusedForm room inputRoom outputRoom sheetFor planned spaced routeLines sheetText printed planText planAnswer outputAfter keepForm leaseForm keptLinkForm droppedLinkForm droppedForm leaseRoom leaseFor leased leaseLine leaseLines leaseText keepText usesFrom uses cutUp
 opened = tt

@@ -28,8 +28,8 @@ routesOf n lows highs k from to =
     map (map (relayAt order)) (routesBetween (leftOf n lows highs) k (placeOf order from) (placeOf order to))
 
 -- `from` and `to` are in one tree of forest k.
-unfoldable pub endsInOneTree : (n : ℕ) (lows highs : List ℕ) (k from to : ℕ) → Bool
-endsInOneTree n lows highs k from to =
+unfoldable pub oneTreeOf : (n : ℕ) (lows highs : List ℕ) (k from to : ℕ) → Bool
+oneTreeOf n lows highs k from to =
     let order = orderOf n lows highs in
     oneTree (leftOf n lows highs) k (placeOf order from) (placeOf order to)
 
@@ -47,7 +47,7 @@ routeAnswer n lows highs k from to counts relays scratch =
     (refuseIf (leb n from || leb n to) 10 0
     (refuseIf (eqb from to) 11 0
     (refuseIf (tooShort n k counts relays scratch) 12 0
-    (refuseIf (not (endsInOneTree n lows highs k from to)) 13 0
+    (refuseIf (not (oneTreeOf n lows highs k from to)) 13 0
     (done (length (joinAll (routesOf n lows highs k from to)) ∷ []))))))
 
 -- The list of counts afterwards: "a second list holds how many relays each has".

@@ -17,7 +17,7 @@ use Rattle.theory.specs.AllRelays.{all-long, all-once, first-of-all}
 use Rattle.theory.specs.Ordering.{placed-front, placed-at, later-unplaced, order-length, order-has, order-below}
 use Rattle.theory.specs.Left.{forest-weight}
 use Rattle.theory.specs.Links.{joined-linked}
-use Rattle.theory.specs.ForestNumbers.{earlierPlace, laterPlace, forest-of-link}
+use Rattle.theory.specs.ForestNumbers.{earlierPlace, laterPlace, accepted-link-facts}
 use Rattle.forests.specs.Fronts.{SameBeyond}
 use Rattle.forests.specs.Scan.{placed, following, PlacesAt, ForestsAt}
 use Rattle.forests.proofs.OrderLaws.{placed-long, weight-linked}
@@ -86,7 +86,7 @@ module _ (n : ℕ) (lows highs : List ℕ) where
     where
       number : (i : ℕ) → i < length lows → getD forests i 0 ≡ forestOf (linked lows highs) (orderOf n lows highs) lows highs i
       number i h =
-          let l = forest-of-link n lows highs ok i h in
+          let l = accepted-link-facts n lows highs ok i h in
           let order = orderOf n lows highs in
           given f i (earlierPlace order lows highs i) (laterPlace order lows highs i) h (l .some) (l .under)
           (omega (arith, l .within, order-length n lows highs)) (l .ends)

@@ -16,7 +16,7 @@ use Rattle.definitions.specs.Route.{leftOf}
 use Rattle.lists.specs.Grids.{grid-within, grid-row, grid-entry}
 use Rattle.theory.specs.Accepted.{accepted}
 use Rattle.theory.specs.Ordering.{order-length}
-use Rattle.theory.specs.ForestNumbers.{earlierPlace, laterPlace, LinkForest, forest-of-link, link-of-left}
+use Rattle.theory.specs.ForestNumbers.{earlierPlace, laterPlace, LinkFacts, accepted-link-facts, leftOf-is-link}
 use Rattle.forests.specs.Fronts.{SameBeyond}
 use Rattle.forests.specs.Left.{leftIndex, laterAt, earlierAt, Enterable, entered, LeftInput, LeftTable}
 
@@ -65,8 +65,8 @@ index-within : (n k f v : ℕ) → 1 ≤ f → f ≤ k → 1 ≤ v → v ≤ n �
 index-within n k f v a b c d = grid-within (f - 1) (v - 1) k n (omega arith) (omega arith)
 
 module _ {n k : ℕ} {lows highs places forests table : List ℕ} (can : LeftInput n k lows highs places forests table) where
-  link : (i : ℕ) → i < length lows → LinkForest (orderOf n lows highs) lows highs i
-  link = forest-of-link n lows highs (can .accepted)
+  link : (i : ℕ) → i < length lows → LinkFacts (orderOf n lows highs) lows highs i
+  link = accepted-link-facts n lows highs (can .accepted)
 
   late-within : (i : ℕ) → i < length lows → lateAt n lows highs i ≤ n
   late-within i h = omega (arith, link i h .within, order-length n lows highs)
@@ -147,7 +147,7 @@ module _ {n k : ℕ} {lows highs places forests table : List ℕ} (can : LeftInp
               };
         }
       where
-        l : LinkForest (orderOf n lows highs) lows highs i
+        l : LinkFacts (orderOf n lows highs) lows highs i
         l = link i h
 
         at-index : ℕ
@@ -217,6 +217,6 @@ module _ {n k : ℕ} {lows highs places forests table : List ℕ} (can : LeftInp
       entry i v a b c d (no p) q = at .sound i v a b c d (omega arith)
       entry i v a b c d (yes p) (yes q) = omega arith
       entry i v a b c d (yes p) (no q) =
-          let w = link-of-left n lows highs i v (omega arith) in
+          let w = leftOf-is-link n lows highs i v (omega arith) in
           let full = at .full (w .0) (w .1) (w .1) (omega (arith, w .5)) in
           sym (ap₂ (λ f x. getD table′ (leftIndex n f x) 0) (w .5) (w .4)) ∙ full ∙ w .3

@@ -10,7 +10,7 @@ use lib.ListN.{length, getD}
 use Rattle.definitions.specs.Outcome.{pick, refused, done, Answer, refuseIf}
 use Rattle.definitions.specs.Lists.{overwrite, outside, joinAll}
 use Rattle.definitions.specs.Network.{Accepted}
-use Rattle.definitions.specs.Route.{routesOf, endsInOneTree}
+use Rattle.definitions.specs.Route.{routesOf, oneTreeOf}
 use Rattle.network.specs.Answers.{refusalOf}
 use Rattle.forests.specs.Scan.{Scanned}
 use Rattle.forests.specs.Left.{LeftTable}
@@ -52,7 +52,7 @@ answerIn a b left k p q order counts relays =
 unfoldable pub treeAnswer : ℕ → List ℕ → List ℕ → ℕ → ℕ → ℕ → List ℕ → List ℕ → Answered
 treeAnswer n lows highs k from to counts relays =
     let routes = routesOf n lows highs k from to in
-    pick (endsInOneTree n lows highs k from to)
+    pick (oneTreeOf n lows highs k from to)
     (answered (overwrite (map length routes) counts) (overwrite (joinAll routes) relays) (done (length (joinAll routes) ∷ [])))
     (answered counts relays (refused 13 0))
 

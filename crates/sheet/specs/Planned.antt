@@ -13,7 +13,7 @@ use Rattle.definitions.specs.Outcome.{pick, done, refuseIf}
 use Rattle.definitions.specs.Lists.{outside, count, total, joinAll}
 use Rattle.definitions.specs.Network.{tableCheck, Accepted}
 use Rattle.definitions.specs.Forests.{forestsOf, markOf, marksOf, cutAnswer}
-use Rattle.definitions.specs.Route.{routesOf, endsInOneTree, tooShort, routeAnswer}
+use Rattle.definitions.specs.Route.{routesOf, oneTreeOf, tooShort, routeAnswer}
 use Rattle.definitions.specs.Form.{reads, scanForm}
 use Rattle.definitions.specs.Text.{Network, readNetwork}
 use Rattle.definitions.specs.Plan.{wishForm, Sheet, room, sheetFor, planned}
@@ -33,14 +33,14 @@ pub record RoutePassed (n : ℕ) (lows highs : List ℕ) (k from to : ℕ) : Typ
   pub starts : from < n
   pub ends : to < n
   pub differ : from ≢ to
-  pub oneTree : endsInOneTree n lows highs k from to ≡ true
+  pub oneTree : oneTreeOf n lows highs k from to ≡ true
 
 pub route-passed : (n : ℕ) (lows highs : List ℕ) (k from to : ℕ) (counts relays scratch values : List ℕ) → Accepted n lows highs
     → routeAnswer n lows highs k from to counts relays scratch ≡ done values → RoutePassed n lows highs k from to
 unfolding routeAnswer
 route-passed n lows highs k from to counts relays scratch values table e =
     let answered = done (length (joinAll (routesOf n lows highs k from to)) ∷ []) in
-    let last = refuseIf (not (endsInOneTree n lows highs k from to)) 13 0 answered in
+    let last = refuseIf (not (oneTreeOf n lows highs k from to)) 13 0 answered in
     let fitting = refuseIf (tooShort n k counts relays scratch) 12 0 last in
     let differing = refuseIf (eqb from to) 11 0 fitting in
     let ending = refuseIf (leb n from || leb n to) 10 0 differing in
@@ -50,7 +50,7 @@ route-passed n lows highs k from to counts relays scratch values table e =
     let ten = not-refused (leb n from || leb n to) 10 0 differing values (nine .1) in
     let eleven = not-refused (eqb from to) 11 0 fitting values (ten .1) in
     let twelve = not-refused (tooShort n k counts relays scratch) 12 0 last values (eleven .1) in
-    let thirteen = not-refused (not (endsInOneTree n lows highs k from to)) 13 0 answered values (twelve .1) in
+    let thirteen = not-refused (not (oneTreeOf n lows highs k from to)) 13 0 answered values (twelve .1) in
     let range = inside-range 1 32 k (nine .0) in
     let within = or-false (leb n from) (leb n to) (ten .0) in
     record {
@@ -59,7 +59,7 @@ route-passed n lows highs k from to counts relays scratch values table e =
       starts = leb-false n from (within .0);
       ends = leb-false n to (within .1);
       differ = eqb-false from to (eleven .0);
-      oneTree = not-false (endsInOneTree n lows highs k from to) (thirteen .0);
+      oneTree = not-false (oneTreeOf n lows highs k from to) (thirteen .0);
     }
 
 -- Cut's answer is the count of ones.

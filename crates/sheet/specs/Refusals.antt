@@ -13,7 +13,7 @@ use borrow.Author.Tests.{eqb-false, ne-eqb, le-ltb}
 use Rattle.definitions.specs.Lists.{outside}
 use Rattle.definitions.specs.Network.{tableCheck, Accepted}
 use Rattle.definitions.specs.Forests.{cutAnswer}
-use Rattle.definitions.specs.Route.{endsInOneTree, tooShort, routeAnswer}
+use Rattle.definitions.specs.Route.{oneTreeOf, tooShort, routeAnswer}
 use Rattle.definitions.specs.Form.{scanForm}
 use Rattle.definitions.specs.Text.{Network, readNetwork}
 use Rattle.definitions.specs.Plan.{wishForm, room, sheetFor, planned}
@@ -71,7 +71,7 @@ route-printable n lows highs k from to good =
     (λ _. refuse-as Printable (eqb from to) 11 0 _ (λ _. printable 11 0 (omega arith) (omega arith) refl refl)
     (λ _. rw (refuse-not (tooShort n k (room 32) (room 1062) (room 32000)) 12 0 _
     (rooms-fit n k (accepted n lows highs good .few) (inside-range 1 32 k range .1)))
-    (refuse-as Printable (not (endsInOneTree n lows highs k from to)) 13 0 _ (λ _. printable 13 0 (omega arith) (omega arith) refl refl)
+    (refuse-as Printable (not (oneTreeOf n lows highs k from to)) 13 0 _ (λ _. printable 13 0 (omega arith) (omega arith) refl refl)
     (λ _. tt))))))
 
 sheet-printable : (from to k : ℕ) (network : Network) → Accepted (network .relays) (network .lows) (network .highs)

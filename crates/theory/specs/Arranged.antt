@@ -17,7 +17,7 @@ use Rattle.theory.specs.Ordering.{placed-length, placed-no-repeat, place
 use Rattle.theory.specs.AllRelays.{all-long, all-once, first-of-all}
 use Rattle.theory.specs.Left.{laws-of-left}
 use Rattle.theory.specs.Links.{one-link}
-use Rattle.theory.specs.ForestNumbers.{Placed, LinkForest, link-forest}
+use Rattle.theory.specs.ForestNumbers.{Placed, LinkFacts, link-facts}
 
 -- left(i, v) of a table and an order.
 abbrev pub leftIn : List ℕ → List ℕ → List ℕ → ℕ → ℕ → ℕ
@@ -34,10 +34,10 @@ pub record Arranged (order lows highs : List ℕ) : Type 0 where
   pub laws : LeftLaws (leftIn order lows highs)
 
 pub arranged-forest : (order lows highs : List ℕ) → Arranged order lows highs
-    → (i : ℕ) → i < length lows → Placed order lows highs i → LinkForest order lows highs i
+    → (i : ℕ) → i < length lows → Placed order lows highs i → LinkFacts order lows highs i
 arranged-forest order lows highs arranged i h placed =
     let less = arranged .ordered i h in
-    link-forest order lows highs i h placed (omega arith)
+    link-facts order lows highs i h placed (omega arith)
 
 -- The order as defined has it, whichever relay is first, whichever are candidates, and after any number of steps.
 pub arranged-placed : (n : ℕ) (lows highs : List ℕ) → ProperTable n lows highs → (first : ℕ) (candidates : List ℕ) → NoRepeat candidates

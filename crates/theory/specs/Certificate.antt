@@ -19,7 +19,7 @@ use Rattle.theory.specs.LeftLaws.{LeftLaws}
 use Rattle.theory.specs.Trees.{Alive, TreeLink, alive-lower, alive-left}
 use Rattle.theory.specs.AllRelays.{all-has}
 use Rattle.theory.specs.Ordering.{order-no-repeat, order-has, order-below}
-use Rattle.theory.specs.ForestNumbers.{linkForest, Placed, joined-placed}
+use Rattle.theory.specs.ForestNumbers.{forestIn, Placed, joined-placed}
 use Rattle.theory.specs.Arranged.{leftIn, Arranged, arranged-forest, base-arranged}
 use Rattle.theory.specs.Columns.{MarkedIn, Marked, kept-forest}
 use Rattle.theory.specs.TableLinks.{place-link}
@@ -85,7 +85,7 @@ module _ (order lows highs : List ℕ) (arranged : Arranged order lows highs) (k
       → Joined (LiveIn order dead) (LinkOf lows highs (Kept marks)) a b
   detour a b la lb l =
       let left : ℕ → ℕ → ℕ = leftIn order lows highs in
-      let f : ℕ = linkForest order lows highs (l .0) in
+      let f : ℕ = forestIn order lows highs (l .0) in
       let p : ℕ = placeOf order a in
       let q : ℕ = placeOf order b in
       let placed : Placed order lows highs (l .0) = joined-placed order lows highs a b (l .0) (la .0) (lb .0) (l .2) in

@@ -15,23 +15,23 @@ use Rattle.definitions.specs.Demand.{Kept}
 use Rattle.lists.specs.Maps.{getD-map}
 use Rattle.lists.specs.Overwritten.{getD-overwrite}
 use Rattle.lists.specs.Ranges.{inside}
-use Rattle.theory.specs.ForestNumbers.{linkForest}
+use Rattle.theory.specs.ForestNumbers.{forestIn}
 use Rattle.theory.specs.ForestBound.{forests-length, forests-at, forests-after}
 
 -- A list with the forest number of each link, in any order: 0 for a link that has an end without a place.
 abbrev pub NumberedIn : (order lows highs forests : List ℕ) → Type 0
-NumberedIn order lows highs forests = (i : ℕ) → i < length lows → getD forests i 0 ≡ linkForest order lows highs i
+NumberedIn order lows highs forests = (i : ℕ) → i < length lows → getD forests i 0 ≡ forestIn order lows highs i
 
 -- A list with the mark of each link, by its forest number: 0 for a link that has an end without a place.
 abbrev pub MarkedIn : (order lows highs : List ℕ) (k : ℕ) (marks : List ℕ) → Type 0
-MarkedIn order lows highs k marks = (i : ℕ) → i < length lows → getD marks i 0 ≡ markOf k (linkForest order lows highs i)
+MarkedIn order lows highs k marks = (i : ℕ) → i < length lows → getD marks i 0 ≡ markOf k (forestIn order lows highs i)
 
 -- "A link is kept if Cut marks it 1", and it does so for the links of forests 1 to k.
 pub kept-forest : (order lows highs : List ℕ) (k : ℕ) (marks : List ℕ) → MarkedIn order lows highs k marks
-    → (i : ℕ) → i < length lows → 1 ≤ linkForest order lows highs i → linkForest order lows highs i ≤ k → Kept marks i
+    → (i : ℕ) → i < length lows → 1 ≤ forestIn order lows highs i → forestIn order lows highs i ≤ k → Kept marks i
 unfolding markOf
 kept-forest order lows highs k marks marked i h some few =
-    marked i h ∙ (rw (inside 1 k (linkForest order lows highs i) some few))
+    marked i h ∙ (rw (inside 1 k (forestIn order lows highs i) some few))
 
 -- A mark is 0 or 1.
 pub mark-small : (k forest : ℕ) → markOf k forest ≤ 1
@@ -50,7 +50,7 @@ abbrev pub Marked : (n : ℕ) (lows highs : List ℕ) (k : ℕ) (marks : List �
 Marked n lows highs k marks = MarkedIn (orderOf n lows highs) lows highs k marks
 
 module _ (n : ℕ) (lows highs : List ℕ) where
-  pub mark-entry : (k i : ℕ) → i < length lows → getD (marksOf n lows highs k) i 0 ≡ markOf k (linkForest (orderOf n lows highs) lows highs i)
+  pub mark-entry : (k i : ℕ) → i < length lows → getD (marksOf n lows highs k) i 0 ≡ markOf k (forestIn (orderOf n lows highs) lows highs i)
   unfolding marksOf
   mark-entry k i h =
       getD-map (markOf k) (forestsOf n lows highs) i 0 0 (omega (arith, forests-length n lows highs))

@@ -26,39 +26,39 @@ use Rattle.lists.specs.Counting.{count-table, length-keep, no-longer}
 use Rattle.lists.specs.Totals.{total-counts}
 use Rattle.theory.specs.LeftLaws.{index-below}
 use Rattle.theory.specs.Ordering.{order-length}
-use Rattle.theory.specs.ForestNumbers.{earlierPlace, laterPlace, linkForest, Placed, AllPlaced, links-placed}
+use Rattle.theory.specs.ForestNumbers.{earlierPlace, laterPlace, forestIn, Placed, AllPlaced, links-placed}
 use Rattle.theory.specs.Arranged.{leftIn, Arranged, arranged-forest, base-arranged}
 
 -- The indices of the links of forest f.
 unfoldable pub linksIn : List ℕ → List ℕ → List ℕ → ℕ → List ℕ
-linksIn order lows highs f = keep (λ j. eqb f (linkForest order lows highs j)) (table (λ r. r) 0 (length lows))
+linksIn order lows highs f = keep (λ j. eqb f (forestIn order lows highs j)) (table (λ r. r) 0 (length lows))
 
 -- Over any order; a link without a forest may be in the table.
 module _ (order lows highs : List ℕ) (arranged : Arranged order lows highs) where
   -- The number of a link's forest is below its later place.
   forest-below : (i : ℕ) → i < length lows → Placed order lows highs i
-      → linkForest order lows highs i < laterPlace order lows highs i
+      → forestIn order lows highs i < laterPlace order lows highs i
   forest-below i h placed =
       let link = arranged-forest order lows highs arranged i h placed in
-      index-below (leftIn order lows highs) (arranged .laws) (linkForest order lows highs i)
+      index-below (leftIn order lows highs) (arranged .laws) (forestIn order lows highs i)
       (laterPlace order lows highs i) (link .forest) (omega (arith, link .isLeft, link .some))
 
   pub forest-range : (i : ℕ) → i < length lows → Placed order lows highs i
-      → (1 ≤ linkForest order lows highs i) × (linkForest order lows highs i < length order)
+      → (1 ≤ forestIn order lows highs i) × (forestIn order lows highs i < length order)
   forest-range i h placed =
       let link = arranged-forest order lows highs arranged i h placed in
       omega (arith, link .forest, link .within, forest-below i h placed)
 
   module _ (f : ℕ) (all : AllPlaced order lows highs f) where
     in-forest : (j : ℕ) → has (linksIn order lows highs f) j ≡ true
-        → (j < length lows) × (f ≡ linkForest order lows highs j) × Placed order lows highs j
+        → (j < length lows) × (f ≡ forestIn order lows highs j) × Placed order lows highs j
     unfolding linksIn
     in-forest j h =
-        let test : ℕ → Bool = λ x. eqb f (linkForest order lows highs x) in
+        let test : ℕ → Bool = λ x. eqb f (forestIn order lows highs x) in
         let range = table (λ r. r) 0 (length lows) in
         let both = and-both (has range j) (test j) (sym (has-keep test range j) ∙ h) in
         let within : j < length lows = omega (arith, range-bounds 0 (length lows) j (both .0)) in
-        let number : f ≡ linkForest order lows highs j = eqb-true f (linkForest order lows highs j) (both .1) in
+        let number : f ≡ forestIn order lows highs j = eqb-true f (forestIn order lows highs j) (both .1) in
         (within, number, all j within (sym number))
 
     -- The later place tells the link of a forest: left gives the earlier one.
@@ -87,7 +87,7 @@ module _ (order lows highs : List ℕ) (arranged : Arranged order lows highs) wh
     pub forest-size : length (linksIn order lows highs f) ≤ length order - f
     unfolding linksIn
     forest-size =
-        let test : ℕ → Bool = λ x. eqb f (linkForest order lows highs x) in
+        let test : ℕ → Bool = λ x. eqb f (forestIn order lows highs x) in
         let places = map (laterPlace order lows highs) (linksIn order lows highs f) in
         let unique : NoRepeat places =
         no-repeat-map (laterPlace order lows highs) (linksIn order lows highs f) told-by-place

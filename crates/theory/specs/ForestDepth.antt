@@ -24,7 +24,7 @@ use Rattle.lists.specs.Members.{has-at, has-keep, index-of, range-bounds, range
 use Rattle.lists.specs.Distinct.{range-no-repeat}
 use Rattle.lists.specs.Counting.{count-length, count-table, length-keep, no-longer}
 use Rattle.theory.specs.LeftLaws.{LeftLaws}
-use Rattle.theory.specs.ForestNumbers.{laterPlace, linkForest, left-link, forest-of-link}
+use Rattle.theory.specs.ForestNumbers.{laterPlace, forestIn, left-is-link, accepted-link-facts}
 use Rattle.theory.specs.Arranged.{leftIn, Arranged, base-arranged}
 use Rattle.theory.specs.ForestBound.{forests-at}
 
@@ -78,9 +78,9 @@ module _ (order lows highs : List ℕ) (arranged : Arranged order lows highs) wh
   own-links c w some =
       omega (
         arith,
-        no-longer (map (linkForest order lows highs) own) (table (λ r. r) 1 c) (range-no-repeat 1 c) numbered,
+        no-longer (map (forestIn order lows highs) own) (table (λ r. r) 1 c) (range-no-repeat 1 c) numbered,
         length-table (λ (r : ℕ). r) 1 c,
-        length-map own (linkForest order lows highs),
+        length-map own (forestIn order lows highs),
         length-keep test range,
         count-table (eqb w) (laterPlace order lows highs) 0 (length lows),
       )
@@ -100,10 +100,10 @@ module _ (order lows highs : List ℕ) (arranged : Arranged order lows highs) wh
           (λ less. arranged .laws .rises f c w one less some .0)
           (λ more. let same : c ≡ f = omega arith in subst (λ (g : ℕ). 0 < leftIn order lows highs g w) same some)
 
-      numbered : (f : ℕ) → has (table (λ r. r) 1 c) f ≡ true → has (map (linkForest order lows highs) own) f ≡ true
+      numbered : (f : ℕ) → has (table (λ r. r) 1 c) f ≡ true → has (map (forestIn order lows highs) own) f ≡ true
       numbered f h =
           let bounds = range-bounds 1 c f h in
-          let link = left-link order lows highs (arranged .unique) f w (there f (bounds .0) (omega (arith, bounds .1))) in
+          let link = left-is-link order lows highs (arranged .unique) f w (there f (bounds .0) (omega (arith, bounds .1))) in
           let i = link .0 in
           let isOwn : has own i ≡ true =
           has-keep test range i
@@ -111,10 +111,10 @@ module _ (order lows highs : List ℕ) (arranged : Arranged order lows highs) wh
           (range-has 0 (length lows) i (omega arith) (omega (arith, link .1)))
           (eq-eqb w (laterPlace order lows highs i) (sym (link .4))) in
           let at = index-of own i isOwn in
-          let number : getD (map (linkForest order lows highs) own) (at .0) 0 ≡ f =
-          getD-map (linkForest order lows highs) own (at .0) 0 0 (at .1) ∙ ap (linkForest order lows highs) (at .2) ∙ link .5 in
+          let number : getD (map (forestIn order lows highs) own) (at .0) 0 ≡ f =
+          getD-map (forestIn order lows highs) own (at .0) 0 0 (at .1) ∙ ap (forestIn order lows highs) (at .2) ∙ link .5 in
           rw number at
-          (has-at (map (linkForest order lows highs) own) (at .0) (omega (arith, at .1, length-map own (linkForest order lows highs))))
+          (has-at (map (forestIn order lows highs) own) (at .0) (omega (arith, at .1, length-map own (forestIn order lows highs))))
 
   pub table-depth : (c w : ℕ) → 0 < leftIn order lows highs c w → c * suc c ≤ 2 * length lows
   table-depth c w some =
@@ -132,7 +132,7 @@ pub number-bound : (n : ℕ) (lows highs : List ℕ) → Accepted n lows highs �
     → getD (forestsOf n lows highs) i 0 * suc (getD (forestsOf n lows highs) i 0) ≤ 2 * length lows
 number-bound n lows highs ok i h =
     let order = orderOf n lows highs in
-    let link = forest-of-link n lows highs ok i h in
+    let link = accepted-link-facts n lows highs ok i h in
     rw (forests-at n lows highs i h)
-    (table-depth order lows highs (base-arranged n lows highs ok) (linkForest order lows highs i) (laterPlace order lows highs i)
+    (table-depth order lows highs (base-arranged n lows highs ok) (forestIn order lows highs i) (laterPlace order lows highs i)
     (omega (arith, link .some, link .isLeft)))

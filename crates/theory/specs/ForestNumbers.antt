@@ -29,8 +29,8 @@ abbrev pub laterPlace : List ℕ → List ℕ → List ℕ → ℕ → ℕ
 laterPlace order lows highs i = max (placeOf order (getD lows i 0)) (placeOf order (getD highs i 0))
 
 -- The forest number of link i.
-abbrev pub linkForest : List ℕ → List ℕ → List ℕ → ℕ → ℕ
-linkForest order lows highs i = forestOf (linked lows highs) order lows highs i
+abbrev pub forestIn : List ℕ → List ℕ → List ℕ → ℕ → ℕ
+forestIn order lows highs i = forestOf (linked lows highs) order lows highs i
 
 -- Both ends of link i have a place.
 abbrev pub Placed : List ℕ → List ℕ → List ℕ → ℕ → Type 0
@@ -38,10 +38,10 @@ Placed order lows highs i = (has order (getD lows i 0) ≡ true) × (has order (
 
 -- Both ends of each link of forest f have a place: so it is of every forest from 1 on (`forest-placed`).
 abbrev pub AllPlaced : List ℕ → List ℕ → List ℕ → ℕ → Type 0
-AllPlaced order lows highs f = (i : ℕ) → i < length lows → linkForest order lows highs i ≡ f → Placed order lows highs i
+AllPlaced order lows highs f = (i : ℕ) → i < length lows → forestIn order lows highs i ≡ f → Placed order lows highs i
 
 -- Link i in an order: its places, its forest, and that left gives the earlier place.
-pub record LinkForest (order lows highs : List ℕ) (i : ℕ) : Type 0 where
+pub record LinkFacts (order lows highs : List ℕ) (i : ℕ) : Type 0 where
   pub some : 1 ≤ earlierPlace order lows highs i
   pub under : earlierPlace order lows highs i < laterPlace order lows highs i
   pub within : laterPlace order lows highs i ≤ length order
@@ -52,13 +52,13 @@ pub record LinkForest (order lows highs : List ℕ) (i : ℕ) : Type 0 where
       ≡ earlierPlace order lows highs i
 
 module _ (order lows highs : List ℕ) where
-  forest-facts : (i : ℕ) → i < length lows → 1 ≤ earlierPlace order lows highs i
+  facts-from : (i : ℕ) → i < length lows → 1 ≤ earlierPlace order lows highs i
       → earlierPlace order lows highs i < laterPlace order lows highs i
       → laterPlace order lows highs i ≤ length order
       → joins lows highs (relayAt order (earlierPlace order lows highs i)) (relayAt order (laterPlace order lows highs i)) i ≡ true
-      → LinkForest order lows highs i
+      → LinkFacts order lows highs i
   unfolding forestOf
-  forest-facts i h some under within ends =
+  facts-from i h some under within ends =
       let u = earlierPlace order lows highs i in
       let v = laterPlace order lows highs i in
       let f = left-forest (linked lows highs) order u v some under within
@@ -72,9 +72,9 @@ module _ (order lows highs : List ℕ) where
         isLeft = f .1;
       }
 
-  pub link-forest : (i : ℕ) → i < length lows → Placed order lows highs i → getD lows i 0 ≢ getD highs i 0
-      → LinkForest order lows highs i
-  link-forest i h placed apart = go (ltb p q) refl (ltb q p) refl
+  pub link-facts : (i : ℕ) → i < length lows → Placed order lows highs i → getD lows i 0 ≢ getD highs i 0
+      → LinkFacts order lows highs i
+  link-facts i h placed apart = go (ltb p q) refl (ltb q p) refl
     where
       p : ℕ
       p = placeOf order (getD lows i 0)
@@ -88,18 +88,18 @@ module _ (order lows highs : List ℕ) where
       high : (1 ≤ q) × (q ≤ length order) × (relayAt order q ≡ getD highs i 0)
       high = relay-of-place order (getD highs i 0) (placed .1)
 
-      go : (s : Bool) → ltb p q ≡ s → (t : Bool) → ltb q p ≡ t → LinkForest order lows highs i
+      go : (s : Bool) → ltb p q ≡ s → (t : Bool) → ltb q p ≡ t → LinkFacts order lows highs i
       go true e t f =
           let less : p < q = ltb-true p q e in
           let least : min p q ≡ p = omega arith in
           let most : max p q ≡ q = omega arith in
-          forest-facts i h (omega (arith, low .0)) (omega arith) (omega (arith, high .1))
+          facts-from i h (omega (arith, low .0)) (omega arith) (omega (arith, high .1))
           (rw (least, most) (joins-low-high lows highs (relayAt order p) (relayAt order q) i (sym (low .2)) (sym (high .2))))
       go false e true f =
           let less : q < p = ltb-true q p f in
           let least : min p q ≡ q = omega arith in
           let most : max p q ≡ p = omega arith in
-          forest-facts i h (omega (arith, high .0)) (omega arith) (omega (arith, low .1))
+          facts-from i h (omega (arith, high .0)) (omega arith) (omega (arith, low .1))
           (rw (least, most) (joins-high-low lows highs (relayAt order q) (relayAt order p) i (sym (low .2)) (sym (high .2))))
       go false e false f =
           let same : p ≡ q = omega (arith, ltb-false p q e, ltb-false q p f) in
@@ -123,14 +123,14 @@ module _ (order lows highs : List ℕ) where
       go (inr p) = (ap (has order) (p .0) ∙ hb, ap (has order) (p .1) ∙ ha)
 
   -- A left entry is a link of that forest.
-  pub left-link : NoRepeat order → (f v : ℕ) → 0 < left (linked lows highs) order f v
+  pub left-is-link : NoRepeat order → (f v : ℕ) → 0 < left (linked lows highs) order f v
       → (i : ℕ) × (i < length lows)
       × (joins lows highs (relayAt order (left (linked lows highs) order f v)) (relayAt order v) i ≡ true)
       × (earlierPlace order lows highs i ≡ left (linked lows highs) order f v)
       × (laterPlace order lows highs i ≡ v)
       × (forestOf (linked lows highs) order lows highs i ≡ f)
   unfolding forestOf
-  left-link unique f v h =
+  left-is-link unique f v h =
       let w = linked-joined lows highs (relayAt order u) (relayAt order v) (left-linked (linked lows highs) order f v h) in
       let places = go (w .0) (joins-ends lows highs (relayAt order u) (relayAt order v) (w .0) (w .2)) in
       let number : forestOf (linked lows highs) order lows highs (w .0) ≡ f =
@@ -173,16 +173,16 @@ module _ (n : ℕ) (lows highs : List ℕ) where
         order-has n lows highs (getD highs i 0) (t .below i h),
       )
 
-  pub forest-of-link : Accepted n lows highs → (i : ℕ) → i < length lows → LinkForest (orderOf n lows highs) lows highs i
-  forest-of-link ok i h =
+  pub accepted-link-facts : Accepted n lows highs → (i : ℕ) → i < length lows → LinkFacts (orderOf n lows highs) lows highs i
+  accepted-link-facts ok i h =
       let less = accepted n lows highs ok .ordered i h in
-      link-forest (orderOf n lows highs) lows highs i h (links-placed ok i h) (omega arith)
+      link-facts (orderOf n lows highs) lows highs i h (links-placed ok i h) (omega arith)
 
-  pub link-of-left : (f v : ℕ) → 0 < leftOf n lows highs f v
+  pub leftOf-is-link : (f v : ℕ) → 0 < leftOf n lows highs f v
       → (i : ℕ) × (i < length lows)
       × (joins lows highs (relayAt (orderOf n lows highs) (leftOf n lows highs f v)) (relayAt (orderOf n lows highs) v) i ≡ true)
       × (earlierPlace (orderOf n lows highs) lows highs i ≡ leftOf n lows highs f v)
       × (laterPlace (orderOf n lows highs) lows highs i ≡ v)
       × (forestOf (linked lows highs) (orderOf n lows highs) lows highs i ≡ f)
   unfolding leftOf
-  link-of-left = left-link (orderOf n lows highs) lows highs (order-no-repeat n lows highs)
+  leftOf-is-link = left-is-link (orderOf n lows highs) lows highs (order-no-repeat n lows highs)

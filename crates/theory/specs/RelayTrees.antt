@@ -12,7 +12,7 @@ use Rattle.definitions.specs.Lists.{has}
 use Rattle.definitions.specs.Network.{linked, Accepted}
 use Rattle.definitions.specs.Order.{orderOf, placeOf, relayAt}
 use Rattle.definitions.specs.Forests.{earlier, oneTree}
-use Rattle.definitions.specs.Route.{leftOf, endsInOneTree}
+use Rattle.definitions.specs.Route.{leftOf, oneTreeOf}
 use Rattle.definitions.specs.Demand.{Joined, OneTree}
 use Rattle.theory.specs.JoinedRelays.{joined-sym, joined-map}
 use Rattle.theory.specs.LeftLaws.{LeftLaws}
@@ -110,8 +110,8 @@ module _ (n : ℕ) (lows highs : List ℕ) (ok : Accepted n lows highs) (forests
       tree-alive (orderOf n lows highs) lows highs (base-arranged n lows highs ok) forests numbered f all-placed a b
       (order-has n lows highs a ha) (order-has n lows highs b hb) differ
 
-  pub one-tree-test : OneTree lows highs forests f a b ↔ (endsInOneTree n lows highs f a b ≡ true)
-  unfolding endsInOneTree leftOf
+  pub one-tree-test : OneTree lows highs forests f a b ↔ (oneTreeOf n lows highs f a b ≡ true)
+  unfolding oneTreeOf leftOf
   one-tree-test =
       tree-test (orderOf n lows highs) lows highs (base-arranged n lows highs ok) forests numbered f all-placed a b
       (order-has n lows highs a ha) (order-has n lows highs b hb) differ

@@ -12,7 +12,7 @@ use lib.Seq.{take-all}
 use Rattle.definitions.specs.Outcome.{refused, done, refuseIf, andThen}
 use Rattle.definitions.specs.Lists.{overwrite, total, joinAll}
 use Rattle.definitions.specs.Network.{Accepted}
-use Rattle.definitions.specs.Route.{routesOf, endsInOneTree, tooShort, routeAnswer, countsAfter, routeRelaysAfter}
+use Rattle.definitions.specs.Route.{routesOf, oneTreeOf, tooShort, routeAnswer, countsAfter, routeRelaysAfter}
 use Rattle.definitions.specs.Demand.{OneTree, cutUp, RouteHolds, Apart, RoutesHold, RouteDelivers}
 use Rattle.lists.specs.Outcomes.{if-done}
 use Rattle.lists.specs.Overwritten.{take-overwrite}
@@ -26,20 +26,20 @@ module _ (n : ℕ) (lows highs : List ℕ) (ok : Accepted n lows highs) (k : ℕ
     (from to : ℕ) (hf : from < n) (ht : to < n) (differ : from ≢ to)
     (counts relays scratch : List ℕ) (room : tooShort n k counts relays scratch ≡ false) where
   -- Nothing but 13 is left to refuse.
-  answer-by-test : (b : Bool) → endsInOneTree n lows highs k from to ≡ b
+  answer-by-test : (b : Bool) → oneTreeOf n lows highs k from to ≡ b
       → routeAnswer n lows highs k from to counts relays scratch
       ≡ refuseIf (not b) 13 0 (done (length (joinAll (routesOf n lows highs k from to)) ∷ []))
   unfolding routeAnswer andThen refuseIf
   answer-by-test b e =
       rw (ok, inside 1 32 k one most, lt-leb n from hf, lt-leb n to ht, ne-eqb from to differ, room, e)
 
-  answer-done : endsInOneTree n lows highs k from to ≡ true
+  answer-done : oneTreeOf n lows highs k from to ≡ true
       → routeAnswer n lows highs k from to counts relays scratch ≡ done (length (joinAll (routesOf n lows highs k from to)) ∷ [])
   unfolding refuseIf
   answer-done e = answer-by-test true e
 
   -- What stands in the two lists, once Route has answered.
-  counts-written : endsInOneTree n lows highs k from to ≡ true → length (routesOf n lows highs k from to) ≡ k
+  counts-written : oneTreeOf n lows highs k from to ≡ true → length (routesOf n lows highs k from to) ≡ k
       → take k (countsAfter n lows highs k from to counts relays scratch) ≡ map length (routesOf n lows highs k from to)
   unfolding countsAfter
   counts-written e number =
@@ -50,7 +50,7 @@ module _ (n : ℕ) (lows highs : List ℕ) (ok : Accepted n lows highs) (k : ℕ
       ∙ take-overwrite (map length rs) counts k (omega (arith, length-map rs length))
       ∙ take-all k (map length rs) (omega (arith, length-map rs length))
 
-  routes-written : endsInOneTree n lows highs k from to ≡ true → length (routesOf n lows highs k from to) ≡ k
+  routes-written : oneTreeOf n lows highs k from to ≡ true → length (routesOf n lows highs k from to) ≡ k
       → cutUp (take k (countsAfter n lows highs k from to counts relays scratch)) (routeRelaysAfter n lows highs k from to counts relays scratch)
       ≡ routesOf n lows highs k from to
   unfolding routeRelaysAfter overwrite
@@ -69,7 +69,7 @@ module _ (n : ℕ) (lows highs : List ℕ) (ok : Accepted n lows highs) (k : ℕ
         (countsAfter n lows highs k from to counts relays scratch) (routeRelaysAfter n lows highs k from to counts relays scratch)
     delivered tree =
         let rs : List (List ℕ) = routesOf n lows highs k from to in
-        let e : endsInOneTree n lows highs k from to ≡ true =
+        let e : oneTreeOf n lows highs k from to ≡ true =
         one-tree-test n lows highs ok forests numbered k from to hf ht differ .0 tree in
         let holds : RelayRoutes n lows highs marks k from to rs =
         routes-hold n lows highs ok k one marks marked from to hf ht differ
@@ -87,7 +87,7 @@ module _ (n : ℕ) (lows highs : List ℕ) (ok : Accepted n lows highs) (k : ℕ
           },
         )
 
-    refusal : (b : Bool) → endsInOneTree n lows highs k from to ≡ b → (OneTree lows highs forests k from to → ⊥)
+    refusal : (b : Bool) → oneTreeOf n lows highs k from to ≡ b → (OneTree lows highs forests k from to → ⊥)
         → routeAnswer n lows highs k from to counts relays scratch ≡ refused 13 0
     unfolding refuseIf
     refusal true e none = absurd (none (one-tree-test n lows highs ok forests numbered k from to hf ht differ .1 e))
@@ -105,6 +105,6 @@ module _ (n : ℕ) (lows highs : List ℕ) (ok : Accepted n lows highs) (k : ℕ
                 let gives = delivered tree .0 in
                 let z : _≡_ {A = ℕ} 0 1 = cc in
                 omega arith,
-            refusal (endsInOneTree n lows highs k from to) refl,
+            refusal (oneTreeOf n lows highs k from to) refl,
           );
         }

@@ -12,16 +12,16 @@ use Rattle.definitions.specs.Order.{placeOf, relayAt}
 use Rattle.definitions.specs.Demand.{LinkOf, InForest, Kept}
 use Rattle.theory.specs.Trees.{TreeLink, treeLink-sym}
 use Rattle.theory.specs.Links.{joins-ends, joins-sym}
-use Rattle.theory.specs.ForestNumbers.{linkForest, Placed, AllPlaced, places-placed, left-link}
+use Rattle.theory.specs.ForestNumbers.{forestIn, Placed, AllPlaced, places-placed, left-is-link}
 use Rattle.theory.specs.Arranged.{leftIn, Arranged, arranged-forest}
 use Rattle.theory.specs.Columns.{NumberedIn, MarkedIn, kept-forest}
 
 module _ (order lows highs : List ℕ) (arranged : Arranged order lows highs) where
   -- A link of forest f between two places is a link of the table between their relays.
   pub table-link : (f u v : ℕ) → TreeLink (leftIn order lows highs) f u v
-      → LinkOf lows highs (λ i. Placed order lows highs i × (linkForest order lows highs i ≡ f)) (relayAt order u) (relayAt order v)
+      → LinkOf lows highs (λ i. Placed order lows highs i × (forestIn order lows highs i ≡ f)) (relayAt order u) (relayAt order v)
   table-link f u v (inl p) =
-      let r = left-link order lows highs (arranged .unique) f u (omega arith) in (
+      let r = left-is-link order lows highs (arranged .unique) f u (omega arith) in (
         r .0,
         r .1,
         subst (λ (w : ℕ). joins lows highs (relayAt order u) (relayAt order w) (r .0) ≡ true) (p .1)
@@ -29,7 +29,7 @@ module _ (order lows highs : List ℕ) (arranged : Arranged order lows highs) wh
         (places-placed order lows highs (r .0) (omega (arith, r .3)), r .5),
       )
   table-link f u v (inr p) =
-      let r = left-link order lows highs (arranged .unique) f v (omega arith) in (
+      let r = left-is-link order lows highs (arranged .unique) f v (omega arith) in (
         r .0,
         r .1,
         subst (λ (w : ℕ). joins lows highs (relayAt order w) (relayAt order v) (r .0) ≡ true) (p .1) (r .2),
@@ -38,11 +38,11 @@ module _ (order lows highs : List ℕ) (arranged : Arranged order lows highs) wh
 
   -- The two relays of link i of the table, in the order of the table.
   own-link : (i : ℕ) → i < length lows → Placed order lows highs i
-      → TreeLink (leftIn order lows highs) (linkForest order lows highs i) (placeOf order (getD lows i 0)) (placeOf order (getD highs i 0))
+      → TreeLink (leftIn order lows highs) (forestIn order lows highs i) (placeOf order (getD lows i 0)) (placeOf order (getD highs i 0))
   own-link i h placed =
       let p : ℕ = placeOf order (getD lows i 0) in
       let q : ℕ = placeOf order (getD highs i 0) in
-      let left : ℕ → ℕ = leftIn order lows highs (linkForest order lows highs i) in
+      let left : ℕ → ℕ = leftIn order lows highs (forestIn order lows highs i) in
       let r = arranged-forest order lows highs arranged i h placed in
       by-cases (decLt p q)
       (λ less.
@@ -56,16 +56,16 @@ module _ (order lows highs : List ℕ) (arranged : Arranged order lows highs) wh
 
   -- A link of the table is a link between its relays' places, in the forest of its number.
   pub place-link : (i a b : ℕ) → i < length lows → Placed order lows highs i → joins lows highs a b i ≡ true
-      → TreeLink (leftIn order lows highs) (linkForest order lows highs i) (placeOf order a) (placeOf order b)
+      → TreeLink (leftIn order lows highs) (forestIn order lows highs i) (placeOf order a) (placeOf order b)
   place-link i a b h placed e = go (joins-ends lows highs a b i e)
     where
       Link : ℕ → ℕ → Type 0
-      Link x y = TreeLink (leftIn order lows highs) (linkForest order lows highs i) (placeOf order x) (placeOf order y)
+      Link x y = TreeLink (leftIn order lows highs) (forestIn order lows highs i) (placeOf order x) (placeOf order y)
 
       go : ((getD lows i 0 ≡ a) × (getD highs i 0 ≡ b)) ⊎ ((getD lows i 0 ≡ b) × (getD highs i 0 ≡ a)) → Link a b
       go (inl p) = subst₂ Link (p .0) (p .1) (own-link i h placed)
       go (inr p) =
-          treeLink-sym (leftIn order lows highs) (linkForest order lows highs i) (placeOf order b) (placeOf order a)
+          treeLink-sym (leftIn order lows highs) (forestIn order lows highs i) (placeOf order b) (placeOf order a)
           (subst₂ Link (p .0) (p .1) (own-link i h placed))
 
   -- With lists of forest numbers and marks: links of forest f, and kept links.
@@ -78,7 +78,7 @@ module _ (order lows highs : List ℕ) (arranged : Arranged order lows highs) wh
   pub forest-places : (forests : List ℕ) → NumberedIn order lows highs forests → (f : ℕ) → AllPlaced order lows highs f
       → (a b : ℕ) → LinkOf lows highs (InForest forests f) a b → TreeLink (leftIn order lows highs) f (placeOf order a) (placeOf order b)
   forest-places forests numbered f all a b l =
-      let number : linkForest order lows highs (l .0) ≡ f = sym (numbered (l .0) (l .1)) ∙ l .3 in
+      let number : forestIn order lows highs (l .0) ≡ f = sym (numbered (l .0) (l .1)) ∙ l .3 in
       subst (λ (g : ℕ). TreeLink (leftIn order lows highs) g (placeOf order a) (placeOf order b)) number
       (place-link (l .0) a b (l .1) (all (l .0) (l .1) number) (l .2))
 

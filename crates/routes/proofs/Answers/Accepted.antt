@@ -1,4 +1,4 @@
--- Route on an accepted table: `oneTreeIn` over the left table is the definition's `endsInOneTree`, and where it holds,
+-- Route on an accepted table: `oneTreeIn` over the left table is the definition's `oneTreeOf`, and where it holds,
 -- `betweenIn` writes the definition's `routesOf`.
 use Prim.Native.Nat.{ℕ, pred, _+_, _-_, _*_, _≤_, _<_, max}
 use mathlib.Core.Bool.{true}
@@ -12,7 +12,7 @@ use lib.ListN.{length, getD, length-map}
 use lib.Seq.{sets}
 use Rattle.definitions.specs.Lists.{overwrite, joinAll}
 use Rattle.definitions.specs.Order.{orderOf, placeOf, relayAt}
-use Rattle.definitions.specs.Route.{leftOf, routesBetween, routesOf, endsInOneTree}
+use Rattle.definitions.specs.Route.{leftOf, routesBetween, routesOf, oneTreeOf}
 use Rattle.definitions.specs.Network.{Accepted}
 use Rattle.lists.specs.Overwritten.{getD-overwrite-zeros}
 use Rattle.lists.specs.Stores.{sets-overwrite}
@@ -56,8 +56,8 @@ module _ (n : ℕ) (lows highs : List ℕ) (k from to : ℕ) (ok : Accepted n lo
   agree : (i x : ℕ) → 1 ≤ i → i ≤ k → look i x ≡ left i x
   agree i x positive le = table-left n k lows highs old table made i x positive le
 
-  pub tree-tested : oneTreeIn look k p q ≡ endsInOneTree n lows highs k from to
-  unfolding endsInOneTree
+  pub tree-tested : oneTreeIn look k p q ≡ oneTreeOf n lows highs k from to
+  unfolding oneTreeOf
   tree-tested =
       one-tree-same left look (left-laws n lows highs) k p q (λ x. agree k x one (omega arith))
       (relay-placed n lows highs from source .0) (relay-placed n lows highs to goal .0) apart

@@ -13,7 +13,7 @@ use Rattle.definitions.specs.Lists.{overwrite, zeroed, joinAll}
 use Rattle.definitions.specs.Network.{linked, Accepted}
 use Rattle.definitions.specs.Order.{orderOf, placeOf, relayAt, placesOf}
 use Rattle.definitions.specs.Forests.{forestsOf, forestOf}
-use Rattle.definitions.specs.Route.{routesOf, endsInOneTree}
+use Rattle.definitions.specs.Route.{routesOf, oneTreeOf}
 use Rattle.lists.specs.Tables.{length-table, getD-table, getD-zeros}
 use Rattle.lists.specs.Overwritten.{getD-overwrite}
 use Rattle.theory.specs.Places.{relay-placed}
@@ -111,14 +111,14 @@ module _ (n : ℕ) (lows highs : List ℕ) (k from to : ℕ) (counts relays scra
   unfolding answerIn treeAnswer
   over-places = go (oneTreeIn (tableLeft table′ n) k P Q) refl
     where
-      tree : oneTreeIn (tableLeft table′ n) k P Q ≡ endsInOneTree n lows highs k from to
+      tree : oneTreeIn (tableLeft table′ n) k P Q ≡ oneTreeOf n lows highs k from to
       tree =
           tree-tested n lows highs k from to (asked .accepted) (asked .one) (asked .few) (asked .source) (asked .goal) (asked .differ)
           table table′ (made .theTable)
 
       go : (b : Bool) → oneTreeIn (tableLeft table′ n) k P Q ≡ b
           → pick (oneTreeIn (tableLeft table′ n) k P Q) (answered (all .countList) (all .relayList) (done (all .upto ∷ []))) (answered counts relays (refused 13 0))
-          ≡ pick (endsInOneTree n lows highs k from to)
+          ≡ pick (oneTreeOf n lows highs k from to)
           (answered (overwrite (map length routes) counts) (overwrite (joinAll routes) relays) (done (length (joinAll routes) ∷ [])))
           (answered counts relays (refused 13 0))
       go true e =

@@ -12,7 +12,7 @@ use lib.ListN.{length, getD}
 use Rattle.definitions.specs.Outcome.{pick, refused, done, Answer, refuseIf, andThen, ifDone}
 use Rattle.definitions.specs.Lists.{overwrite, zeroed, outside, joinAll, someBelow}
 use Rattle.definitions.specs.Network.{isPair, linkFault, linksCheck, tableCheck, Accepted}
-use Rattle.definitions.specs.Route.{routesOf, endsInOneTree, tooShort, routeAnswer, countsAfter, routeRelaysAfter, scratchUsed, scratchAfter}
+use Rattle.definitions.specs.Route.{routesOf, oneTreeOf, tooShort, routeAnswer, countsAfter, routeRelaysAfter, scratchUsed, scratchAfter}
 use Rattle.lists.specs.Tests.{or-false}
 use Rattle.lists.specs.Outcomes.{not-refused, then-done}
 use Rattle.network.specs.Answers.{refusalNumber, refusalPlace, refusalOf}
@@ -90,7 +90,7 @@ module _ (n : ℕ) (lows highs : List ℕ) (k from to : ℕ) (counts relays scra
   wish = wishCheck n k from to (length counts) (length relays) (length scratch)
 
   abbrev last : Answer
-  last = refuseIf (not (endsInOneTree n lows highs k from to)) 13 0 (done (length (joinAll (routesOf n lows highs k from to)) ∷ []))
+  last = refuseIf (not (oneTreeOf n lows highs k from to)) 13 0 (done (length (joinAll (routesOf n lows highs k from to)) ∷ []))
 
   split-answer : routeAnswer n lows highs k from to counts relays scratch ≡ andThen (tableCheck n lows highs) (λ _. andThen wish (λ _. last))
   unfolding routeAnswer wishCheck tooShort refuseIf andThen
@@ -145,9 +145,9 @@ module _ (n : ℕ) (lows highs : List ℕ) (k from to : ℕ) (counts relays scra
           → answered counts′ relays′ answer ≡ treeAnswer n lows highs k from to counts relays → scratch′ ≡ zeroed scratch
           → Promised answer counts′ relays′ scratch′
       unfolding treeAnswer countsAfter routeRelaysAfter scratchAfter ifDone scratchUsed refuseIf
-      route-answered answer counts′ relays′ scratch′ e clear = go (endsInOneTree n lows highs k from to) refl
+      route-answered answer counts′ relays′ scratch′ e clear = go (oneTreeOf n lows highs k from to) refl
         where
-          go : (b : Bool) → endsInOneTree n lows highs k from to ≡ b → Promised answer counts′ relays′ scratch′
+          go : (b : Bool) → oneTreeOf n lows highs k from to ≡ b → Promised answer counts′ relays′ scratch′
           go true eb =
               let parts : answered counts′ relays′ answer
               ≡ answered (overwrite (map length (routesOf n lows highs k from to)) counts) (overwrite (joinAll (routesOf n lows highs k from to)) relays)
