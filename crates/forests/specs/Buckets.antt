@@ -29,29 +29,29 @@ abbrev pub mostCount : ℕ
 mostCount = 77
 
 -- The column of a relay, and the word of a count in a column.
-abbrev pub columnOf : ℕ → ℕ
+abbrev pub columnOf : (r : ℕ) → ℕ
 columnOf r = r / wordBits
 
-abbrev pub wordIn : ℕ → ℕ → ℕ
+abbrev pub wordIn : (g count : ℕ) → ℕ
 wordIn g count = g * columnWords + count
 
 -- The bit of a relay in a word; none of a placed relay, whose count is 0.
-abbrev pub bitFor : ℕ → ℕ → ℕ
+abbrev pub bitFor : (count r : ℕ) → ℕ
 bitFor count r = pick (eqb count 0) 0 (2 ^ (r % wordBits))
 
 -- How many columns n relays have.
-abbrev pub columnsFor : ℕ → ℕ
+abbrev pub columnsFor : (n : ℕ) → ℕ
 columnsFor n = (n + wordBits - 1) / wordBits
 
 -- The word of a count in the column of relay r, and the bit of r in it among all bits.
-unfoldable pub wordOf : ℕ → ℕ → ℕ
+unfoldable pub wordOf : (count r : ℕ) → ℕ
 wordOf count r = wordIn (columnOf r) count
 
-unfoldable pub slotOf : ℕ → ℕ → ℕ
+unfoldable pub slotOf : (count r : ℕ) → ℕ
 slotOf count r = wordOf count r * wordBits + r % wordBits
 
 -- All words of the column of relay r are there.
-abbrev pub HasColumn : List ℕ → ℕ → Type 0
+abbrev pub HasColumn : (bits : List ℕ) (r : ℕ) → Type 0
 HasColumn bits r = wordIn (columnOf r + 1) 0 ≤ length bits
 
 -- A relay's bit is set in the word of its count alone.

@@ -10,24 +10,24 @@ use Rattle.definitions.specs.Outcome.{pick}
 use Rattle.theory.specs.Accepted.{ProperTable}
 
 -- Link i has relay r as an end.
-unfoldable pub touches : List ℕ → List ℕ → ℕ → ℕ → Bool
+unfoldable pub touches : (lows highs : List ℕ) (r i : ℕ) → Bool
 touches lows highs r i = eqb (getD lows i 0) r || eqb (getD highs i 0) r
 
 -- The first of the `count` links from i on that r is an end of; the number behind them if there is none.
-unfoldable pub nextAt : List ℕ → List ℕ → ℕ → ℕ → ℕ → ℕ
+unfoldable pub nextAt : (lows highs : List ℕ) (r count i : ℕ) → ℕ
 nextAt lows highs r zero i = i
 nextAt lows highs r (suc count) i = pick (touches lows highs r i) i (nextAt lows highs r count (suc i))
 
 -- The first of all links from i on that r is an end of; the number of links if there is none.
-unfoldable pub nextFrom : List ℕ → List ℕ → ℕ → ℕ → ℕ
+unfoldable pub nextFrom : (lows highs : List ℕ) (r i : ℕ) → ℕ
 nextFrom lows highs r i = nextAt lows highs r (length lows - i) i
 
 -- The half of link i at relay r: 2 i at its low end, 2 i + 1 at its high end.
-unfoldable pub halfOf : List ℕ → ℕ → ℕ → ℕ
+unfoldable pub halfOf : (lows : List ℕ) (r i : ℕ) → ℕ
 halfOf lows r i = pick (eqb (getD lows i 0) r) (2 * i) (2 * i + 1)
 
 -- The half at r of the first link from i on that r is an end of; twice the number of links if there is none.
-unfoldable pub nextHalf : List ℕ → List ℕ → ℕ → ℕ → ℕ
+unfoldable pub nextHalf : (lows highs : List ℕ) (r i : ℕ) → ℕ
 nextHalf lows highs r i = pick (ltb (nextFrom lows highs r i) (length lows)) (halfOf lows r (nextFrom lows highs r i)) (2 * length lows)
 
 -- No relay has a chain yet, and there is room for all half-links.

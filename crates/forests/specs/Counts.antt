@@ -12,7 +12,7 @@ raisedCount count = pick (eqb count 0) 0 (count + 1)
 
 -- The links that a waiting relay has to placed ones after that link, which is its count before, are the link's forest number;
 -- with a placed relay the number was given before.
-unfoldable pub forestNumber : ℕ → ℕ → ℕ
+unfoldable pub forestNumber : (count old : ℕ) → ℕ
 forestNumber count old = pick (eqb count 0) old count
 
 -- The counts when the first n relays wait and none is placed.

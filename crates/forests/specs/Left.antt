@@ -12,14 +12,14 @@ use Rattle.definitions.specs.Route.{leftOf}
 use Rattle.forests.specs.Fronts.{SameBeyond}
 
 -- Where the entry of forest i and place v stands, both from 1.
-abbrev pub leftIndex : ℕ → ℕ → ℕ → ℕ
+abbrev pub leftIndex : (n i v : ℕ) → ℕ
 leftIndex n i v = (i - 1) * n + (v - 1)
 
 -- The places of the ends of link i, the later and the earlier.
-abbrev pub laterAt : List ℕ → List ℕ → List ℕ → ℕ → ℕ
+abbrev pub laterAt : (lows highs places : List ℕ) (i : ℕ) → ℕ
 laterAt lows highs places i = max (getD places (getD lows i 0) 0) (getD places (getD highs i 0) 0)
 
-abbrev pub earlierAt : List ℕ → List ℕ → List ℕ → ℕ → ℕ
+abbrev pub earlierAt : (lows highs places : List ℕ) (i : ℕ) → ℕ
 earlierAt lows highs places i = min (getD places (getD lows i 0) 0) (getD places (getD highs i 0) 0)
 
 -- What entering link i asks.
@@ -34,7 +34,7 @@ pub record Enterable (n k i : ℕ) (lows highs places forests table : List ℕ) 
   pub index : getD forests i 0 ≤ k → leftIndex n (getD forests i 0) (laterAt lows highs places i) < length table
 
 -- The table with link i entered.
-unfoldable pub entered : ℕ → ℕ → ℕ → List ℕ → List ℕ → List ℕ → List ℕ → List ℕ → List ℕ
+unfoldable pub entered : (n k i : ℕ) (lows highs places forests table : List ℕ) → List ℕ
 entered n k i lows highs places forests table =
     pick (leb (getD forests i 0) k)
     (set table (leftIndex n (getD forests i 0) (laterAt lows highs places i)) (earlierAt lows highs places i))

@@ -84,6 +84,10 @@ pub record Scannable (n : ℕ) (lows highs relays places forests : List ℕ) : T
   pub placeRoom : n ≤ length places
   pub forestRoom : length lows ≤ length forests
 
+-- A small network, which is worked on in small arrays.
+unfoldable pub isSmall : (n m : ℕ) → Bool
+isSmall n m = leb n 128 && leb m 384
+
 -- Arrays with room for the scan, without chains and counts.
 pub record ScanArrays (n : ℕ) (lows first nexts counts bits : List ℕ) : Type 0 where
   pub heads : n ≤ length first
@@ -92,10 +96,6 @@ pub record ScanArrays (n : ℕ) (lows first nexts counts bits : List ℕ) : Type
   pub countRoom : length first ≤ length counts
   pub noCounts : StartCounts 0 counts
   pub sorted : Buckets counts bits
-
--- A small network, which is worked on in small arrays.
-unfoldable pub isSmall : ℕ → ℕ → Bool
-isSmall n m = leb n 128 && leb m 384
 
 -- The same, with chains and counts made, and without forest numbers.
 pub record Startable (n : ℕ) (lows highs first nexts counts bits relays places forests : List ℕ) : Type 0 where

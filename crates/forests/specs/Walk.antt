@@ -15,19 +15,19 @@ use Rattle.forests.specs.Counts.{raisedCount, forestNumber}
 use Rattle.forests.specs.Buckets.{mostCount, Buckets}
 
 -- The end of a link that is not x.
-unfoldable pub otherEnd : ℕ → ℕ → ℕ → ℕ
+unfoldable pub otherEnd : (x low high : ℕ) → ℕ
 otherEnd x low high = pick (eqb low x) high low
 
 -- The end of link i that is not x.
-unfoldable pub farEnd : List ℕ → List ℕ → ℕ → ℕ → ℕ
+unfoldable pub farEnd : (lows highs : List ℕ) (x i : ℕ) → ℕ
 farEnd lows highs x i = otherEnd x (getD lows i 0) (getD highs i 0)
 
 -- The end of a link that its half h is not at: the high one from the low one, and back.
-unfoldable pub acrossOf : ℕ → ℕ → ℕ → ℕ
+unfoldable pub acrossOf : (h low high : ℕ) → ℕ
 acrossOf h low high = pick (eqb (h % 2) 0) high low
 
 -- The end of link h / 2 that its half h is not at.
-unfoldable pub across : List ℕ → List ℕ → ℕ → ℕ
+unfoldable pub across : (lows highs : List ℕ) (h : ℕ) → ℕ
 across lows highs h = acrossOf h (getD lows (h / 2) 0) (getD highs (h / 2) 0)
 
 -- What a visit of the half-link h asks.
@@ -72,5 +72,5 @@ pub record Walkable (x : ℕ) (lows highs first nexts counts bits forests : List
       → getD forests j 0 ≡ 0
 
 -- What it does: x is placed, so that its count is 0, and all its links are visited.
-abbrev pub Walked : ℕ → List ℕ → List ℕ → List ℕ → List ℕ → List ℕ → List ℕ → Type 0
+abbrev pub Walked : (x : ℕ) (lows highs counts counts′ forests forests′ : List ℕ) → Type 0
 Walked x lows highs counts counts′ forests forests′ = WalkedTo lows highs x (length lows) (set counts x 0) counts′ forests forests′

@@ -12,7 +12,7 @@ use Rattle.lists.specs.Below.{some-next, some-same}
 use Rattle.network.specs.Pairs.{pair-below, pair-test}
 
 -- Marked are the pairs of the first i links of the table, of all pairs of n relays.
-abbrev pub Marks : ℕ → (ℕ → Bool) → List ℕ → List ℕ → ℕ → Type 0
+abbrev pub Marks : (n : ℕ) (at : ℕ → Bool) (lows highs : List ℕ) (i : ℕ) → Type 0
 Marks n at lows highs i = (a b : ℕ) → a < b → b < n → at (pairNumber a b) ≡ someBelow (isPair lows highs a b) i
 
 pub marks-none : (n : ℕ) (at : ℕ → Bool) (lows highs : List ℕ) → ((p : ℕ) → p < rowStart n → at p ≡ false)

@@ -26,11 +26,11 @@ faultOf NotBelow = 6
 faultOf Repeated = 7
 
 -- What is wrong with the link a b where `at` tells which pairs were seen before, or 0.
-unfoldable pub faultAt : ℕ → (ℕ → Bool) → ℕ → ℕ → ℕ
+unfoldable pub faultAt : (n : ℕ) (at : ℕ → Bool) (a b : ℕ) → ℕ
 faultAt n at a b = pick (leb n a || leb n b) 5 (pick (leb b a) 6 (pick (at (pairNumber a b)) 7 0))
 
 -- The bits afterwards: a link with no fault is marked.
-unfoldable pub bitsAfter : ℕ → ℕ → ℕ → List ℕ → List ℕ
+unfoldable pub bitsAfter : (n a b : ℕ) (bits : List ℕ) → List ℕ
 bitsAfter n a b bits = pick (eqb (faultAt n (marked bits) a b) 0) (mark bits (pairNumber a b)) bits
 
 -- What `check_link` promises: its answer and the bits afterwards.
@@ -39,7 +39,7 @@ pub record LinkChecked (n a b : ℕ) (bits after : List ℕ) (r : LinkCheck) : T
   pub bitsThen : after ≡ bitsAfter n a b bits
 
 -- The bits have room for the pairs of n relays: one bit for each pair number.
-abbrev pub RoomFor : ℕ → List ℕ → Type 0
+abbrev pub RoomFor : (n : ℕ) (bits : List ℕ) → Type 0
 RoomFor n bits = rowStart n ≤ 64 * length bits
 
 -- The bits hold the pairs of the first i links of the table, of all pairs of n relays.
