@@ -50,13 +50,13 @@ abbrev pub Marked : (n : ℕ) (lows highs : List ℕ) (k : ℕ) (marks : List �
 Marked n lows highs k marks = MarkedIn (orderOf n lows highs) lows highs k marks
 
 module _ (n : ℕ) (lows highs : List ℕ) where
-  mark-entry : (k i : ℕ) → i < length lows → getD (marksOf n lows highs k) i 0 ≡ markOf k (linkForest (orderOf n lows highs) lows highs i)
+  pub mark-entry : (k i : ℕ) → i < length lows → getD (marksOf n lows highs k) i 0 ≡ markOf k (linkForest (orderOf n lows highs) lows highs i)
   unfolding marksOf
   mark-entry k i h =
       getD-map (markOf k) (forestsOf n lows highs) i 0 0 (omega (arith, forests-length n lows highs))
       ∙ ap (markOf k) (forests-at n lows highs i h)
 
-  length-marks : (k : ℕ) → length (marksOf n lows highs k) ≡ length lows
+  pub length-marks : (k : ℕ) → length (marksOf n lows highs k) ≡ length lows
   unfolding marksOf
   length-marks k = length-map (forestsOf n lows highs) (markOf k) ∙ forests-length n lows highs
 

@@ -1,0 +1,1 @@
+// The desk's list of the links worth keeping.
