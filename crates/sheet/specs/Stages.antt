@@ -23,8 +23,7 @@ use Rattle.text_theory.specs.Lines.{read-line}
 use Rattle.text_theory.specs.RoundTrip.{written-read}
 use Rattle.text.specs.Put.{Put}
 use Rattle.text.specs.Written.{stored-overwrite}
-use Rattle.network.specs.Answers.{refusalOf}
-use Rattle.network.specs.Answers.{refusalNumber, refusalPlace}
+use Rattle.network.specs.Answers.{refusalNumber, refusalPlace, refusalOf}
 use Rattle.network.specs.Refusals.{refusal-then}
 use Rattle.network.specs.declared.Refusal.{Refusal}
 use Rattle.network.specs.declared.Refusal.the-variants.{Wish}

@@ -10,10 +10,10 @@ use wish::WishScan;
 use wish::wish_line;
 
 pub mod print;
-mod refusal;
-mod rooms;
+pub mod refusal;
+pub mod rooms;
 mod stages;
-pub mod wish;
+mod wish;
 
 // Prints the sheet or the refused line for an input, from the output's first byte on, and gives its length.
 pub fn plan(input: &[u8], output: &mut [u8; 4608]) -> usize

@@ -1,4 +1,4 @@
-// Printing: the lines of a sheet and the refused line, at an offset of a buffer that has the room.
+// Printing: the lines of a sheet, at an offset of a buffer that has the room.
 // Each gives the offset behind what it wrote.
 ghost use mathlib.Core.List.{[], _∷_, _++_};
 ghost use mathlib.Core.Path.{_≡_};
@@ -8,13 +8,13 @@ ghost use lib.Seq.{slice};
 ghost use Rattle.definitions.specs.Demand.{cutUp};
 ghost use Rattle.definitions.specs.Form.{writeForm};
 ghost use Rattle.definitions.specs.Lists.{total};
-ghost use Rattle.definitions.specs.Plan.{sheetForm, keptForm, refusedForm, spaced, routeLines};
+ghost use Rattle.definitions.specs.Plan.{sheetForm, keptForm, spaced, routeLines};
 ghost use Rattle.text.specs.Put.{Put};
 ghost use Rattle.sheet.specs.Lines.{sheetLines};
 use text::put;
 
 // `(sheet (from FROM) (to TO) (k K))` and its line end.
-pub fn put_wish(output: &mut [u8], at: usize, from: usize, to: usize, k: usize) -> usize
+fn put_wish(output: &mut [u8], at: usize, from: usize, to: usize, k: usize) -> usize
     requires { ⌜ at + length (writeForm sheetForm (from ∷ to ∷ k ∷ [])) ≤ length (now output) ⌝ }
     ensures { λ r. ⌜ Put (now (output .entry)) at (writeForm sheetForm (from ∷ to ∷ k ∷ [])) (now (output .exit)) r ⌝ }
 {
@@ -51,7 +51,7 @@ fn put_route(output: &mut [u8], at: usize, relays: &[u16], first: usize, last: u
 }
 
 // A line for each of the first k routes: the list of relays cut up by the counts.
-pub fn put_routes(output: &mut [u8], at: usize, k: usize, counts: &[u16], relays: &[u16]) -> usize
+fn put_routes(output: &mut [u8], at: usize, k: usize, counts: &[u16], relays: &[u16]) -> usize
     requires { ⌜ k ≤ length (now counts) ⌝ }
     requires { ⌜ total (take k (now counts)) ≤ length (now relays) ⌝ }
     requires { ⌜ at + length (routeLines (cutUp (take k (now counts)) (now relays))) ≤ length (now output) ⌝ }
@@ -80,16 +80,8 @@ pub fn put_kept(output: &mut [u8], at: usize, kept: usize) -> usize
     put::put_word(output, p, b")\n")
 }
 
-// `(refused NUMBER PLACE)` and its line end.
-pub fn put_refused(output: &mut [u8], number: usize, place: usize) -> usize
-    requires { ⌜ length (writeForm refusedForm (number ∷ place ∷ [])) ≤ length (now output) ⌝ }
-    ensures { λ r. ⌜ Put (now (output .entry)) 0 (writeForm refusedForm (number ∷ place ∷ [])) (now (output .exit)) r ⌝ }
-{
-    put::put_pair(output, 0, b"(refused ", number, b" ", place, b")\n")
-}
-
 // A whole sheet: the wish, the routes, the count of kept links, and the end.
-pub fn put_sheet(
+pub(crate) fn put_sheet(
     output: &mut [u8],
     from: usize,
     to: usize,

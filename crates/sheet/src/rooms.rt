@@ -3,7 +3,7 @@ ghost use mathlib.Core.Path.{_≡_};
 ghost use Rattle.definitions.specs.Plan.{room};
 
 // A column of a table, or the marks of its links.
-pub(crate) fn links() -> [u16; 3000]
+pub fn links() -> [u16; 3000]
     ensures { λ r. ⌜ r ≡ room 3000 ⌝ }
 {
     [0u16; 3000]

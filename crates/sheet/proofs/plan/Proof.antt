@@ -5,7 +5,7 @@ use mathlib.Core.Path.{sym, _∙_, ap}
 use native.Mathlib.Omega.{arith}
 use denote.Ref.{now}
 use lib.ListN.{length}
-use Rattle.definitions.specs.Plan.{planned, printed, planText}
+use Rattle.definitions.specs.Plan.{planned, sheetText, printed, planText}
 use Rattle.theory.specs.DemandThree.{demand-three}
 use Rattle.sheet.specs.Wish.{wishGives}
 use Rattle.sheet.specs.Longest.{plan-length}
@@ -21,7 +21,7 @@ enum-known-p : tie.Need-enum-known-p
 enum-known-p c = search needs
 
 put-refusal-requires : tie.Need-put-refusal-requires
-unfolding planText
+unfolding planText printed
 put-refusal-requires c κs =
     let atWishLine = c .before .before .before .before in
     let start = atWishLine .before .before in
@@ -64,6 +64,7 @@ plan-network-requires c κs =
     omega arith
 
 returns : tie.Need-returns
+unfolding printed
 returns c =
     let atP = c .before .before .before in
     let atWishLine = atP .before .before in

@@ -1,35 +1,54 @@
--- `sheet::refusal::put_refusal` meets its contract: the refused line with the number and the place. Assumes nothing.
-use Prim.Native.Nat.{_≤_}
-use mathlib.Core.Path.{sym, subst}
-use denote.Ref.{now}
-use lib.ListN.{length}
-use Rattle.definitions.specs.Outcome.{Outcome}
-use Rattle.definitions.specs.Plan.{Sheet, printed}
-use Rattle.text.specs.Put.{Put}
+-- `sheet::refusal::put_refusal` meets its contract: three words, with the number and the place between them. Assumes nothing.
+use native.Mathlib.Nat.{zero-add}
+use Rattle.definitions.specs.Plan.{refusedForm}
 use borrow.Author.Needs.{needs}
 use Rattle.sheet.proofs.refusal.put_refusal.Statement.{statement}
 use Rattle.sheet.proofs.refusal.put_refusal.Tie as tie
 
-numbered-requires : tie.Need-numbered-requires
-numbered-requires c κs = search needs
+refusal-number-requires : tie.Need-refusal-number-requires
+refusal-number-requires c κs = search needs
 
-put-refused-requires : tie.Need-put-refused-requires
-unfolding printed
-put-refused-requires c κs =
-    subst (λ (outcome : Outcome Sheet). length (printed outcome) ≤ length (now (c .before .before .before .args .output)))
-    (sym (c .before .numbered .ensures)) (c .before .before .before .pre)
+cast-number : tie.Need-cast-number
+cast-number c = search needs
+
+refusal-place-requires : tie.Need-refusal-place-requires
+refusal-place-requires c κs = search needs
+
+slice-aggregate-put-pair : tie.Need-slice-aggregate-put-pair
+slice-aggregate-put-pair c = search needs
+
+slice-aggregate-put-pair-2 : tie.Need-slice-aggregate-put-pair-2
+slice-aggregate-put-pair-2 c = search needs
+
+slice-aggregate-put-pair-3 : tie.Need-slice-aggregate-put-pair-3
+slice-aggregate-put-pair-3 c = search needs
+
+put-pair-requires : tie.Need-put-pair-requires
+unfolding refusedForm
+put-pair-requires c κs =
+    let atPlace = c .before .before .before .before in
+    rw (zero-add, atPlace .before .refusal-number .ensures, atPlace .refusal-place .ensures) (atPlace .before .before .before .pre)
 
 same-length : tie.Need-same-length
 same-length c = search needs
 
 returns : tie.Need-returns
-unfolding printed
+unfolding refusedForm
 returns c =
-    let atNumbered = c .before .before .before .before in
-    let start = atNumbered .before .before in
-    subst
-    (λ (outcome : Outcome Sheet). Put (now (start .args .output)) 0 (printed outcome) (c .before .before .put-refused .last .0) (c .before .before .put-refused .result))
-    (atNumbered .numbered .ensures) (c .before .before .put-refused .ensures)
+    let atPutPair = c .before .before in
+    let atPlace = atPutPair .before .before .before .before .before in
+    rw (← atPlace .before .refusal-number .ensures, ← atPlace .refusal-place .ensures) (atPutPair .put-pair .ensures)
 
 pub put-refusal-spec : {M : Type 1} → statement M
-put-refusal-spec = tie.close (tie.spec numbered-requires put-refused-requires same-length returns)
+put-refusal-spec =
+    tie.close
+    (tie.spec
+    refusal-number-requires
+    cast-number
+    refusal-place-requires
+    slice-aggregate-put-pair
+    slice-aggregate-put-pair-2
+    slice-aggregate-put-pair-3
+    put-pair-requires
+    same-length
+    returns)

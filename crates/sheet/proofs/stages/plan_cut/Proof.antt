@@ -1,6 +1,7 @@
 -- `sheet::stages::plan_cut` meets its contract: Cut refuses, or Route goes on with its count. Assumes nothing.
 use mathlib.Core.Path.{sym, _∙_, ap}
 use denote.Ref.{now}
+use Rattle.definitions.specs.Plan.{printed}
 use Rattle.forests.specs.Answers.{cutOutcome}
 use Rattle.sheet.specs.Stages.{fits-as, put-as, cut-refused, cut-done, cut-rooms}
 use borrow.Author.Needs.{needs}
@@ -20,6 +21,7 @@ enum-known-refusal : tie.Need-enum-known-refusal
 enum-known-refusal c = search needs
 
 put-refusal-requires : tie.Need-put-refusal-requires
+unfolding printed
 put-refusal-requires c κs =
     let atCut = c .before .before .before .before .before in
     let atLinks = atCut .before .before in
@@ -46,6 +48,7 @@ same-length : tie.Need-same-length
 same-length c = search needs
 
 returns : tie.Need-returns
+unfolding printed
 returns c =
     let atRefusal = c .before .before .before .before .before in
     let atCut = atRefusal .before .before .before in

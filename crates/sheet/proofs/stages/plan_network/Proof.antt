@@ -3,6 +3,7 @@
 use mathlib.Core.Path.{sym, _∙_, ap}
 use denote.Ref.{now}
 use lib.Seq.{length-take-le}
+use Rattle.definitions.specs.Plan.{printed}
 use Rattle.text.specs.Answers.{readOutcome}
 use Rattle.sheet.specs.Stages.{fits-as, put-as, read-refused, read-done}
 use borrow.Author.Needs.{needs}
@@ -28,6 +29,7 @@ enum-known-refusal : tie.Need-enum-known-refusal
 enum-known-refusal c = search needs
 
 put-refusal-requires : tie.Need-put-refusal-requires
+unfolding printed
 put-refusal-requires c κs =
     let atRead = c .before .before .before .before .before .before in
     let atLinks2 = atRead .before .before .before in
@@ -108,6 +110,7 @@ same-length : tie.Need-same-length
 same-length c = search needs
 
 returns : tie.Need-returns
+unfolding printed
 returns c =
     let atRefusal = c .before .before .before .before .before in
     let atRead = atRefusal .before .before .before .before in

@@ -4,6 +4,7 @@ use mathlib.Core.List.{List}
 use mathlib.Core.Path.{sym, _∙_, ap, subst}
 use denote.Ref.{now}
 use lib.ListN.{length}
+use Rattle.definitions.specs.Plan.{printed}
 use Rattle.text.specs.Put.{Put}
 use Rattle.routes.specs.Answers.{routeOutcome}
 use Rattle.sheet.specs.Stages.{fits-as, put-as, routes-refused, routes-written}
@@ -36,6 +37,7 @@ enum-known-refusal : tie.Need-enum-known-refusal
 enum-known-refusal c = search needs
 
 put-refusal-requires : tie.Need-put-refusal-requires
+unfolding printed
 put-refusal-requires c κs =
     let atRoute = c .before .before .before .before .before .before .before in
     let atScratch = atRoute .before .before .before .before in
@@ -75,6 +77,7 @@ same-length : tie.Need-same-length
 same-length c = search needs
 
 returns : tie.Need-returns
+unfolding printed
 returns c =
     let atRefusal = c .before .before .before .before .before in
     let atRoute = atRefusal .before .before .before .before .before in
