@@ -7,4 +7,5 @@ pub mod Planned
 pub mod Routes
 pub mod Longest
 pub mod Front
+pub mod ReadStage
 pub mod Stages
