@@ -1,5 +1,7 @@
--- What the desk's list of links is: how far it looks, how long it is, and what it promises.
+-- What the desk's list of links is: how far it looks, how long it gets, what it promises, and the answers of its functions.
 pub mod Reach
 pub mod Listed
 pub mod Longest
 pub mod Promise
+pub mod Lines
+pub mod Stages

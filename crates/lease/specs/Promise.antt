@@ -26,7 +26,7 @@ use Rattle.theory.specs.ForestBound.{forests-length}
 use Rattle.lease.specs.Listed.{leaseOf}
 
 -- The counts of the marks are those of the forest numbers.
-count-ones : (k : ℕ) (forests : List ℕ) → count (eqb 1) (map (markOf k) forests) ≡ count (λ f. not (outside 1 k f)) forests
+pub count-ones : (k : ℕ) (forests : List ℕ) → count (eqb 1) (map (markOf k) forests) ≡ count (λ f. not (outside 1 k f)) forests
 unfolding count markOf
 count-ones k [] = refl
 count-ones k (f ∷ forests) = go (outside 1 k f) (count-ones k forests)
@@ -37,7 +37,7 @@ count-ones k (f ∷ forests) = go (outside 1 k f) (count-ones k forests)
     go true h = omega arith
     go false h = omega arith
 
-count-zeros : (k : ℕ) (forests : List ℕ) → count (eqb 0) (map (markOf k) forests) ≡ count (outside 1 k) forests
+pub count-zeros : (k : ℕ) (forests : List ℕ) → count (eqb 0) (map (markOf k) forests) ≡ count (outside 1 k) forests
 unfolding count markOf
 count-zeros k [] = refl
 count-zeros k (f ∷ forests) = go (outside 1 k f) (count-zeros k forests)
@@ -46,6 +46,14 @@ count-zeros k (f ∷ forests) = go (outside 1 k f) (count-zeros k forests)
         → pick (eqb 0 (pick t 0 1)) 1 0 + count (eqb 0) (map (markOf k) forests) ≡ pick t 1 0 + count (outside 1 k) forests
     go true h = omega arith
     go false h = omega arith
+
+-- Either count is of all the links.
+pub counts-all : (n : ℕ) (lows highs : List ℕ) (k : ℕ)
+    → count (eqb 1) (marksOf n lows highs k) + count (eqb 0) (marksOf n lows highs k) ≡ length lows
+unfolding marksOf
+counts-all n lows highs k =
+    let forests = forestsOf n lows highs in
+    omega (arith, count-ones k forests, count-zeros k forests, count-not (outside 1 k) forests, forests-length n lows highs)
 
 module _ (n : ℕ) (lows highs : List ℕ) (k : ℕ) where
   -- The mark of a link, by its forest number.
@@ -100,7 +108,7 @@ module _ (n : ℕ) (lows highs : List ℕ) (k : ℕ) where
         text = rw (lines-as (length lows) 0 (omega arith));
         keptAre = count-ones k forests;
         droppedAre = count-zeros k forests;
-        all = omega (arith, count-ones k forests, count-zeros k forests, count-not (outside 1 k) forests, forests-length n lows highs);
+        all = counts-all n lows highs k;
         marked = mark-kept;
         survives = λ dead few a b la lb. keeps-joined ok one dead few a b;
       }
