@@ -2,8 +2,10 @@
 -- Assumes nothing.
 use Prim.Native.Nat.{ℕ}
 use mathlib.Core.List.{List, [], _∷_, _++_}
-use lib.ListN.{getD, drop, replicate}
-use Rattle.definitions.specs.Outcome.{Outcome, refused, done, andThen}
+use lib.Dec.{ltb}
+use lib.ListN.{length, getD, drop, replicate}
+use Rattle.definitions.specs.Outcome.{Outcome, refused, done, Answer, refuseIf, andThen, ifDone}
+use Rattle.definitions.specs.Lists.{overwrite}
 use Rattle.definitions.specs.Forests.{cutAnswer}
 use Rattle.definitions.specs.Route.{routesOf, routeAnswer}
 use Rattle.definitions.specs.Form.{bytes, Item, word, numeral, scanForm, onScan, decimal, writeForm}
@@ -85,3 +87,13 @@ printed textOf (done value) = textOf value
 -- What the program writes for what it reads.
 unfoldable pub planText : (input : List ℕ) → List ℕ
 planText input = printed sheetText (planned input)
+
+-- The same as an operation on a lent list, for the C interface: 12 where the list is shorter than what is to be printed. The
+-- answer is the length of what is printed.
+unfoldable pub planAnswer : (input output : List ℕ) → Answer
+planAnswer input output =
+    refuseIf (ltb (length output) (length (planText input))) 12 0 (done (length (planText input) ∷ []))
+
+-- The list afterwards.
+unfoldable pub outputAfter : (input output : List ℕ) → List ℕ
+outputAfter input output = ifDone (planAnswer input output) (overwrite (planText input) output) output

@@ -1,6 +1,6 @@
 -- What a printed sheet promises, as one statement about `planText`: every input gets a sheet whose routes never meet, or the
 -- line of the first refusal met. The statement is a type; the crate `sheet` proves it. Assumes nothing.
-use Prim.Native.Nat.{ℕ, _<_}
+use Prim.Native.Nat.{ℕ, _≤_, _<_}
 use mathlib.Core.List.{List, [], _∷_}
 use mathlib.Core.Logic.{_⊎_, _≢_}
 use mathlib.Core.Path.{_≡_}
@@ -23,9 +23,11 @@ pub record Asked (input : List ℕ) (from to k : ℕ) (network : Network) : Type
   pub read : readNetwork (drop behind input) 3000 3000 ≡ done network
   pub accepted : Accepted (network .relays) (network .lows) (network .highs)
 
--- The routes of a sheet for a network, where `marks` are Cut's: k routes from `from` to `to` along kept links, none repeats a
--- relay, no two share a link or a relay but the ends; and `kept` is the count of Cut's ones.
+-- The routes of a sheet for a network, where `marks` are Cut's: k routes (1 to 32) from `from` to `to` along kept links, none
+-- repeats a relay, no two share a link or a relay but the ends; and `kept` is the count of Cut's ones.
 pub record SheetHolds (lows highs marks : List ℕ) (sheet : Sheet) : Type 0 where
+  pub some : 1 ≤ sheet .k
+  pub few : sheet .k ≤ 32
   pub many : length (sheet .routes) ≡ sheet .k
   pub differ : sheet .from ≢ sheet .to
   pub each : (i : ℕ) → i < sheet .k → RouteHolds lows highs marks (sheet .from) (sheet .to) (getD (sheet .routes) i [])

@@ -1,33 +1,54 @@
--- The refusals of an outcome have numbers and places up to a bound, step by step. Assumes nothing.
+-- What holds of the number and the place of a refusal, step by step; and with bounds for both. Assumes nothing.
 use Prim.Native.Nat.{ℕ, _≤_}
 use mathlib.Core.Bool.{Bool, true, false}
 use mathlib.Core.Path.{_≡_, refl}
 use native.Mathlib.Omega.{arith}
 use Rattle.definitions.specs.Outcome.{pick, Outcome, refused, done, refuseIf, andThen}
 
+abbrev pub RefusedAs : {A : Type 0} → (ℕ → ℕ → Type 0) → Outcome A → Type 0
+RefusedAs P (refused number place) = P number place
+RefusedAs P (done value) = Unit {0}
+
+pub as-more : {A : Type 0} (P Q : ℕ → ℕ → Type 0) (outcome : Outcome A) → ((number place : ℕ) → P number place → Q number place)
+    → RefusedAs P outcome → RefusedAs Q outcome
+as-more P Q (refused number place) more holds = more number place holds
+as-more P Q (done value) more holds = tt
+
+pub refuse-as : {A : Type 0} (P : ℕ → ℕ → Type 0) (b : Bool) (number place : ℕ) (rest : Outcome A)
+    → (b ≡ true → P number place) → (b ≡ false → RefusedAs P rest) → RefusedAs P (refuseIf b number place rest)
+unfolding refuseIf
+refuse-as P true number place rest here after = here refl
+refuse-as P false number place rest here after = after refl
+
+pub then-as : {A B : Type 0} (P : ℕ → ℕ → Type 0) (outcome : Outcome A) (next : A → Outcome B) → RefusedAs P outcome
+    → ((value : A) → outcome ≡ done value → RefusedAs P (next value)) → RefusedAs P (andThen outcome next)
+unfolding andThen
+then-as P (refused number place) next holds after = holds
+then-as P (done value) next holds after = after value refl
+
+-- Numbers and places up to a bound.
+abbrev pub Bounds : (numbers places number place : ℕ) → Type 0
+Bounds numbers places number place = (number ≤ numbers) × (place ≤ places)
+
 abbrev pub RefusedWithin : {A : Type 0} → ℕ → ℕ → Outcome A → Type 0
-RefusedWithin numbers places (refused number place) = (number ≤ numbers) × (place ≤ places)
-RefusedWithin numbers places (done value) = Unit {0}
+RefusedWithin numbers places outcome = RefusedAs (Bounds numbers places) outcome
 
 pub within-more : {A : Type 0} (numbers places more further : ℕ) (outcome : Outcome A) → numbers ≤ more → places ≤ further
     → RefusedWithin numbers places outcome → RefusedWithin more further outcome
-within-more numbers places more further (refused number place) h l within = (omega arith, omega arith)
-within-more numbers places more further (done value) h l within = tt
+within-more numbers places more further outcome h l within =
+    as-more (Bounds numbers places) (Bounds more further) outcome (λ number place w. (omega (arith, w .0), omega (arith, w .1))) within
 
 pub refuse-within : {A : Type 0} (numbers places : ℕ) (b : Bool) (number place : ℕ) (rest : Outcome A)
     → number ≤ numbers → place ≤ places → (b ≡ false → RefusedWithin numbers places rest)
     → RefusedWithin numbers places (refuseIf b number place rest)
-unfolding refuseIf
-refuse-within numbers places true number place rest h l after = (h, l)
-refuse-within numbers places false number place rest h l after = after refl
+refuse-within numbers places b number place rest h l after =
+    refuse-as (Bounds numbers places) b number place rest (λ _. (h, l)) after
 
 pub then-within : {A B : Type 0} (numbers places : ℕ) (outcome : Outcome A) (next : A → Outcome B)
     → RefusedWithin numbers places outcome
     → ((value : A) → outcome ≡ done value → RefusedWithin numbers places (next value))
     → RefusedWithin numbers places (andThen outcome next)
-unfolding andThen
-then-within numbers places (refused number place) next within after = within
-then-within numbers places (done value) next within after = after value refl
+then-within numbers places outcome next within after = then-as (Bounds numbers places) outcome next within after
 
 pub pick-within : (limit : ℕ) (b : Bool) (one other : ℕ) → one ≤ limit → other ≤ limit → pick b one other ≤ limit
 pick-within limit true one other h l = h

@@ -1,8 +1,9 @@
--- Outcomes that go on the same way, and what stands before an outcome that is done: two ways to go on that give the same
--- wherever they are taken give the same altogether.
+-- Outcomes that go on the same way, and what stands before an outcome that is done or refused: two ways to go on that give the
+-- same wherever they are taken give the same altogether.
 -- Assumes nothing.
 use Prim.Native.Nat.{ℕ}
 use mathlib.Core.Bool.{Bool, true, false}
+use mathlib.Core.Logic.{_⊎_, inl, inr}
 use mathlib.Core.Path.{_≡_, refl}
 use native.Mathlib.Omega.{arith}
 use Rattle.definitions.specs.Outcome.{Outcome, refused, done, refuseIf, andThen}
@@ -24,3 +25,12 @@ pub done-then : {A B : Type 0} (outcome : Outcome A) (next : A → Outcome B) (v
 unfolding andThen
 done-then (refused number place) next value e = let z : _≡_ {A = ℕ} 0 1 = cc in absurd (omega arith)
 done-then (done first) next value e = (first, refl, e)
+
+pub refused-then : {A B : Type 0} (outcome : Outcome A) (next : A → Outcome B) (number place : ℕ) → andThen outcome next ≡ refused number place
+    → (outcome ≡ refused number place) ⊎ ((first : A) × (outcome ≡ done first) × (next first ≡ refused number place))
+unfolding andThen
+refused-then (refused n p) next number place e =
+    let numbers : n ≡ number = cc in
+    let places : p ≡ place = cc in
+    inl (rw (numbers, places))
+refused-then (done first) next number place e = inr (first, refl, e)

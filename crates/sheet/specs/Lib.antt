@@ -1,11 +1,14 @@
 -- What the planner prints: how far it looks, how much it writes, and the answers of its functions.
 pub mod Wish
-pub mod Lines
+pub mod SheetLines
 pub mod Going
 pub mod Reach
 pub mod Planned
+pub mod Refusals
 pub mod Routes
 pub mod Longest
+pub mod Promise
 pub mod Front
 pub mod ReadStage
+pub mod Answers
 pub mod Stages

@@ -1,22 +1,23 @@
--- What stands behind a sheet: the network that was read, the wish, and what Cut and Route answered.
+-- What stands behind a sheet: the wish, the network that was read, and what Cut and Route answered.
 -- Assumes nothing.
-use Prim.Native.Nat.{ℕ, _≤_, _<_}
-use mathlib.Core.Bool.{false, _||_, not}
-use mathlib.Core.List.{List, [], _∷_}
+use Prim.Native.Nat.{ℕ, _+_, _≤_, _<_}
+use mathlib.Core.Bool.{Bool, true, false, _||_, not}
+use mathlib.Core.List.{List, [], _∷_, map}
 use mathlib.Core.Logic.{_≢_}
-use mathlib.Core.Path.{_≡_, sym, _∙_, ap}
+use mathlib.Core.Path.{_≡_, refl, sym, _∙_, ap}
 use native.Mathlib.Omega.{arith}
 use lib.Dec.{eqb, ltb, leb}
 use lib.ListN.{length, getD, drop}
-use borrow.Author.Tests.{eqb-false, leb-false}
-use Rattle.definitions.specs.Outcome.{done, refuseIf}
-use Rattle.definitions.specs.Lists.{outside, total, joinAll}
+use borrow.Author.Tests.{eqb-false, leb-false, not-false}
+use Rattle.definitions.specs.Outcome.{pick, done, refuseIf}
+use Rattle.definitions.specs.Lists.{outside, count, total, joinAll}
 use Rattle.definitions.specs.Network.{tableCheck, Accepted}
-use Rattle.definitions.specs.Forests.{marksOf, cutAnswer}
+use Rattle.definitions.specs.Forests.{forestsOf, markOf, marksOf, cutAnswer}
 use Rattle.definitions.specs.Route.{routesOf, endsInOneTree, tooShort, routeAnswer}
 use Rattle.definitions.specs.Form.{reads, scanForm}
 use Rattle.definitions.specs.Text.{Network, readNetwork}
 use Rattle.definitions.specs.Plan.{wishForm, Sheet, room, sheetFor, planned}
+use Rattle.definitions.specs.SheetPromise.{Asked}
 use Rattle.lists.specs.Outcomes.{not-refused, then-done}
 use Rattle.lists.specs.SameOutcomes.{done-then}
 use Rattle.lists.specs.Ranges.{inside-range}
@@ -26,21 +27,20 @@ use Rattle.text_theory.specs.Lines.{read-line}
 use Rattle.text_theory.specs.RoundTrip.{on-scan-done, written-read}
 
 -- What Route passed before it answered.
-pub record RoutePassed (n : ℕ) (lows highs : List ℕ) (k from to : ℕ) (counts relays scratch : List ℕ) : Type 0 where
+pub record RoutePassed (n : ℕ) (lows highs : List ℕ) (k from to : ℕ) : Type 0 where
   pub some : 1 ≤ k
   pub few : k ≤ 32
   pub starts : from < n
   pub ends : to < n
   pub differ : from ≢ to
-  pub fits : tooShort n k counts relays scratch ≡ false
+  pub oneTree : endsInOneTree n lows highs k from to ≡ true
 
 pub route-passed : (n : ℕ) (lows highs : List ℕ) (k from to : ℕ) (counts relays scratch values : List ℕ) → Accepted n lows highs
-    → routeAnswer n lows highs k from to counts relays scratch ≡ done values
-    → RoutePassed n lows highs k from to counts relays scratch
+    → routeAnswer n lows highs k from to counts relays scratch ≡ done values → RoutePassed n lows highs k from to
 unfolding routeAnswer
 route-passed n lows highs k from to counts relays scratch values table e =
-    let last = refuseIf (not (endsInOneTree n lows highs k from to)) 13 0
-    (done (length (joinAll (routesOf n lows highs k from to)) ∷ [])) in
+    let answered = done (length (joinAll (routesOf n lows highs k from to)) ∷ []) in
+    let last = refuseIf (not (endsInOneTree n lows highs k from to)) 13 0 answered in
     let fitting = refuseIf (tooShort n k counts relays scratch) 12 0 last in
     let differing = refuseIf (eqb from to) 11 0 fitting in
     let ending = refuseIf (leb n from || leb n to) 10 0 differing in
@@ -50,6 +50,7 @@ route-passed n lows highs k from to counts relays scratch values table e =
     let ten = not-refused (leb n from || leb n to) 10 0 differing values (nine .1) in
     let eleven = not-refused (eqb from to) 11 0 fitting values (ten .1) in
     let twelve = not-refused (tooShort n k counts relays scratch) 12 0 last values (eleven .1) in
+    let thirteen = not-refused (not (endsInOneTree n lows highs k from to)) 13 0 answered values (twelve .1) in
     let range = inside-range 1 32 k (nine .0) in
     let within = or-false (leb n from) (leb n to) (ten .0) in
     record {
@@ -58,12 +59,23 @@ route-passed n lows highs k from to counts relays scratch values table e =
       starts = leb-false n from (within .0);
       ends = leb-false n to (within .1);
       differ = eqb-false from to (eleven .0);
-      fits = twelve .0;
+      oneTree = not-false (endsInOneTree n lows highs k from to) (thirteen .0);
     }
 
+-- Cut's answer is the count of ones.
+marks-ones : (k : ℕ) (forests : List ℕ) → total (map (markOf k) forests) ≡ count (eqb 1) (map (markOf k) forests)
+unfolding total count markOf
+marks-ones k [] = refl
+marks-ones k (f ∷ forests) = go (outside 1 k f) (marks-ones k forests)
+  where
+    go : (b : Bool) → total (map (markOf k) forests) ≡ count (eqb 1) (map (markOf k) forests)
+        → pick b 0 1 + total (map (markOf k) forests) ≡ pick (eqb 1 (pick b 0 1)) 1 0 + count (eqb 1) (map (markOf k) forests)
+    go true same = omega arith
+    go false same = omega arith
+
 pub cut-count : (n : ℕ) (lows highs : List ℕ) (k : ℕ) (marks values : List ℕ) → Accepted n lows highs
-    → cutAnswer n lows highs k marks ≡ done values → values ≡ total (marksOf n lows highs k) ∷ []
-unfolding cutAnswer
+    → cutAnswer n lows highs k marks ≡ done values → values ≡ count (eqb 1) (marksOf n lows highs k) ∷ []
+unfolding cutAnswer marksOf
 cut-count n lows highs k marks values table e =
     let last = done (total (marksOf n lows highs k) ∷ []) in
     let fitting = refuseIf (ltb (length marks) (length lows)) 12 0 last in
@@ -72,6 +84,7 @@ cut-count n lows highs k marks values table e =
     let nine = not-refused (outside 1 32 k) 9 0 fitting values first in
     let twelve = not-refused (ltb (length marks) (length lows)) 12 0 last values (nine .1) in
     let same = twelve .1 in
+    let ones : total (marksOf n lows highs k) ≡ count (eqb 1) (marksOf n lows highs k) = marks-ones k (forestsOf n lows highs) in
     cc
 
 -- The sheet of a network, with so many links kept.
@@ -85,16 +98,20 @@ sheetOf from to k network kept =
       kept = kept;
     }
 
+-- How many links Cut keeps of a network.
+abbrev pub keptOf : ℕ → Network → ℕ
+keptOf k network = count (eqb 1) (marksOf (network .relays) (network .lows) (network .highs) k)
+
 -- A sheet for a network that was read.
 pub record SheetFor (from to k : ℕ) (network : Network) (sheet : Sheet) : Type 0 where
   pub answer : List ℕ
   pub routed : routeAnswer (network .relays) (network .lows) (network .highs) k from to (room 32) (room 1062) (room 32000) ≡ done answer
-  pub sheetIs : sheet ≡ sheetOf from to k network (total (marksOf (network .relays) (network .lows) (network .highs) k))
+  pub sheetIs : sheet ≡ sheetOf from to k network (keptOf k network)
 
 done-same : {A : Type 0} (a b : A) → done a ≡ done b → a ≡ b
 done-same a b e = cc
 
-pub sheet-for : (from to k : ℕ) (network : Network) (sheet : Sheet)
+sheet-for : (from to k : ℕ) (network : Network) (sheet : Sheet)
     → Accepted (network .relays) (network .lows) (network .highs) → sheetFor from to k network ≡ done sheet
     → SheetFor from to k network sheet
 unfolding sheetFor
@@ -114,30 +131,66 @@ sheet-for from to k network sheet table e =
           ∙ ap (λ (values : List ℕ). sheetOf from to k network (getD values 0 0)) counted;
     }
 
+-- A wish that was read has three numbers of at most four digits.
+pub record WishRead (input wish : List ℕ) (behind : ℕ) : Type 0 where
+  pub reading : scanForm input wishForm 0 ≡ reads (getD wish 0 0 ∷ getD wish 1 0 ∷ getD wish 2 0 ∷ []) behind
+  pub smallFrom : getD wish 0 0 < 10000
+  pub smallTo : getD wish 1 0 < 10000
+
+wish-numbers : (wish : List ℕ) → Fits wishForm wish
+    → (wish ≡ getD wish 0 0 ∷ getD wish 1 0 ∷ getD wish 2 0 ∷ []) × (getD wish 0 0 < 10000) × (getD wish 1 0 < 10000)
+unfolding wishForm
+wish-numbers [] fits = absurd fits
+wish-numbers (from ∷ []) fits = absurd (fits .1)
+wish-numbers (from ∷ to ∷ []) fits = absurd (fits .1 .1)
+wish-numbers (from ∷ to ∷ k ∷ []) fits = (refl, fits .0, fits .1 .0)
+wish-numbers (from ∷ to ∷ k ∷ more ∷ rest) fits = absurd (fits .1 .1 .1)
+
+pub wish-read : (input wish : List ℕ) (behind : ℕ) → scanForm input wishForm 0 ≡ reads wish behind → WishRead input wish behind
+wish-read input wish behind e =
+    let numbers = wish-numbers wish (read-line wishForm input 0 wish behind wish-line (omega arith) e .0) in
+    record {
+      reading = e ∙ ap (λ (values : List ℕ). reads values behind) (numbers .0);
+      smallFrom = numbers .1;
+      smallTo = numbers .2;
+    }
+
+-- What was asked, once the network is read too.
+pub wish-asked : (input wish : List ℕ) (behind : ℕ) (network : Network) → scanForm input wishForm 0 ≡ reads wish behind
+    → readNetwork (drop behind input) 3000 3000 ≡ done network → Asked input (getD wish 0 0) (getD wish 1 0) (getD wish 2 0) network
+wish-asked input wish behind network e read =
+    record {
+      behind = behind;
+      wish = wish-read input wish behind e .reading;
+      read = read;
+      accepted = written-read (drop behind input) 3000 3000 network read .1;
+    }
+
 -- A sheet that the planner prints: its wish, and the network that was read behind the wish line.
 pub record PlannedSheet (input : List ℕ) (sheet : Sheet) : Type 0 where
-  pub wish : List ℕ
-  pub behind : ℕ
+  pub from : ℕ
+  pub to : ℕ
+  pub k : ℕ
   pub network : Network
-  pub wished : scanForm input wishForm 0 ≡ reads wish behind
-  pub numbers : Fits wishForm wish
-  pub read : readNetwork (drop behind input) 3000 3000 ≡ done network
-  pub table : Accepted (network .relays) (network .lows) (network .highs)
-  pub given : SheetFor (getD wish 0 0) (getD wish 1 0) (getD wish 2 0) network sheet
+  pub smallFrom : from < 10000
+  pub smallTo : to < 10000
+  pub asked : Asked input from to k network
+  pub given : SheetFor from to k network sheet
 
 pub planned-sheet : (input : List ℕ) (sheet : Sheet) → planned input ≡ done sheet → PlannedSheet input sheet
 unfolding planned
 planned-sheet input sheet e =
     let (wish, p, wished, after) = on-scan-done 1 (scanForm input wishForm 0) _ sheet e in
     let (network, read, last) = done-then (readNetwork (drop p input) 3000 3000) _ sheet after in
-    let table = written-read (drop p input) 3000 3000 network read .1 in
+    let line = wish-read input wish p wished in
+    let asked = wish-asked input wish p network wished read in
     record {
-      wish = wish;
-      behind = p;
+      from = getD wish 0 0;
+      to = getD wish 1 0;
+      k = getD wish 2 0;
       network = network;
-      wished = wished;
-      numbers = read-line wishForm input 0 wish p wish-line (omega arith) wished .0;
-      read = read;
-      table = table;
-      given = sheet-for (getD wish 0 0) (getD wish 1 0) (getD wish 2 0) network sheet table last;
+      smallFrom = line .smallFrom;
+      smallTo = line .smallTo;
+      asked = asked;
+      given = sheet-for (getD wish 0 0) (getD wish 1 0) (getD wish 2 0) network sheet (asked .accepted) last;
     }

@@ -4,7 +4,7 @@ use Prim.Native.Nat.{ℕ, _≤_}
 use mathlib.Core.List.{List, [], _∷_}
 use mathlib.Core.Path.{_≡_, sym, _∙_, ap, ap₂, subst}
 use native.Mathlib.Omega.{arith}
-use lib.ListN.{length, take, drop, length-append, length-replicate}
+use lib.ListN.{length, take, drop, length-append}
 use lib.Seq.{take-append-seam}
 use Rattle.definitions.specs.Outcome.{Outcome, refused, done, andThen}
 use Rattle.definitions.specs.Lists.{overwrite, zeroed}
@@ -19,6 +19,7 @@ use Rattle.text.specs.Written.{stored-overwrite}
 use Rattle.network.specs.Answers.{refusalOf, refusalNumber, refusalPlace}
 use Rattle.network.specs.Refusals.{refusal-then}
 use Rattle.network.specs.declared.Refusal.{Refusal}
+use Rattle.sheet.specs.Refusals.{length-room}
 
 -- Two outcomes that are the same are printed alike.
 pub fits-as : {A : Type 0} (textOf : A → List ℕ) (one other : Outcome A) (size : ℕ) → one ≡ other
@@ -63,9 +64,8 @@ answer-refused {A} {B} (done x) f refusal e =
     let z : _≡_ {A = ℕ} 0 1 = cc in
     absurd (omega arith)
 
-pub room-length : (size : ℕ) (list : List ℕ) → list ≡ room size → length list ≡ size
-unfolding room
-room-length size list e = ap length e ∙ length-replicate size 0
+room-length : (size : ℕ) (list : List ℕ) → list ≡ room size → length list ≡ size
+room-length size list e = ap length e ∙ length-room size
 
 pub network-refused : (text lows highs : List ℕ) (refusal : Refusal) → lows ≡ room 3000 → highs ≡ room 3000
     → readAnswer text lows highs ≡ refusalOf refusal → readNetwork text 3000 3000 ≡ refusalOf refusal

@@ -1,39 +1,31 @@
--- The routes of a sheet: there are k of them, their relays are relays of the network, and demand 3 bounds how many are written.
-use Prim.Native.Nat.{ℕ, zero, suc, _+_, _-_, _*_, _≤_, _<_, pred}
+-- The routes of a sheet: there are k of them, their relays are relays of the network, and they hold as demand 3 says.
+use Prim.Native.Nat.{ℕ, _≤_, _<_, pred}
 use mathlib.Core.Bool.{Bool, true, false}
 use mathlib.Core.List.{List, [], _∷_, _++_, map, reverse}
-use mathlib.Core.Path.{_≡_, refl, _∙_, ap}
+use mathlib.Core.Path.{_≡_, refl, _∙_}
 use native.Mathlib.Omega.{arith}
-use lib.Dec.{ltb, leb}
-use lib.ListN.{length, getD, take, length-map, length-replicate, replicate, List·getD-eq-default}
-use lib.Seq.{take-all}
-use borrow.Author.Tests.{ltb-true, ltb-false, leb-true, leb-false}
-use Rattle.definitions.specs.Outcome.{pick, done}
-use Rattle.definitions.specs.Lists.{table, overwrite, total, joinAll}
+use lib.Dec.{ltb}
+use lib.ListN.{length, getD, length-map, List·getD-eq-default}
+use borrow.Author.Tests.{ltb-true, ltb-false}
+use Rattle.definitions.specs.Outcome.{pick}
+use Rattle.definitions.specs.Lists.{joinAll}
 use Rattle.definitions.specs.Network.{Accepted}
 use Rattle.definitions.specs.Order.{orderOf, placeOf, relayAt}
-use Rattle.definitions.specs.Sweep.{Slot, slotAfter, slotAt, slotsAfter, sweepFrom, sweep, startSlot, slotRoute, sweepRoutes}
-use Rattle.definitions.specs.Route.{leftOf, routesBetween, routesOf, routeAnswer, countsAfter}
-use Rattle.definitions.specs.Demand.{DemandThree}
-use Rattle.lists.specs.Outcomes.{if-done}
-use Rattle.lists.specs.Overwritten.{take-overwrite}
-use Rattle.lists.specs.Tables.{length-table}
-use Rattle.lists.specs.Cuts.{total-lengths}
+use Rattle.definitions.specs.Forests.{forestsOf, marksOf}
+use Rattle.definitions.specs.Sweep.{sweep, slotRoute, sweepRoutes}
+use Rattle.definitions.specs.Route.{leftOf, routesBetween, routesOf}
 use Rattle.theory.specs.Ordering.{order-length, order-at}
+use Rattle.theory.specs.ForestBound.{forests-at}
+use Rattle.theory.specs.Columns.{mark-entry}
+use Rattle.theory.specs.SweepRoutes.{sweep-length}
+use Rattle.theory.specs.RelayTrees.{one-tree-alive, one-tree-test}
+use Rattle.theory.specs.RelayRoutes.{RelayRoutes, routes-hold}
 use Rattle.text_theory.specs.Spans.{AllBelow}
 use Rattle.sheet.specs.Planned.{RoutePassed}
 
-length-sweepFrom : (left : ℕ → ℕ → ℕ) (k t v : ℕ) (slots : List Slot) → length slots ≡ k → length (sweepFrom left k t v slots) ≡ k
-unfolding sweepFrom slotsAfter
-length-sweepFrom left k t zero slots h = h
-length-sweepFrom left k t (suc v) slots h =
-    length-sweepFrom left k t v _ (length-table (slotAfter left k t (suc v) (slotAt slots)) 1 k)
-
 length-sweepRoutes : (left : ℕ → ℕ → ℕ) (k s t : ℕ) → length (sweepRoutes left k s t) ≡ k
-unfolding sweepRoutes sweep
-length-sweepRoutes left k s t =
-    length-map (sweepFrom left k t (pred s) (table (startSlot left s t) 1 k)) slotRoute
-    ∙ length-sweepFrom left k t (pred s) _ (length-table (startSlot left s t) 1 k)
+unfolding sweepRoutes
+length-sweepRoutes left k s t = length-map (sweep left k s t) slotRoute ∙ sweep-length left k s t
 
 length-between : (left : ℕ → ℕ → ℕ) (k p q : ℕ) → length (routesBetween left k p q) ≡ k
 unfolding routesBetween
@@ -83,39 +75,13 @@ routes-below bound n lows highs k from to some few =
     below-joined bound (relayAt order) (λ v. omega (arith, relay-below n lows highs some v))
     (routesBetween (leftOf n lows highs) k (placeOf order from) (placeOf order to))
 
--- The sum of the counts that Route gives is the number of relays that it writes.
-counts-total : (n : ℕ) (lows highs : List ℕ) (k from to : ℕ) (counts relays scratch answer : List ℕ)
-    → routeAnswer n lows highs k from to counts relays scratch ≡ done answer
-    → total (take k (countsAfter n lows highs k from to counts relays scratch)) ≡ length (joinAll (routesOf n lows highs k from to))
-unfolding countsAfter
-counts-total n lows highs k from to counts relays scratch answer e =
-    let routes = routesOf n lows highs k from to in
-    let sizes : length (map length routes) ≡ k = length-map routes length ∙ length-routes n lows highs k from to in
-    ap (λ (l : List ℕ). total (take k l))
-    (if-done (routeAnswer n lows highs k from to counts relays scratch) answer (overwrite (map length routes) counts) counts e)
-    ∙ ap total (take-overwrite (map length routes) counts k (omega arith) ∙ take-all k (map length routes) (omega arith))
-    ∙ total-lengths routes
-
--- By demand 3 at most n − 2 + 2k relays are written.
-pub written-few : DemandThree → (n : ℕ) (lows highs : List ℕ) (k from to : ℕ) (counts relays scratch answer : List ℕ)
-    → Accepted n lows highs → RoutePassed n lows highs k from to counts relays scratch
-    → routeAnswer n lows highs k from to counts relays scratch ≡ done answer
-    → length (joinAll (routesOf n lows highs k from to)) ≤ n - 2 + 2 * k
-written-few demand n lows highs k from to counts relays scratch answer good passed e =
-    go (leb (length (joinAll (routesOf n lows highs k from to))) (n - 2 + 2 * k)) refl
-  where
-    go : (b : Bool) → leb (length (joinAll (routesOf n lows highs k from to))) (n - 2 + 2 * k) ≡ b
-        → length (joinAll (routesOf n lows highs k from to)) ≤ n - 2 + 2 * k
-    go true test = leb-true _ _ test
-    go false test =
-        let lent : List ℕ = replicate n 0 in
-        let marks : List ℕ = replicate (length lows) 0 in
-        let long : n ≤ length lent = omega (arith, length-replicate {A = ℕ} n 0) in
-        let each : length lows ≤ length marks = omega (arith, length-replicate {A = ℕ} (length lows) 0) in
-        let holds = demand n lows highs good k (passed .some) (passed .few) lent lent marks marks long long each each in
-        let delivers = holds .routes from to (passed .starts) (passed .ends) (passed .differ) counts relays scratch (passed .fits) in
-        let most : n - 2 + 2 * k < length (joinAll (routesOf n lows highs k from to)) = leb-false _ _ test in
-        let refusal = delivers .thirteen .1 (λ tree.
-        omega (arith, delivers .inOneTree tree .1 .written, counts-total n lows highs k from to counts relays scratch answer e)) in
-        let z : _≡_ {A = ℕ} 0 1 = cc in
-        absurd (omega arith)
+-- What holds of them, where Route answers: k routes along kept links that share only their ends, with at most n − 2 + 2k relays.
+pub routes-of : (n : ℕ) (lows highs : List ℕ) (k from to : ℕ) → Accepted n lows highs → RoutePassed n lows highs k from to
+    → RelayRoutes n lows highs (marksOf n lows highs k) k from to (routesOf n lows highs k from to)
+routes-of n lows highs k from to good passed =
+    let starts = passed .starts in
+    let ends = passed .ends in
+    let forests = forestsOf n lows highs in
+    let tree = one-tree-test n lows highs good forests (forests-at n lows highs) k from to starts ends (passed .differ) .1 (passed .oneTree) in
+    routes-hold n lows highs good k (passed .some) (marksOf n lows highs k) (mark-entry n lows highs k) from to starts ends (passed .differ)
+    (one-tree-alive n lows highs good forests (forests-at n lows highs) k from to starts ends (passed .differ) .0 tree)

@@ -23,7 +23,7 @@ use Rattle.network.specs.Answers.{refusalOf}
 use Rattle.network.specs.declared.Refusal.{Refusal}
 use Rattle.network.specs.declared.Refusal.the-variants.{Wish}
 use Rattle.sheet.specs.Front.{longer}
-use Rattle.sheet.specs.Lines.{sheetLines}
+use Rattle.sheet.specs.SheetLines.{sheetLines}
 use Rattle.sheet.specs.Planned.{sheetOf}
 use Rattle.sheet.specs.ReadStage.{networkOf, stage-refused, network-refused, ReadTable, whole-put}
 use Rattle.sheet.specs.Routes.{length-routes}

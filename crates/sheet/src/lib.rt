@@ -2,10 +2,12 @@
 ghost use mathlib.Core.Path.{_≡_};
 ghost use lib.ListN.{length};
 ghost use Rattle.definitions.specs.Lists.{overwrite};
-ghost use Rattle.definitions.specs.Plan.{planText};
+ghost use Rattle.definitions.specs.Plan.{planText, planAnswer, outputAfter};
+ghost use Rattle.sheet.specs.Answers.{planOutcome};
 use network::Refusal;
 use refusal::put_refusal;
 use stages::plan_network;
+use text::put;
 use wish::WishScan;
 use wish::wish_line;
 
@@ -16,7 +18,7 @@ mod stages;
 mod wish;
 
 // Prints the sheet or the refused line for an input, from the output's first byte on, and gives its length.
-pub fn plan(input: &[u8], output: &mut [u8; 4608]) -> usize
+pub fn plan(input: &[u8], output: &mut [u8; rooms::OUTPUT]) -> usize
     ensures length { λ r. ⌜ r ≡ length (planText (now (input .entry))) ⌝ }
     ensures bytes { λ _. ⌜ now (output .exit) ≡ overwrite (planText (now (input .entry))) (now (output .entry)) ⌝ }
 {
@@ -24,4 +26,24 @@ pub fn plan(input: &[u8], output: &mut [u8; 4608]) -> usize
         WishScan::Departs(p) => put_refusal(output, Refusal::Wish(p)),
         WishScan::Reads(from, to, k, p) => plan_network(output, &input[p..], from, to, k),
     }
+}
+
+// What `plan_into` answers: the length of what is printed.
+pub enum PlanAnswer {
+    Printed(usize),
+    Refused(Refusal),
+}
+
+// The same into a list of any length: refused where it is shorter than what is to be printed, and then left as it was.
+pub fn plan_into(input: &[u8], output: &mut [u8]) -> PlanAnswer
+    ensures answer { λ r. ⌜ planOutcome r ≡ planAnswer (now (input .entry)) (now (output .entry)) ⌝ }
+    ensures bytes { λ _. ⌜ now (output .exit) ≡ outputAfter (now (input .entry)) (now (output .entry)) ⌝ }
+{
+    let mut room = rooms::output();
+    let size = plan(input, &mut room);
+    if output.len() < size {
+        return PlanAnswer::Refused(Refusal::Room);
+    }
+    let end = put::put_word(output, 0, &room[..size]);
+    PlanAnswer::Printed(end)
 }

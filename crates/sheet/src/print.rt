@@ -1,7 +1,6 @@
 // Printing: the lines of a sheet, at an offset of a buffer that has the room.
 // Each gives the offset behind what it wrote.
-ghost use mathlib.Core.List.{[], _∷_, _++_};
-ghost use mathlib.Core.Path.{_≡_};
+ghost use mathlib.Core.List.{[], _∷_};
 ghost use Prim.Native.Nat.{_+_, _≤_};
 ghost use lib.ListN.{length, take};
 ghost use lib.Seq.{slice};
@@ -10,7 +9,7 @@ ghost use Rattle.definitions.specs.Form.{writeForm};
 ghost use Rattle.definitions.specs.Lists.{total};
 ghost use Rattle.definitions.specs.Plan.{sheetForm, keptForm, spaced, routeLines};
 ghost use Rattle.text.specs.Put.{Put};
-ghost use Rattle.sheet.specs.Lines.{sheetLines};
+ghost use Rattle.sheet.specs.SheetLines.{sheetLines};
 use text::put;
 
 // `(sheet (from FROM) (to TO) (k K))` and its line end.

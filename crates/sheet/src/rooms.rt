@@ -1,6 +1,6 @@
 // The planner's own lists: zeros, and long enough for every network.
 ghost use mathlib.Core.Path.{_≡_};
-ghost use Rattle.definitions.specs.Plan.{room};
+ghost use Rattle.definitions.specs.Plan.{room, outputRoom};
 
 // A column of a table, or the marks of its links.
 pub fn links() -> [u16; 3000]
@@ -28,4 +28,13 @@ pub(crate) fn scratch() -> [u16; 32000]
     ensures { λ r. ⌜ r ≡ room 32000 ⌝ }
 {
     [0u16; 32000]
+}
+
+// The bytes for everything that is printed.
+pub const OUTPUT: usize = 4608;
+
+pub fn output() -> [u8; OUTPUT]
+    ensures { λ r. ⌜ r ≡ room outputRoom ⌝ }
+{
+    [0u8; OUTPUT]
 }

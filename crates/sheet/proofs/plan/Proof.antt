@@ -5,8 +5,7 @@ use mathlib.Core.Path.{sym, _∙_, ap}
 use native.Mathlib.Omega.{arith}
 use denote.Ref.{now}
 use lib.ListN.{length}
-use Rattle.definitions.specs.Plan.{planned, sheetText, printed, planText}
-use Rattle.theory.specs.DemandThree.{demand-three}
+use Rattle.definitions.specs.Plan.{outputRoom, planned, sheetText, printed, planText}
 use Rattle.sheet.specs.Wish.{wishGives}
 use Rattle.sheet.specs.Longest.{plan-length}
 use Rattle.sheet.specs.ReadStage.{fits-as, put-as}
@@ -22,12 +21,12 @@ enum-known-p : tie.Need-enum-known-p
 enum-known-p c = search needs
 
 put-refusal-requires : tie.Need-put-refusal-requires
-unfolding planText printed
+unfolding planText printed outputRoom
 put-refusal-requires c κs =
     let atWishLine = c .before .before .before .before in
     let start = atWishLine .before .before in
     let a = start .args in
-    let bound : length (printed sheetText (planned (now (a .input)))) ≤ 4608 = plan-length demand-three (now (a .input)) in
+    let bound : length (printed sheetText (planned (now (a .input)))) ≤ outputRoom = plan-length (now (a .input)) in
     let line = fits-as _ _ _ _
     (wish-departed (now (a .input)) _ (sym (atWishLine .wish-line .ensures) ∙ ap wishGives (c .before .before .p .given .1))) bound in
     omega arith
@@ -53,34 +52,35 @@ part-plan-network-end : tie.Need-part-plan-network-end
 part-plan-network-end c = search needs
 
 plan-network-requires : tie.Need-plan-network-requires
-unfolding planText
+unfolding planText outputRoom
 plan-network-requires c κs =
     let atFrom = c .before .before .before in
     let atWishLine = atFrom .before .before in
     let start = atWishLine .before .before in
     let a = start .args in
-    let bound : length (printed sheetText (planned (now (a .input)))) ≤ 4608 = plan-length demand-three (now (a .input)) in
+    let bound : length (printed sheetText (planned (now (a .input)))) ≤ outputRoom = plan-length (now (a .input)) in
     let lines = fits-as _ _ _ _
     (wish-taken (now (a .input)) _ _ _ _ (sym (atWishLine .wish-line .ensures) ∙ ap wishGives (atFrom .from .given .1)) .1) bound in
     omega arith
 
 returns : tie.Need-returns
-unfolding printed
+unfolding printed outputRoom
 returns c =
     let atP = c .before .before .before in
     let atWishLine = atP .before .before in
     let start = atWishLine .before .before in
     let a = start .args in
-    plan-put (now (a .input)) _ _ _ (omega (arith, plan-length demand-three (now (a .input))))
+    plan-put (now (a .input)) _ _ _ (omega (arith, plan-length (now (a .input))))
     (put-as _ _ _ _ _ _ (wish-departed (now (a .input)) _ (sym (atWishLine .wish-line .ensures) ∙ ap wishGives (atP .p .given .1))) (c .put-refusal .ensures))
 
 returns-2 : tie.Need-returns-2
+unfolding outputRoom
 returns-2 c =
     let atFrom = c .before .before .before .before in
     let atWishLine = atFrom .before .before in
     let start = atWishLine .before .before in
     let a = start .args in
-    plan-put (now (a .input)) _ _ _ (omega (arith, plan-length demand-three (now (a .input))))
+    plan-put (now (a .input)) _ _ _ (omega (arith, plan-length (now (a .input))))
     (put-as _ _ _ _ _ _ (wish-taken (now (a .input)) _ _ _ _ (sym (atWishLine .wish-line .ensures) ∙ ap wishGives (atFrom .from .given .1)) .1) (c .plan-network .ensures))
 
 pub plan-spec : {M : Type 1} → statement M

@@ -1,7 +1,7 @@
 -- `sheet::print::put_kept` meets its contract: a word with a number, and a word. Assumes nothing.
 use native.Mathlib.Omega.{arith}
 use Rattle.text.specs.Put.{put-append}
-use Rattle.sheet.specs.Lines.{kept-written, kept-length}
+use Rattle.sheet.specs.SheetLines.{kept-written, kept-length}
 use borrow.Author.Needs.{needs}
 use Rattle.sheet.proofs.print.put_kept.Statement.{statement}
 use Rattle.sheet.proofs.print.put_kept.Tie as tie

@@ -9,7 +9,7 @@ use denote.Ref.{now}
 use lib.Seq.{slice}
 use Rattle.definitions.specs.Plan.{spaced}
 use Rattle.sheet.specs.Going.{Going, going-start, going-step, going-end}
-use Rattle.sheet.specs.Lines.{relays-step, relays-length, relays-end}
+use Rattle.sheet.specs.SheetLines.{relays-step, relays-length, relays-end}
 use Rattle.sheet.proofs.print.put_relays.Statement.{statement}
 use Rattle.sheet.proofs.print.put_relays.Tie as tie
 

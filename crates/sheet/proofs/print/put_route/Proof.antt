@@ -3,7 +3,7 @@ use native.Mathlib.Omega.{arith}
 use lib.Seq.{slice}
 use denote.Ref.{now}
 use Rattle.text.specs.Put.{put-append}
-use Rattle.sheet.specs.Lines.{route-written, route-length}
+use Rattle.sheet.specs.SheetLines.{route-written, route-length}
 use borrow.Author.Needs.{needs}
 use Rattle.sheet.proofs.print.put_route.Statement.{statement}
 use Rattle.sheet.proofs.print.put_route.Tie as tie

@@ -4,7 +4,7 @@ use denote.Ref.{now}
 use lib.ListN.{take}
 use Rattle.definitions.specs.Demand.{cutUp}
 use Rattle.text.specs.Put.{put-append}
-use Rattle.sheet.specs.Lines.{sheetLines, sheet-lengths}
+use Rattle.sheet.specs.SheetLines.{sheetLines, sheet-lengths}
 use borrow.Author.Needs.{needs}
 use Rattle.sheet.proofs.print.put_sheet.Statement.{statement}
 use Rattle.sheet.proofs.print.put_sheet.Tie as tie

@@ -1,7 +1,7 @@
 -- `sheet::print::put_wish` meets its contract: a line of two numbers that ends in the third and a word. Assumes nothing.
 use native.Mathlib.Omega.{arith}
 use Rattle.text.specs.Put.{put-append}
-use Rattle.sheet.specs.Lines.{wish-written, wish-length}
+use Rattle.sheet.specs.SheetLines.{wish-written, wish-length}
 use borrow.Author.Needs.{needs}
 use Rattle.sheet.proofs.print.put_wish.Statement.{statement}
 use Rattle.sheet.proofs.print.put_wish.Tie as tie

@@ -1,7 +1,7 @@
 -- The lines of a sheet, and how a list of routes is printed route by route and relay by relay. Assumes nothing.
 use Prim.Native.Nat.{ℕ, suc, _+_, _-_, _≤_, _<_}
 use mathlib.Core.List.{List, [], _∷_, _++_, append-assoc, append-nil}
-use mathlib.Core.Path.{_≡_, refl, _∙_, ap}
+use mathlib.Core.Path.{_≡_, _∙_, ap}
 use native.Mathlib.Numerals.{add-one}
 use native.Mathlib.Omega.{arith}
 use lib.ListN.{length, getD, take, drop, length-append, length-take, drop-of-length-le}
@@ -86,10 +86,6 @@ relays-end relays i last h = ap spaced (slice-past relays i last h)
 -- The routes that are left, from the i-th of k on, whose relays begin at `first`.
 unfoldable pub routesLeft : ℕ → ℕ → ℕ → List ℕ → List ℕ → List (List ℕ)
 routesLeft i k first counts relays = cutUp (slice i k counts) (drop first relays)
-
-pub routes-start : (k : ℕ) (counts relays : List ℕ) → routesLeft 0 k 0 counts relays ≡ cutUp (take k counts) relays
-unfolding routesLeft
-routes-start k counts relays = refl
 
 lines-first : (route : List ℕ) (routes : List (List ℕ))
     → routeLines (route ∷ routes) ≡ routeLines (route ∷ []) ++ routeLines routes

@@ -1,0 +1,107 @@
+-- The refusals that the planner prints: numbers up to 13, places up to the length of the longest network text. Its own lists are
+-- never too short, so neither 8 nor 12 is among them. Assumes nothing.
+use Prim.Native.Nat.{ℕ, _+_, _-_, _*_, _≤_}
+use mathlib.Core.Bool.{false, _||_, not}
+use mathlib.Core.List.{List, []}
+use mathlib.Core.Logic.{_≢_}
+use mathlib.Core.Path.{_≡_, refl}
+use native.Mathlib.Nat.{mul-le-mul}
+use native.Mathlib.Omega.{arith}
+use lib.Dec.{eqb, ltb, leb}
+use lib.ListN.{length, getD, drop, length-replicate}
+use borrow.Author.Tests.{eqb-false, ne-eqb, le-ltb}
+use Rattle.definitions.specs.Lists.{outside}
+use Rattle.definitions.specs.Network.{tableCheck, Accepted}
+use Rattle.definitions.specs.Forests.{cutAnswer}
+use Rattle.definitions.specs.Route.{endsInOneTree, tooShort, routeAnswer}
+use Rattle.definitions.specs.Form.{scanForm}
+use Rattle.definitions.specs.Text.{Network, readNetwork}
+use Rattle.definitions.specs.Plan.{wishForm, room, sheetFor, planned}
+use Rattle.lists.specs.Outcomes.{refuse-not, then-done}
+use Rattle.lists.specs.Ranges.{inside-range}
+use Rattle.lists.specs.RefusedWithin.{RefusedAs, Bounds, as-more, refuse-as, then-as}
+use Rattle.lists.specs.Tests.{or-neither}
+use Rattle.theory.specs.Accepted.{accepted}
+use Rattle.text_theory.specs.Spans.{span, form-within}
+use Rattle.text_theory.specs.Refusals.{on-scan-as, network-within}
+use Rattle.text_theory.specs.RoundTrip.{written-read}
+
+pub record Printable (number place : ℕ) : Type 0 where
+  pub low : number ≤ 13
+  pub near : place ≤ 45039
+  pub notEight : number ≢ 8
+  pub notTwelve : number ≢ 12
+
+printable : (number place : ℕ) → number ≤ 13 → place ≤ 45039 → eqb number 8 ≡ false → eqb number 12 ≡ false → Printable number place
+printable number place low near eight twelve =
+    record { low = low; near = near; notEight = eqb-false number 8 eight; notTwelve = eqb-false number 12 twelve }
+
+-- The planner's own lists are long enough for every network and every k.
+pub length-room : (size : ℕ) → length (room size) ≡ size
+unfolding room
+length-room size = length-replicate size 0
+
+rooms-fit : (n k : ℕ) → n ≤ 1000 → k ≤ 32 → tooShort n k (room 32) (room 1062) (room 32000) ≡ false
+unfolding tooShort
+rooms-fit n k few most =
+    let product : k * n ≤ 32 * 1000 = mul-le-mul {n₂ = 32} {m₂ = 1000} most few in
+    or-neither (ltb (length (room 32)) k) _ (le-ltb (length (room 32)) k (omega (arith, length-room 32)))
+    (or-neither (ltb (length (room 1062)) (n - 2 + 2 * k)) _
+    (le-ltb (length (room 1062)) (n - 2 + 2 * k) (omega (arith, length-room 1062)))
+    (le-ltb (length (room 32000)) (k * n) (omega (arith, length-room 32000))))
+
+-- Cut refuses with 9, Route with 9, 10, 11 or 13.
+pub cut-printable : (n : ℕ) (lows highs : List ℕ) (k : ℕ) → Accepted n lows highs
+    → RefusedAs Printable (cutAnswer n lows highs k (room 3000))
+unfolding cutAnswer
+cut-printable n lows highs k good =
+    let roomy : ltb (length (room 3000)) (length lows) ≡ false =
+    le-ltb (length (room 3000)) (length lows) (omega (arith, length-room 3000, accepted n lows highs good .short)) in
+    rw (then-done (tableCheck n lows highs) _ [] good)
+    (refuse-as Printable (outside 1 32 k) 9 0 _ (λ _. printable 9 0 (omega arith) (omega arith) refl refl)
+    (λ _. rw (refuse-not (ltb (length (room 3000)) (length lows)) 12 0 _ roomy) tt))
+
+route-printable : (n : ℕ) (lows highs : List ℕ) (k from to : ℕ) → Accepted n lows highs
+    → RefusedAs Printable (routeAnswer n lows highs k from to (room 32) (room 1062) (room 32000))
+unfolding routeAnswer
+route-printable n lows highs k from to good =
+    rw (then-done (tableCheck n lows highs) _ [] good)
+    (refuse-as Printable (outside 1 32 k) 9 0 _ (λ _. printable 9 0 (omega arith) (omega arith) refl refl)
+    (λ range. refuse-as Printable (leb n from || leb n to) 10 0 _ (λ _. printable 10 0 (omega arith) (omega arith) refl refl)
+    (λ _. refuse-as Printable (eqb from to) 11 0 _ (λ _. printable 11 0 (omega arith) (omega arith) refl refl)
+    (λ _. rw (refuse-not (tooShort n k (room 32) (room 1062) (room 32000)) 12 0 _
+    (rooms-fit n k (accepted n lows highs good .few) (inside-range 1 32 k range .1)))
+    (refuse-as Printable (not (endsInOneTree n lows highs k from to)) 13 0 _ (λ _. printable 13 0 (omega arith) (omega arith) refl refl)
+    (λ _. tt))))))
+
+sheet-printable : (from to k : ℕ) (network : Network) → Accepted (network .relays) (network .lows) (network .highs)
+    → RefusedAs Printable (sheetFor from to k network)
+unfolding sheetFor
+sheet-printable from to k network good =
+    let n = network .relays in
+    let lows = network .lows in
+    let highs = network .highs in
+    then-as Printable (cutAnswer n lows highs k (room 3000)) _ (cut-printable n lows highs k good)
+    (λ kept _. then-as Printable (routeAnswer n lows highs k from to (room 32) (room 1062) (room 32000)) _
+    (route-printable n lows highs k from to good)
+    (λ _ _. tt))
+
+-- Read refuses with 2 to 7.
+pub read-printable : (text : List ℕ) → RefusedAs Printable (readNetwork text 3000 3000)
+read-printable text =
+    as-more (Bounds 7 45039) Printable (readNetwork text 3000 3000)
+    (λ number place within.
+    printable number place (omega (arith, within .0)) (within .1)
+    (ne-eqb number 8 (λ e. omega (arith, within .0))) (ne-eqb number 12 (λ e. omega (arith, within .0))))
+    (network-within text 3000 3000 (omega arith) (omega arith))
+
+pub planned-printable : (input : List ℕ) → RefusedAs Printable (planned input)
+unfolding planned span wishForm
+planned-printable input =
+    on-scan-as Printable 1 22 (scanForm input wishForm 0) _
+    (λ place below. printable 1 place (omega arith) (omega arith) refl refl) (form-within wishForm input 0)
+    (λ wish p e below.
+    let text = drop p input in
+    then-as Printable (readNetwork text 3000 3000) _ (read-printable text)
+    (λ network read. sheet-printable (getD wish 0 0) (getD wish 1 0) (getD wish 2 0) network
+    (written-read text 3000 3000 network read .1)))
