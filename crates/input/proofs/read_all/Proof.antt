@@ -1,12 +1,13 @@
--- `planner::read_all` meets its contract. The loop's invariant: the bytes read so far are within the buffer, whose length
--- does not change. The measure is what is left of it. Assumes nothing.
+-- `input::read_all` meets its contract. The loop's invariant: the bytes read so far are within the buffer, whose length does not
+-- change. The measure is what is left of it. Assumes nothing.
 use Prim.Native.Nat.{_-_, _≤_}
+use mathlib.Core.Bool.{true≢false}
 use mathlib.Core.Path.{_≡_, refl, sym, _∙_}
 use native.Mathlib.Omega.{arith}
 use lib.ListN.{length}
 use lib.Seq.{length-take-le}
-use Rattle.planner.proofs.read_all.Statement.{statement}
-use Rattle.planner.proofs.read_all.Tie as tie
+use Rattle.input.proofs.read_all.Statement.{statement}
+use Rattle.input.proofs.read_all.Tie as tie
 
 abbrev Inv-loop : tie.InvT-loop
 Inv-loop buffer₀ size₀ buffer size = (size ≤ length buffer) × (length buffer ≡ length buffer₀)
@@ -21,14 +22,17 @@ read-more-requires : tie.Need-read-more-requires Inv-loop μ-loop
 read-more-requires c κs = omega arith
 
 same-length : tie.Need-same-length Inv-loop μ-loop
-same-length c = c .before .before .before .read-more .ensures .1 ∙ c .before .before .before .before .before .before .loop .inv .1
+same-length c =
+    let atReadMore = c .before .before .before in
+    let atLoop = atReadMore .before .before .before in
+    atReadMore .read-more .ensures .1 ∙ atLoop .loop .inv .1
 
 returns : tie.Need-returns Inv-loop μ-loop
 returns c =
     let atReadMore = c .before .before .before in
     let atLoop = atReadMore .before .before .before in
     let within : atLoop .loop .size ≤ length (atReadMore .read-more .last .0) = omega (arith, atReadMore .read-more .ensures .0) in
-    (within, sym (length-take-le _ _ within))
+    ((within, sym (length-take-le _ _ within)), λ failed ended. absurd (true≢false failed))
 
 same-length-2 : tie.Need-same-length-2 Inv-loop μ-loop
 same-length-2 c =
@@ -41,7 +45,7 @@ returns-2 c =
     let atReadMore = c .before .before .before .before .before in
     let atLoop = atReadMore .before .before .before in
     let within : atLoop .loop .size ≤ length (atReadMore .read-more .last .0) = omega (arith, atReadMore .read-more .ensures .0) in
-    (within, sym (length-take-le _ _ within))
+    ((within, sym (length-take-le _ _ within)), λ failed ended. absurd (true≢false ended))
 
 add-size : tie.Need-add-size Inv-loop μ-loop
 add-size c = omega (arith, c .before .before .before .before .before .before .read-more .ensures)
@@ -60,8 +64,9 @@ same-length-3 c = c .before .loop .inv .1
 
 returns-3 : tie.Need-returns-3 Inv-loop μ-loop
 returns-3 c =
-    let within = c .before .loop .inv .0 in
-    (within, sym (length-take-le _ _ within))
+    let at = c .before .loop in
+    let within = at .inv .0 in
+    ((within, sym (length-take-le _ _ within)), λ failed ended. omega (arith, at .inv .1))
 
 pub read-all-spec : {M : Type 1} → statement M
 read-all-spec =

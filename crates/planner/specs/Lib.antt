@@ -1,0 +1,2 @@
+-- What the planner hands to the write call.
+pub mod Answered
