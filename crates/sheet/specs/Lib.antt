@@ -10,5 +10,5 @@ pub mod Longest
 pub mod Promise
 pub mod Front
 pub mod ReadStage
-pub mod Answers
+pub mod Into
 pub mod Stages
