@@ -5,24 +5,22 @@ use mathlib.Core.Bool.{Bool, true, false}
 use mathlib.Core.List.{List, [], _∷_, _++_}
 use mathlib.Core.Path.{_≡_, refl}
 use native.Mathlib.Omega.{arith}
-use lib.Dec.{eqb, ltb}
-use lib.ListN.{length, getD, drop, length-append}
+use lib.Dec.{eqb}
+use lib.ListN.{length, getD, length-append}
 use Rattle.definitions.specs.Outcome.{pick, Outcome, refused, done}
-use Rattle.definitions.specs.Lists.{outside, count}
-use Rattle.definitions.specs.Network.{tableCheck, Accepted}
-use Rattle.definitions.specs.Forests.{marksOf, cutAnswer}
-use Rattle.definitions.specs.Form.{scanForm, writeForm}
-use Rattle.definitions.specs.Text.{Network, endForm, readNetwork}
-use Rattle.definitions.specs.Plan.{keptForm, refusedForm, room, printed}
+use Rattle.definitions.specs.Lists.{count}
+use Rattle.definitions.specs.Network.{Accepted}
+use Rattle.definitions.specs.Forests.{marksOf}
+use Rattle.definitions.specs.Form.{writeForm}
+use Rattle.definitions.specs.Text.{Network, endForm}
+use Rattle.definitions.specs.Plan.{keptForm, printed}
 use Rattle.definitions.specs.Lease.{
-  keepForm,
   leaseForm,
   keptLinkForm,
   droppedLinkForm,
   droppedForm,
   Lease,
   leaseRoom,
-  leaseFor,
   leased,
   leaseLine,
   leaseLines,
@@ -30,41 +28,14 @@ use Rattle.definitions.specs.Lease.{
   keepText,
 }
 use Rattle.lists.specs.Counting.{count-length}
-use Rattle.lists.specs.Outcomes.{then-done}
-use Rattle.lists.specs.RefusedWithin.{RefusedWithin, refuse-within, then-within, within-more}
+use Rattle.lists.specs.RefusedWithin.{RefusedAs}
 use Rattle.theory.specs.Accepted.{accepted}
 use Rattle.theory.specs.Columns.{length-marks}
-use Rattle.text_theory.specs.Spans.{span, AllBelow, written-span, form-within}
-use Rattle.text_theory.specs.Refusals.{on-scan-within, network-within}
-use Rattle.text_theory.specs.RoundTrip.{written-read}
+use Rattle.text_theory.specs.Spans.{span, written-span}
+use Rattle.sheet.specs.Longest.{refused-length}
+use Rattle.sheet.specs.Refusals.{Printable}
 use Rattle.lease.specs.Listed.{leaseOf, ListedLinks, listed-links}
-
--- Refusals: Cut's is 9, and Read's have places up to the length of the longest network text.
-cut-within : (n : ℕ) (lows highs : List ℕ) (k : ℕ) (marks : List ℕ) → Accepted n lows highs
-    → RefusedWithin 13 45039 (cutAnswer n lows highs k marks)
-unfolding cutAnswer
-cut-within n lows highs k marks good =
-    rw (then-done (tableCheck n lows highs) _ [] good)
-    (refuse-within 13 45039 (outside 1 32 k) 9 0 _ (omega arith) (omega arith)
-    (λ _. refuse-within 13 45039 (ltb (length marks) (length lows)) 12 0 _ (omega arith) (omega arith) (λ _. tt)))
-
-lease-within : (k : ℕ) (network : Network) → Accepted (network .relays) (network .lows) (network .highs)
-    → RefusedWithin 13 45039 (leaseFor k network)
-unfolding leaseFor
-lease-within k network good =
-    let n = network .relays in
-    then-within 13 45039 (cutAnswer n (network .lows) (network .highs) k (room 3000)) _
-    (cut-within n (network .lows) (network .highs) k (room 3000) good) (λ _ _. tt)
-
-leased-within : (input : List ℕ) → RefusedWithin 13 45039 (leased input)
-unfolding leased span keepForm
-leased-within input =
-    on-scan-within 13 45039 1 12 (scanForm input keepForm 0) _ (omega arith) (omega arith) (form-within keepForm input 0)
-    (λ wish p e below.
-    let text = drop p input in
-    then-within 13 45039 (readNetwork text 3000 3000) _
-    (within-more 8 45039 13 45039 (readNetwork text 3000 3000) (omega arith) (omega arith) (network-within text 3000 3000))
-    (λ network read. lease-within (getD wish 0 0) network (written-read text 3000 3000 network read .1)))
+use Rattle.lease.specs.Promise.{leased-printable}
 
 -- A line of a link, kept or dropped, whose numbers have at most four digits.
 line-length : (mark i a b : ℕ) → i < 10000 → a < 10000 → b < 10000 → length (leaseLine mark i a b) ≤ 22
@@ -123,18 +94,13 @@ lease-length k network few good =
           (length lows) 0 (omega arith),
     )
 
-refused-length : (number place : ℕ) → number ≤ 13 → place ≤ 45039 → length (writeForm refusedForm (number ∷ place ∷ [])) ≤ leaseRoom
-unfolding span refusedForm leaseRoom
-refused-length number place h l =
-    omega (arith, written-span 4 refusedForm (number ∷ place ∷ []) (omega arith, (omega arith, tt)))
-
 pub keep-length : (input : List ℕ) → length (keepText input) ≤ leaseRoom
-unfolding keepText printed
-keep-length input = go (leased input) (leased-within input) (listed-links input)
+unfolding leaseRoom keepText printed
+keep-length input = go (leased input) (leased-printable input) (listed-links input)
   where
-    go : (outcome : Outcome Lease) → RefusedWithin 13 45039 outcome
+    go : (outcome : Outcome Lease) → RefusedAs Printable outcome
         → ((lease : Lease) → outcome ≡ done lease → ListedLinks input lease) → length (printed leaseText outcome) ≤ leaseRoom
-    go (refused number place) within _ = refused-length number place (within .0) (within .1)
+    go (refused number place) given _ = omega (arith, refused-length number place given)
     go (done lease) _ behind =
         let found = behind lease refl in
-        rw (found .leaseIs) (lease-length (found .k) (found .network) (found .few) (found .table))
+        rw (found .leaseIs) (lease-length (found .k) (found .network) (found .few) (found .asked .accepted))

@@ -1,114 +1,103 @@
--- The promise of the list of links: what is printed is a line for each link by its forest number, with the counts of either
--- form, and the kept links do what all the links do while fewer than k relays are dead.
-use Prim.Native.Nat.{ℕ, zero, suc, _+_, _≤_, _<_}
-use mathlib.Core.Bool.{Bool, true, false, not, true≢false}
-use mathlib.Core.List.{List, [], _∷_, _++_, map}
-use mathlib.Core.Logic.{_↔_}
-use mathlib.Core.Path.{_≡_, refl, sym, _∙_, ap, ap₂}
+-- The promise of the list of links, `LeasePromise`: every input gets a list that holds, or the line of the first refusal met.
+use Prim.Native.Nat.{ℕ}
+use mathlib.Core.List.{List, [], _∷_}
+use mathlib.Core.Logic.{_⊎_, inl, inr}
+use mathlib.Core.Path.{_≡_, refl, sym, _∙_, ap, subst}
 use native.Mathlib.Omega.{arith}
-use lib.Dec.{eqb}
-use lib.ListN.{length, getD}
-use Rattle.definitions.specs.Outcome.{pick}
-use Rattle.definitions.specs.Lists.{table, outside, count, joinAll}
+use lib.ListN.{getD, drop}
+use Rattle.definitions.specs.Outcome.{Outcome, refused, done, andThen}
 use Rattle.definitions.specs.Network.{Accepted}
-use Rattle.definitions.specs.Forests.{markOf, forestsOf, marksOf}
-use Rattle.definitions.specs.Form.{writeForm}
-use Rattle.definitions.specs.Text.{Network}
-use Rattle.definitions.specs.Lease.{keptLinkForm, droppedLinkForm, leaseLine, leaseLines, leaseText}
-use Rattle.definitions.specs.Demand.{Joined, LinkOf, AnyLink, Kept, Live, deadCount}
-use Rattle.definitions.specs.LeasePromise.{dispensable, linkLine, LeaseHolds}
-use Rattle.lists.specs.Chains.{joined-map}
-use Rattle.lists.specs.Counting.{count-not}
-use Rattle.lists.specs.Maps.{getD-map}
-use Rattle.theory.specs.Certificate.{survives}
-use Rattle.theory.specs.Columns.{mark-entry}
-use Rattle.theory.specs.ForestBound.{forests-length}
-use Rattle.lease.specs.Listed.{leaseOf}
+use Rattle.definitions.specs.Forests.{cutAnswer}
+use Rattle.definitions.specs.Form.{departs, reads, scanForm}
+use Rattle.definitions.specs.Text.{Network, readNetwork}
+use Rattle.definitions.specs.Plan.{room, printed}
+use Rattle.definitions.specs.Lease.{keepForm, Lease, leaseFor, leased, leaseText, keepText}
+use Rattle.definitions.specs.LeasePromise.{KeepAsked, LeaseHolds, KeepRefusal, inLine, inText, inCut, LeasePrinted, KeepRefused, LeasePromise}
+use Rattle.lists.specs.RefusedWithin.{RefusedAs, then-as}
+use Rattle.lists.specs.SameOutcomes.{refused-then}
+use Rattle.text_theory.specs.Spans.{span}
+use Rattle.text_theory.specs.Refusals.{on-scan-refused}
+use Rattle.sheet.specs.Refusals.{Printable, cut-printable, front-printable}
+use Rattle.lease.specs.Listed.{leaseOf, line-read, keep-asked, listed-links}
+use Rattle.lease.specs.Holds.{lease-holds}
 
--- The counts of the marks are those of the forest numbers.
-pub count-ones : (k : ℕ) (forests : List ℕ) → count (eqb 1) (map (markOf k) forests) ≡ count (λ f. not (outside 1 k f)) forests
-unfolding count markOf
-count-ones k [] = refl
-count-ones k (f ∷ forests) = go (outside 1 k f) (count-ones k forests)
-  where
-    go : (t : Bool) → count (eqb 1) (map (markOf k) forests) ≡ count (λ f. not (outside 1 k f)) forests
-        → pick (eqb 1 (pick t 0 1)) 1 0 + count (eqb 1) (map (markOf k) forests)
-        ≡ pick (not t) 1 0 + count (λ f. not (outside 1 k f)) forests
-    go true h = omega arith
-    go false h = omega arith
+-- The refusals that are printed.
+lease-printable : (k : ℕ) (network : Network) → Accepted (network .relays) (network .lows) (network .highs)
+    → RefusedAs Printable (leaseFor k network)
+unfolding leaseFor
+lease-printable k network good =
+    then-as Printable (cutAnswer (network .relays) (network .lows) (network .highs) k (room 3000)) _
+    (cut-printable (network .relays) (network .lows) (network .highs) k good) (λ _ _. tt)
 
-pub count-zeros : (k : ℕ) (forests : List ℕ) → count (eqb 0) (map (markOf k) forests) ≡ count (outside 1 k) forests
-unfolding count markOf
-count-zeros k [] = refl
-count-zeros k (f ∷ forests) = go (outside 1 k f) (count-zeros k forests)
-  where
-    go : (t : Bool) → count (eqb 0) (map (markOf k) forests) ≡ count (outside 1 k) forests
-        → pick (eqb 0 (pick t 0 1)) 1 0 + count (eqb 0) (map (markOf k) forests) ≡ pick t 1 0 + count (outside 1 k) forests
-    go true h = omega arith
-    go false h = omega arith
+pub leased-printable : (input : List ℕ) → RefusedAs Printable (leased input)
+unfolding leased span keepForm
+leased-printable input =
+    front-printable keepForm (λ wish. leaseFor (getD wish 0 0)) input (omega arith)
+    (λ wish network good. lease-printable (getD wish 0 0) network good)
 
--- Either count is of all the links.
-pub counts-all : (n : ℕ) (lows highs : List ℕ) (k : ℕ)
-    → count (eqb 1) (marksOf n lows highs k) + count (eqb 0) (marksOf n lows highs k) ≡ length lows
-unfolding marksOf
-counts-all n lows highs k =
-    let forests = forestsOf n lows highs in
-    omega (arith, count-ones k forests, count-zeros k forests, count-not (outside 1 k) forests, forests-length n lows highs)
-
-module _ (n : ℕ) (lows highs : List ℕ) (k : ℕ) where
-  -- The mark of a link, by its forest number.
-  mark-at : (i : ℕ) → i < length lows → getD (marksOf n lows highs k) i 0 ≡ pick (dispensable n lows highs k i) 0 1
-  unfolding marksOf markOf dispensable
-  mark-at i h = getD-map (markOf k) (forestsOf n lows highs) i 0 0 (omega (arith, forests-length n lows highs))
-
-  mark-kept : (i : ℕ) → i < length lows → Kept (marksOf n lows highs k) i ↔ (dispensable n lows highs k i ≡ false)
-  mark-kept i h = go (dispensable n lows highs k i) (mark-at i h)
+-- The first refusal, stage by stage from the last: Cut, Read, the line in front.
+module _ (input : List ℕ) (number place : ℕ) where
+  cut-first : (k : ℕ) (network : Network) → KeepAsked input k network → leaseFor k network ≡ refused number place
+      → KeepRefusal input number place
+  unfolding leaseFor
+  cut-first k network asked e = go (refused-then cut _ number place e)
     where
-      go : (t : Bool) → getD (marksOf n lows highs k) i 0 ≡ pick t 0 1 → (getD (marksOf n lows highs k) i 0 ≡ 1) ↔ (t ≡ false)
-      go true e = (λ one. absurd (omega arith), λ same. absurd (true≢false same))
-      go false e = (λ _. refl, λ _. e)
+      cut : Outcome (List ℕ)
+      cut = cutAnswer (network .relays) (network .lows) (network .highs) k (room 3000)
 
-  -- A line by the mark is the line by the forest number.
-  line-as : (i : ℕ) → i < length lows
-      → leaseLine (getD (marksOf n lows highs k) i 0) i (getD lows i 0) (getD highs i 0) ≡ linkLine n lows highs k i
-  unfolding leaseLine linkLine
-  line-as i h =
-      ap (λ (mark : ℕ). writeForm (pick (eqb mark 1) keptLinkForm droppedLinkForm) (i ∷ getD lows i 0 ∷ getD highs i 0 ∷ [])) (mark-at i h)
-      ∙ go (dispensable n lows highs k i)
+      go : (cut ≡ refused number place)
+          ⊎ ((first : List ℕ) × (cut ≡ done first) × (done (leaseOf k network) ≡ refused number place)) → KeepRefusal input number place
+      go (inl refusal) = inCut asked refusal
+      go (inr found) =
+          let never = found .2 in
+          let z : _≡_ {A = ℕ} 0 1 = cc in
+          absurd (omega arith)
+
+  read-first : (wish : List ℕ) (p : ℕ) → scanForm input keepForm 0 ≡ reads wish p
+      → andThen (readNetwork (drop p input) 3000 3000) (leaseFor (getD wish 0 0)) ≡ refused number place → KeepRefusal input number place
+  read-first wish p wished e = go (refused-then (readNetwork (drop p input) 3000 3000) _ number place e)
     where
-      go : (t : Bool) → writeForm (pick (eqb (pick t 0 1) 1) keptLinkForm droppedLinkForm) (i ∷ getD lows i 0 ∷ getD highs i 0 ∷ [])
-          ≡ writeForm (pick t droppedLinkForm keptLinkForm) (i ∷ getD lows i 0 ∷ getD highs i 0 ∷ [])
-      go true = refl
-      go false = refl
+      go : (readNetwork (drop p input) 3000 3000 ≡ refused number place)
+          ⊎ ((network : Network) × (readNetwork (drop p input) 3000 3000 ≡ done network)
+          × (leaseFor (getD wish 0 0) network ≡ refused number place))
+          → KeepRefusal input number place
+      go (inl read) = inText (line-read input wish p wished) read
+      go (inr found) = cut-first (getD wish 0 0) (found .0) (keep-asked input wish p (found .0) wished (found .1)) (found .2)
 
-  lines-as : (count i : ℕ) → i + count ≤ length lows
-      → leaseLines lows highs (marksOf n lows highs k) i count ≡ joinAll (table (linkLine n lows highs k) i count)
-  unfolding leaseLines joinAll table
-  lines-as zero i h = refl
-  lines-as (suc count) i h = ap₂ _++_ (line-as i (omega arith)) (lines-as count (i + 1) (omega arith))
+  first-refusal : leased input ≡ refused number place → KeepRefusal input number place
+  unfolding leased
+  first-refusal e = go (on-scan-refused 1 (scanForm input keepForm 0) _ number place e)
+    where
+      go : ((scanForm input keepForm 0 ≡ departs place) × (number ≡ 1))
+          ⊎ ((wish : List ℕ) × (p : ℕ) × (scanForm input keepForm 0 ≡ reads wish p)
+          × (andThen (readNetwork (drop p input) 3000 3000) (leaseFor (getD wish 0 0)) ≡ refused number place))
+          → KeepRefusal input number place
+      go (inl departed) = rw (departed .1) (inLine (departed .0))
+      go (inr found) = read-first (found .0) (found .1) (found .2) (found .3)
 
-  -- The certificate, over the links that have a `keep` line.
-  keeps-joined : Accepted n lows highs → 1 ≤ k → (dead : ℕ → Bool) → deadCount n dead < k → (a b : ℕ)
-      → Joined (Live n dead) (LinkOf lows highs (λ i. dispensable n lows highs k i ≡ false)) a b
-      ↔ Joined (Live n dead) (LinkOf lows highs AnyLink) a b
-  keeps-joined ok one dead few a b =
-      let same = survives n lows highs ok k one (marksOf n lows highs k) (mark-entry n lows highs k) dead few a b in (
-        λ chain. same .0 (joined-map (λ r. r) (λ r l. l) (λ r s l. (l .0, l .1, l .2, mark-kept (l .0) (l .1) .1 (l .3))) chain),
-        λ chain. joined-map (λ r. r) (λ r l. l) (λ r s l. (l .0, l .1, l .2, mark-kept (l .0) (l .1) .0 (l .3))) (same .1 chain),
-      )
-
-  pub lease-holds : Accepted n lows highs → 1 ≤ k
-      → LeaseHolds n lows highs k (leaseText (leaseOf k (record { relays = n; lows = lows; highs = highs })))
-  unfolding leaseText marksOf
-  lease-holds ok one =
-      let forests = forestsOf n lows highs in
-      record {
-        kept = count (eqb 1) (marksOf n lows highs k);
-        dropped = count (eqb 0) (marksOf n lows highs k);
-        text = rw (lines-as (length lows) 0 (omega arith));
-        keptAre = count-ones k forests;
-        droppedAre = count-zeros k forests;
-        all = counts-all n lows highs k;
-        marked = mark-kept;
-        survives = λ dead few a b la lb. keeps-joined ok one dead few a b;
-      }
+pub lease-promise : LeasePromise
+unfolding keepText printed
+lease-promise input = go (leased input) refl
+  where
+    go : (outcome : Outcome Lease) → leased input ≡ outcome → LeasePrinted input ⊎ KeepRefused input
+    go (refused number place) e =
+        let fits = subst (RefusedAs Printable) e (leased-printable input) in
+        inr (record {
+          number = number;
+          place = place;
+          first = first-refusal input number place e;
+          text = ap (printed leaseText) e;
+          roomy = (fits .notEight, fits .notTwelve);
+        })
+    go (done lease) e =
+        let found = listed-links input lease e in
+        let network = found .network in
+        inl (record {
+          k = found .k;
+          network = network;
+          asked = found .asked;
+          holds =
+              subst (LeaseHolds (network .relays) (network .lows) (network .highs) (found .k))
+              (sym (ap (printed leaseText) e ∙ ap leaseText (found .leaseIs)))
+              (lease-holds (network .relays) (network .lows) (network .highs) (found .k) (found .asked .accepted) (found .some));
+        })

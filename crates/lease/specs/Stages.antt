@@ -1,16 +1,15 @@
 -- The list of links stage by stage: the line in front, Read, Cut, and what each answer makes of the list. Assumes nothing.
-use Prim.Native.Nat.{ℕ, _+_, _-_, _≤_}
-use mathlib.Core.Bool.{Bool, true, false}
-use mathlib.Core.List.{List, [], _∷_, map}
-use mathlib.Core.Path.{_≡_, refl, _∙_, ap}
+use Prim.Native.Nat.{ℕ, _-_, _≤_}
+use mathlib.Core.List.{List, [], _∷_}
+use mathlib.Core.Path.{_≡_, _∙_, ap}
 use native.Mathlib.Omega.{arith}
 use lib.Dec.{eqb}
 use lib.ListN.{length, take, drop, length-drop}
 use lib.Seq.{take-all}
-use Rattle.definitions.specs.Outcome.{pick, Outcome, done, andThen}
-use Rattle.definitions.specs.Lists.{overwrite, outside, count, total}
+use Rattle.definitions.specs.Outcome.{Outcome, done, andThen}
+use Rattle.definitions.specs.Lists.{overwrite, count}
 use Rattle.definitions.specs.Network.{Accepted}
-use Rattle.definitions.specs.Forests.{markOf, forestsOf, marksOf, cutAnswer, marksAfter}
+use Rattle.definitions.specs.Forests.{marksOf, cutAnswer, marksAfter}
 use Rattle.definitions.specs.Form.{departs, reads, scanForm, onScan}
 use Rattle.definitions.specs.Text.{readNetwork, readAnswer}
 use Rattle.definitions.specs.Plan.{room, printed}
@@ -25,11 +24,11 @@ use Rattle.network.specs.Answers.{refusalOf}
 use Rattle.network.specs.declared.Refusal.{Refusal}
 use Rattle.network.specs.declared.Refusal.the-variants.{Wish}
 use Rattle.sheet.specs.Front.{longer}
-use Rattle.sheet.specs.Planned.{cut-count}
+use Rattle.sheet.specs.Planned.{cut-passed}
 use Rattle.sheet.specs.ReadStage.{whole-put, networkOf, stage-refused, cut-rooms, network-refused, ReadTable}
 use Rattle.lease.specs.Lines.{lines-front, listLines}
 use Rattle.lease.specs.Listed.{keep-line}
-use Rattle.lease.specs.Promise.{counts-all}
+use Rattle.lease.specs.Holds.{counts-all}
 
 -- Read, and the stages behind it.
 unfoldable pub readStage : List ℕ → ℕ → Outcome Lease
@@ -70,17 +69,6 @@ pub cut-refused : (n : ℕ) (lows highs : List ℕ) (k : ℕ) (refusal : Refusal
 unfolding leaseFor
 cut-refused n lows highs k refusal e = stage-refused _ _ refusal e
 
--- The marks add up to the count of the kept, and what is left of the links is the count of the dropped.
-marks-total : (k : ℕ) (forests : List ℕ) → total (map (markOf k) forests) ≡ count (eqb 1) (map (markOf k) forests)
-unfolding total count markOf
-marks-total k [] = refl
-marks-total k (f ∷ forests) = go (outside 1 k f) (marks-total k forests)
-  where
-    go : (t : Bool) → total (map (markOf k) forests) ≡ count (eqb 1) (map (markOf k) forests)
-        → pick t 0 1 + total (map (markOf k) forests) ≡ pick (eqb 1 (pick t 0 1)) 1 0 + count (eqb 1) (map (markOf k) forests)
-    go true h = omega arith
-    go false h = omega arith
-
 -- Cut answered: the list of marks that it wrote gives the lines of the list, with its answer as the count of the kept.
 pub record Marked (n : ℕ) (lows highs : List ℕ) (k kept : ℕ) (marks : List ℕ) : Type 0 where
   pub inHighs : length lows ≤ length highs
@@ -91,12 +79,12 @@ pub record Marked (n : ℕ) (lows highs : List ℕ) (k kept : ℕ) (marks : List
 pub cut-marked : (n : ℕ) (lows highs : List ℕ) (k kept : ℕ) (marks marksNow : List ℕ) → Accepted n lows highs → marks ≡ room 3000
     → cutAnswer n lows highs k marks ≡ done (kept ∷ []) → marksNow ≡ marksAfter n lows highs k marks
     → Marked n lows highs k kept marksNow
-unfolding printed leaseText listLines leaseFor marksAfter marksOf
+unfolding printed leaseText listLines leaseFor marksAfter
 cut-marked n lows highs k kept marks marksNow good marksAre e after =
     let all = marksOf n lows highs k in
     let table = accepted n lows highs good in
-    let counted = cut-count n lows highs k marks (kept ∷ []) good e in
-    let ones : kept ≡ count (eqb 1) all = cc (marks-total k (forestsOf n lows highs)) in
+    let counted = cut-passed n lows highs k marks (kept ∷ []) good e .counted in
+    let ones : kept ≡ count (eqb 1) all = cc in
     let zeros : length lows - kept ≡ count (eqb 0) all = omega (arith, counts-all n lows highs k) in
     let size : length all ≡ length lows = length-marks n lows highs k in
     let written : marksNow ≡ overwrite all marks = after ∙ if-done (cutAnswer n lows highs k marks) (kept ∷ []) _ _ e in
