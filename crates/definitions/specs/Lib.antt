@@ -12,6 +12,7 @@ pub mod Plan
 pub mod Lease
 pub mod Demand
 pub mod SheetPromise
+pub mod LeasePromise
 pub mod Networks
 pub mod Opened
 pub mod PExamples

@@ -1,5 +1,5 @@
--- The remaining examples of document 01: 'Others', the texts, and the printed sheet of the mesh, by computation.
--- Assumes nothing.
+-- The remaining examples of document 01: 'Others', the texts, and the printed sheet of the mesh; and the mesh's list of links.
+-- By computation. Assumes nothing.
 use Prim.Native.Nat.{ℕ, _+_, _*_}
 use Prim.Native.String.{String}
 use mathlib.Core.List.{List, [], _∷_, _++_}
@@ -9,6 +9,7 @@ use Rattle.definitions.specs.Outcome.{refused, done}
 use Rattle.definitions.specs.Form.{bytes, writeForm}
 use Rattle.definitions.specs.Text.{Network, headerForm, linkForm, endForm, readAnswer, lowsAfter, highsAfter, writeAnswer, bufferAfter}
 use Rattle.definitions.specs.Plan.{planText}
+use Rattle.definitions.specs.Lease.{keepText}
 use Rattle.definitions.specs.Networks.{
   Result,
   Example,
@@ -45,6 +46,10 @@ writeWith size w =
 -- What the program prints.
 abbrev printsFor : (input : String) → Result
 printsFor input = record { answer = done []; lists = planText (bytes input) ∷ [] }
+
+-- What the list of links prints.
+abbrev listsFor : (input : String) → Result
+listsFor input = record { answer = done []; lists = keepText (bytes input) ∷ [] }
 
 abbrev prints : (output : String) → Result
 prints output = record { answer = done []; lists = bytes output ∷ [] }
@@ -143,6 +148,18 @@ otherExamples =
       found = printsFor "(want 0 1 33)\n(net (relays 2) (links 0))\n(end)\n";
       due = prints "(refused 9 0)\n";
     }
+    -- The list of the mesh's links, cut to 1; a line in front that departs, a network that Read refuses, a k that Cut refuses.
+    ∷ record {
+      found =
+          listsFor
+          "(keep 1)\n(net (relays 5) (links 7))\n(link 0 1)\n(link 0 2)\n(link 1 2)\n(link 1 3)\n(link 2 3)\n(link 2 4)\n(link 3 4)\n(end)\n";
+      due =
+          prints
+          "(lease (k 1))\n(keep 0 0 1)\n(keep 1 0 2)\n(drop 2 1 2)\n(keep 3 1 3)\n(drop 4 2 3)\n(keep 5 2 4)\n(drop 6 3 4)\n(kept 4)\n(dropped 3)\n(end)\n";
+    }
+    ∷ record { found = listsFor "(keep 01)\n"; due = prints "(refused 1 7)\n" }
+    ∷ record { found = listsFor "(keep 1)\n(net (relays 2) (links 1))\n(link 1 1)\n"; due = prints "(refused 6 0)\n" }
+    ∷ record { found = listsFor "(keep 33)\n(net (relays 2) (links 0))\n(end)\n"; due = prints "(refused 9 0)\n" }
     ∷ []
 
 pub other-examples-hold : AllHold otherExamples

@@ -88,12 +88,11 @@ printed textOf (done value) = textOf value
 unfoldable pub planText : (input : List ℕ) → List ℕ
 planText input = printed sheetText (planned input)
 
--- The same as an operation on a lent list, for the C interface: 12 where the list is shorter than what is to be printed. The
--- answer is the length of what is printed.
-unfoldable pub planAnswer : (input output : List ℕ) → Answer
-planAnswer input output =
-    refuseIf (ltb (length output) (length (planText input))) 12 0 (done (length (planText input) ∷ []))
+-- A text that is to be printed into a lent list, for the C interface: 12 where the list is shorter than the text. The answer is
+-- the text's length.
+unfoldable pub printAnswer : (text output : List ℕ) → Answer
+printAnswer text output = refuseIf (ltb (length output) (length text)) 12 0 (done (length text ∷ []))
 
 -- The list afterwards.
-unfoldable pub outputAfter : (input output : List ℕ) → List ℕ
-outputAfter input output = ifDone (planAnswer input output) (overwrite (planText input) output) output
+unfoldable pub outputAfter : (text output : List ℕ) → List ℕ
+outputAfter text output = ifDone (printAnswer text output) (overwrite text output) output

@@ -17,9 +17,17 @@ abbrev pub Enough : (bytes : List ℕ) (ended : Bool) → Type 0
 Enough bytes ended = ended ≡ false → inputRoom ≤ length bytes
 
 -- What rests on an input's first bytes alone is the same for all of it.
-pub whole-same : (text : List ℕ → List ℕ) → ((n : ℕ) (input : List ℕ) → inputRoom ≤ n → text (take n input) ≡ text input)
+whole-same : (text : List ℕ → List ℕ) → ((n : ℕ) (input : List ℕ) → inputRoom ≤ n → text (take n input) ≡ text input)
     → (bytes : List ℕ) (ended : Bool) (whole : List ℕ) → Enough bytes ended → Whole bytes ended whole
     → text bytes ≡ text whole
 whole-same text reach bytes true whole enough given = ap text (sym (given .all refl))
 whole-same text reach bytes false whole enough given =
     ap text (sym (given .begins)) ∙ reach (length bytes) whole (enough refl)
+
+-- The text of the whole input, whichever it is, as far as the bytes read tell of it.
+abbrev pub Answered : (text : List ℕ → List ℕ) (bytes : List ℕ) (ended : Bool) (output : List ℕ) → Type 0
+Answered text bytes ended output = (whole : List ℕ) → Whole bytes ended whole → output ≡ text whole
+
+pub answered : (text : List ℕ → List ℕ) → ((n : ℕ) (input : List ℕ) → inputRoom ≤ n → text (take n input) ≡ text input)
+    → (bytes : List ℕ) (ended : Bool) (output : List ℕ) → Enough bytes ended → output ≡ text bytes → Answered text bytes ended output
+answered text reach bytes ended output enough same whole given = same ∙ whole-same text reach bytes ended whole enough given

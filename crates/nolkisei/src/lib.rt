@@ -1,14 +1,13 @@
-// The C interface: each operation of document 01 as a C function, and its planner. What a code and the two entries of `answer`
-// mean is said in specs/Reported.antt, and for C programs in include/nolkisei.h.
+// The C interface: each operation of document 01 as a C function, its planner, and the list of links worth keeping. What a code
+// and the two entries of `answer` mean is said in specs/Reported.antt, and for C programs in include/nolkisei.h.
 ghost use mathlib.Core.Path.{_≡_};
-ghost use lib.ListN.{length};
-ghost use Rattle.definitions.specs.Lists.{overwrite};
 ghost use Rattle.definitions.specs.Network.{pairAnswer, tableCheck};
 ghost use Rattle.definitions.specs.Text.{readAnswer, lowsAfter, highsAfter, writeAnswer, bufferAfter};
 ghost use Rattle.definitions.specs.Order.{orderAnswer, relaysAfter, placesAfter};
 ghost use Rattle.definitions.specs.Forests.{splitAnswer, forestsAfter, cutAnswer, marksAfter};
 ghost use Rattle.definitions.specs.Route.{routeAnswer, countsAfter, routeRelaysAfter, scratchAfter};
-ghost use Rattle.definitions.specs.Plan.{planText};
+ghost use Rattle.definitions.specs.Plan.{planText, printAnswer, outputAfter};
+ghost use Rattle.definitions.specs.Lease.{keepText};
 ghost use Rattle.nolkisei.specs.Reported.{reported};
 
 mod report;
@@ -20,6 +19,7 @@ use network::Check;
 use network::Pair;
 use network::Relay;
 use routes::RouteAnswer;
+use sheet::into::PrintAnswer;
 use text::ReadAnswer;
 use text::WriteAnswer;
 
@@ -177,11 +177,26 @@ pub extern "C" fn nolkisei_route(
     }
 }
 
-// The planner: the sheet or the refused line for an input, from the output's first byte on; gives its length.
+// The planner: the sheet or the refused line for an input, from the output's first byte on. The answer is its length.
 #[no_mangle]
-pub extern "C" fn nolkisei_plan(input: &[u8], output: &mut [u8; 4608]) -> usize
-    ensures length { λ r. ⌜ r ≡ length (planText (now (input .entry))) ⌝ }
-    ensures bytes { λ _. ⌜ now (output .exit) ≡ overwrite (planText (now (input .entry))) (now (output .entry)) ⌝ }
+pub extern "C" fn nolkisei_plan(input: &[u8], output: &mut [u8], answer: &mut [u64; 2]) -> u32
+    ensures answer { λ r. ⌜ reported (printAnswer (planText (now (input .entry))) (now (output .entry))) ≡ (r, now (answer .exit)) ⌝ }
+    ensures bytes { λ _. ⌜ now (output .exit) ≡ outputAfter (planText (now (input .entry))) (now (output .entry)) ⌝ }
 {
-    sheet::plan(input, output)
+    match sheet::plan_into(input, output) {
+        PrintAnswer::Printed(size) => report::give(size as u64, 0, answer),
+        PrintAnswer::Refused(refusal) => report::refuse(refusal, answer),
+    }
+}
+
+// The list of the links worth keeping, or the refused line, likewise.
+#[no_mangle]
+pub extern "C" fn nolkisei_keep(input: &[u8], output: &mut [u8], answer: &mut [u64; 2]) -> u32
+    ensures answer { λ r. ⌜ reported (printAnswer (keepText (now (input .entry))) (now (output .entry))) ≡ (r, now (answer .exit)) ⌝ }
+    ensures bytes { λ _. ⌜ now (output .exit) ≡ outputAfter (keepText (now (input .entry))) (now (output .entry)) ⌝ }
+{
+    match lease::keep_into(input, output) {
+        PrintAnswer::Printed(size) => report::give(size as u64, 0, answer),
+        PrintAnswer::Refused(refusal) => report::refuse(refusal, answer),
+    }
 }

@@ -1,12 +1,12 @@
 // The planner: reads a wish and a network text from standard input and prints the sheet, or the refusal.
-ghost use Rattle.input.specs.Whole.{Enough};
-ghost use Rattle.planner.specs.Answered.{Answered};
+ghost use Rattle.definitions.specs.Plan.{planText};
+ghost use Rattle.input.specs.Whole.{Enough, Answered};
 use libc::STDERR_FILENO;
 use libc::STDOUT_FILENO;
 
 // Hands the sheet to the write call: it is that of every input that begins with the bytes read, and is just these if it ended.
 fn hand_over(bytes: &[u8], ended: bool, sheet: &[u8])
-    requires { ⌜ Answered (now bytes) ended (now sheet) ⌝ }
+    requires { ⌜ Answered planText (now bytes) ended (now sheet) ⌝ }
 {
     io::write_all(STDOUT_FILENO, sheet);
 }

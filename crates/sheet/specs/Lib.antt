@@ -9,5 +9,6 @@ pub mod Routes
 pub mod Longest
 pub mod Promise
 pub mod Front
-pub mod Answers
+pub mod ReadStage
+pub mod Into
 pub mod Stages

@@ -111,18 +111,19 @@ sheet-length from to k network sheet good smallFrom smallTo given =
       length-routes n lows highs k from to,
     ))
 
-refused-length : (number place : ℕ) → number ≤ 13 → place ≤ 45039 → length (writeForm refusedForm (number ∷ place ∷ [])) ≤ outputRoom
-unfolding outputRoom span refusedForm
-refused-length number place h l =
-    omega (arith, written-span 4 refusedForm (number ∷ place ∷ []) (omega arith, (omega arith, tt)))
+-- The line of a refusal has at most 22 bytes.
+pub refused-length : (number place : ℕ) → Printable number place → length (writeForm refusedForm (number ∷ place ∷ [])) ≤ 22
+unfolding span refusedForm
+refused-length number place given =
+    omega (arith, written-span 4 refusedForm (number ∷ place ∷ []) (omega (arith, given .low), (omega (arith, given .near), tt)))
 
 pub plan-length : (input : List ℕ) → length (planText input) ≤ outputRoom
-unfolding planText printed
+unfolding outputRoom planText printed
 plan-length input = go (planned input) (planned-printable input) (planned-sheet input)
   where
     go : (outcome : Outcome Sheet) → RefusedAs Printable outcome
         → ((sheet : Sheet) → outcome ≡ done sheet → PlannedSheet input sheet) → length (printed sheetText outcome) ≤ outputRoom
-    go (refused number place) within _ = refused-length number place (within .low) (within .near)
+    go (refused number place) given _ = omega (arith, refused-length number place given)
     go (done sheet) _ behind =
         let found = behind sheet refl in
         sheet-length (found .from) (found .to) (found .k) (found .network) sheet (found .asked .accepted)

@@ -73,10 +73,16 @@ marks-ones k (f ∷ forests) = go (outside 1 k f) (marks-ones k forests)
     go true same = omega arith
     go false same = omega arith
 
-pub cut-count : (n : ℕ) (lows highs : List ℕ) (k : ℕ) (marks values : List ℕ) → Accepted n lows highs
-    → cutAnswer n lows highs k marks ≡ done values → values ≡ count (eqb 1) (marksOf n lows highs k) ∷ []
+-- What Cut passed, and its answer.
+pub record CutPassed (n : ℕ) (lows highs : List ℕ) (k : ℕ) (values : List ℕ) : Type 0 where
+  pub some : 1 ≤ k
+  pub few : k ≤ 32
+  pub counted : values ≡ count (eqb 1) (marksOf n lows highs k) ∷ []
+
+pub cut-passed : (n : ℕ) (lows highs : List ℕ) (k : ℕ) (marks values : List ℕ) → Accepted n lows highs
+    → cutAnswer n lows highs k marks ≡ done values → CutPassed n lows highs k values
 unfolding cutAnswer marksOf
-cut-count n lows highs k marks values table e =
+cut-passed n lows highs k marks values table e =
     let last = done (total (marksOf n lows highs k) ∷ []) in
     let fitting = refuseIf (ltb (length marks) (length lows)) 12 0 last in
     let first : refuseIf (outside 1 32 k) 9 0 fitting ≡ done values =
@@ -85,7 +91,8 @@ cut-count n lows highs k marks values table e =
     let twelve = not-refused (ltb (length marks) (length lows)) 12 0 last values (nine .1) in
     let same = twelve .1 in
     let ones : total (marksOf n lows highs k) ≡ count (eqb 1) (marksOf n lows highs k) = marks-ones k (forestsOf n lows highs) in
-    cc
+    let range = inside-range 1 32 k (nine .0) in
+    record { some = range .0; few = range .1; counted = cc }
 
 -- The sheet of a network, with so many links kept.
 abbrev pub sheetOf : ℕ → ℕ → ℕ → Network → ℕ → Sheet
@@ -122,7 +129,7 @@ sheet-for from to k network sheet table e =
     let (kept, cut, after) = done-then (cutAnswer n lows highs k (room 3000)) _ sheet e in
     let (values, routed, last) =
     done-then (routeAnswer n lows highs k from to (room 32) (room 1062) (room 32000)) _ sheet after in
-    let counted = cut-count n lows highs k (room 3000) kept table cut in
+    let counted = cut-passed n lows highs k (room 3000) kept table cut .counted in
     record {
       answer = values;
       routed = routed;

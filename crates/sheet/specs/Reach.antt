@@ -1,27 +1,17 @@
 -- How far the planner looks: a longer input cannot change what it prints.
 -- Assumes nothing.
-use Prim.Native.Nat.{ℕ, _-_, _≤_}
+use Prim.Native.Nat.{ℕ, _≤_}
 use mathlib.Core.List.{List}
-use mathlib.Core.Path.{_≡_, _∙_, ap}
+use mathlib.Core.Path.{_≡_}
 use native.Mathlib.Omega.{arith}
-use lib.ListN.{getD, take, drop}
-use Rattle.definitions.specs.Outcome.{andThen}
-use Rattle.definitions.specs.Form.{scanForm}
-use Rattle.definitions.specs.Text.{readNetwork}
+use lib.ListN.{getD, take}
 use Rattle.definitions.specs.Plan.{wishForm, inputRoom, sheetFor, planned, planText}
-use Rattle.lists.specs.Front.{drop-take}
-use Rattle.text_theory.specs.Spans.{span, form-within}
-use Rattle.text_theory.specs.Reach.{form-reach, network-reach, on-scan-same}
+use Rattle.text_theory.specs.Spans.{span}
+use Rattle.text_theory.specs.Reach.{front-reach}
 
 planned-reach : (n : ℕ) (input : List ℕ) → inputRoom ≤ n → planned (take n input) ≡ planned input
 unfolding planned span wishForm inputRoom
-planned-reach n input h =
-    rw (form-reach n input wishForm 0 (omega arith))
-    (on-scan-same 1 22 (scanForm input wishForm 0) _ _ (form-within wishForm input 0)
-    (λ wish p e below.
-    ap (λ network. andThen network (sheetFor (getD wish 0 0) (getD wish 1 0) (getD wish 2 0)))
-    (ap (λ (rest : List ℕ). readNetwork rest 3000 3000) (drop-take p n input)
-    ∙ network-reach (n - p) (drop p input) 3000 3000 (omega arith))))
+planned-reach n input h = front-reach wishForm (λ wish. sheetFor (getD wish 0 0) (getD wish 1 0) (getD wish 2 0)) n input (omega arith)
 
 -- The wish line has at most 22 bytes, and behind it the reader needs at most 45,040.
 pub plan-reach : (n : ℕ) (input : List ℕ) → inputRoom ≤ n → planText (take n input) ≡ planText input

@@ -10,11 +10,12 @@ use native.Mathlib.Omega.{arith}
 use lib.Dec.{eqb, ltb, leb}
 use lib.ListN.{length, getD, drop, length-replicate}
 use borrow.Author.Tests.{eqb-false, ne-eqb, le-ltb}
+use Rattle.definitions.specs.Outcome.{Outcome, andThen}
 use Rattle.definitions.specs.Lists.{outside}
 use Rattle.definitions.specs.Network.{tableCheck, Accepted}
 use Rattle.definitions.specs.Forests.{cutAnswer}
 use Rattle.definitions.specs.Route.{oneTreeOf, tooShort, routeAnswer}
-use Rattle.definitions.specs.Form.{scanForm}
+use Rattle.definitions.specs.Form.{Item, scanForm, onScan}
 use Rattle.definitions.specs.Text.{Network, readNetwork}
 use Rattle.definitions.specs.Plan.{wishForm, room, sheetFor, planned}
 use Rattle.lists.specs.Outcomes.{refuse-not, then-done}
@@ -87,7 +88,7 @@ sheet-printable from to k network good =
     (λ _ _. tt))
 
 -- Read refuses with 2 to 7.
-pub read-printable : (text : List ℕ) → RefusedAs Printable (readNetwork text 3000 3000)
+read-printable : (text : List ℕ) → RefusedAs Printable (readNetwork text 3000 3000)
 read-printable text =
     as-more (Bounds 7 45039) Printable (readNetwork text 3000 3000)
     (λ number place within.
@@ -95,13 +96,20 @@ read-printable text =
     (ne-eqb number 8 (λ e. omega (arith, within .0))) (ne-eqb number 12 (λ e. omega (arith, within .0))))
     (network-within text 3000 3000 (omega arith) (omega arith))
 
-pub planned-printable : (input : List ℕ) → RefusedAs Printable (planned input)
-unfolding planned span wishForm
-planned-printable input =
-    on-scan-as Printable 1 22 (scanForm input wishForm 0) _
-    (λ place below. printable 1 place (omega arith) (omega arith) refl refl) (form-within wishForm input 0)
+-- A line in front, then Read, then what is printable for every accepted network.
+pub front-printable : {A : Type 0} (form : List Item) (next : List ℕ → Network → Outcome A) (input : List ℕ) → span 4 form ≤ 45039
+    → ((wish : List ℕ) (network : Network) → Accepted (network .relays) (network .lows) (network .highs) → RefusedAs Printable (next wish network))
+    → RefusedAs Printable (onScan 1 (scanForm input form 0) (λ wish p. andThen (readNetwork (drop p input) 3000 3000) (next wish)))
+front-printable form next input short after =
+    on-scan-as Printable 1 (0 + span 4 form) (scanForm input form 0) _
+    (λ place below. printable 1 place (omega arith) (omega arith) refl refl) (form-within form input 0)
     (λ wish p e below.
     let text = drop p input in
     then-as Printable (readNetwork text 3000 3000) _ (read-printable text)
-    (λ network read. sheet-printable (getD wish 0 0) (getD wish 1 0) (getD wish 2 0) network
-    (written-read text 3000 3000 network read .1)))
+    (λ network read. after wish network (written-read text 3000 3000 network read .1)))
+
+pub planned-printable : (input : List ℕ) → RefusedAs Printable (planned input)
+unfolding planned span wishForm
+planned-printable input =
+    front-printable wishForm (λ wish. sheetFor (getD wish 0 0) (getD wish 1 0) (getD wish 2 0)) input (omega arith)
+    (λ wish network good. sheet-printable (getD wish 0 0) (getD wish 1 0) (getD wish 2 0) network good)

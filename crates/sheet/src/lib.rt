@@ -2,15 +2,17 @@
 ghost use mathlib.Core.Path.{_≡_};
 ghost use lib.ListN.{length};
 ghost use Rattle.definitions.specs.Lists.{overwrite};
-ghost use Rattle.definitions.specs.Plan.{planText, planAnswer, outputAfter};
-ghost use Rattle.sheet.specs.Answers.{planOutcome};
+ghost use Rattle.definitions.specs.Plan.{planText, printAnswer, outputAfter};
+ghost use Rattle.sheet.specs.Into.{printOutcome};
+use into::PrintAnswer;
+use into::print_into;
 use network::Refusal;
 use refusal::put_refusal;
 use stages::plan_network;
-use text::put;
 use wish::WishScan;
 use wish::wish_line;
 
+pub mod into;
 pub mod print;
 pub mod refusal;
 pub mod rooms;
@@ -28,22 +30,12 @@ pub fn plan(input: &[u8], output: &mut [u8; rooms::OUTPUT]) -> usize
     }
 }
 
-// What `plan_into` answers: the length of what is printed.
-pub enum PlanAnswer {
-    Printed(usize),
-    Refused(Refusal),
-}
-
 // The same into a list of any length: refused where it is shorter than what is to be printed, and then left as it was.
-pub fn plan_into(input: &[u8], output: &mut [u8]) -> PlanAnswer
-    ensures answer { λ r. ⌜ planOutcome r ≡ planAnswer (now (input .entry)) (now (output .entry)) ⌝ }
-    ensures bytes { λ _. ⌜ now (output .exit) ≡ outputAfter (now (input .entry)) (now (output .entry)) ⌝ }
+pub fn plan_into(input: &[u8], output: &mut [u8]) -> PrintAnswer
+    ensures answer { λ r. ⌜ printOutcome r ≡ printAnswer (planText (now (input .entry))) (now (output .entry)) ⌝ }
+    ensures bytes { λ _. ⌜ now (output .exit) ≡ outputAfter (planText (now (input .entry))) (now (output .entry)) ⌝ }
 {
     let mut room = rooms::output();
     let size = plan(input, &mut room);
-    if output.len() < size {
-        return PlanAnswer::Refused(Refusal::Room);
-    }
-    let end = put::put_word(output, 0, &room[..size]);
-    PlanAnswer::Printed(end)
+    print_into(&room[..size], output)
 }

@@ -3,13 +3,13 @@
 use Prim.Native.Nat.{ℕ, zero, suc, _+_, _-_, _*_, _≤_, _<_}
 use mathlib.Core.Bool.{Bool, true, false, _||_}
 use mathlib.Core.List.{List, [], _∷_, _++_}
-use mathlib.Core.Path.{_≡_, refl, ap}
+use mathlib.Core.Path.{_≡_, refl, _∙_, ap}
 use native.Mathlib.Omega.{arith}
 use lib.Dec.{ltb}
-use lib.ListN.{length, getD, take, length-take}
+use lib.ListN.{length, getD, take, drop, length-take}
 use lib.Seq.{getD-take}
 use borrow.Author.Tests.{lt-ltb, le-ltb, ltb-true, ltb-false}
-use Rattle.definitions.specs.Outcome.{Outcome}
+use Rattle.definitions.specs.Outcome.{Outcome, andThen}
 use Rattle.definitions.specs.Lists.{outside}
 use Rattle.definitions.specs.Network.{linkFault}
 use Rattle.definitions.specs.Form.{
@@ -30,7 +30,8 @@ use Rattle.definitions.specs.Form.{
   onScan,
   writeForm,
 }
-use Rattle.definitions.specs.Text.{headerForm, linkForm, endForm, readEnd, readLinks, readNetwork}
+use Rattle.definitions.specs.Text.{headerForm, linkForm, endForm, Network, readEnd, readLinks, readNetwork}
+use Rattle.lists.specs.Front.{drop-take}
 use Rattle.lists.specs.Ranges.{inside-range}
 use Rattle.lists.specs.SameOutcomes.{refuse-same}
 use Rattle.theory.specs.Accepted.{fault-none}
@@ -167,3 +168,16 @@ network-reach n text roomLows roomHighs h =
     (λ room.
     let least = ltb-false 3000 links many in
     links-reach links n text relays [] [] p (inside-range 1 1000 relays size .1) (line .1 .within) (omega arith))))))
+
+-- A line in front, and the network text behind it.
+pub front-reach : {A : Type 0} (form : List Item) (next : List ℕ → Network → Outcome A) (n : ℕ) (input : List ℕ)
+    → span 4 form + 45040 ≤ n
+    → onScan 1 (scanForm (take n input) form 0) (λ wish p. andThen (readNetwork (drop p (take n input)) 3000 3000) (next wish))
+    ≡ onScan 1 (scanForm input form 0) (λ wish p. andThen (readNetwork (drop p input) 3000 3000) (next wish))
+front-reach form next n input h =
+    rw (form-reach n input form 0 (omega arith))
+    (on-scan-same 1 (0 + span 4 form) (scanForm input form 0) _ _ (form-within form input 0)
+    (λ wish p e below.
+    ap (λ network. andThen network (next wish))
+    (ap (λ (rest : List ℕ). readNetwork rest 3000 3000) (drop-take p n input)
+    ∙ network-reach (n - p) (drop p input) 3000 3000 (omega arith))))

@@ -56,7 +56,7 @@ module _ (n : ℕ) (lows highs : List ℕ) where
       getD-map (markOf k) (forestsOf n lows highs) i 0 0 (omega (arith, forests-length n lows highs))
       ∙ ap (markOf k) (forests-at n lows highs i h)
 
-  length-marks : (k : ℕ) → length (marksOf n lows highs k) ≡ length lows
+  pub length-marks : (k : ℕ) → length (marksOf n lows highs k) ≡ length lows
   unfolding marksOf
   length-marks k = length-map (forestsOf n lows highs) (markOf k) ∙ forests-length n lows highs
 

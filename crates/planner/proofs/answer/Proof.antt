@@ -2,8 +2,10 @@
 use mathlib.Core.Path.{sym}
 use denote.Ref.{now}
 use lib.Seq.{length-take-le}
-use Rattle.sheet.specs.Front.{front-within}
-use Rattle.planner.specs.Answered.{answered}
+use Rattle.definitions.specs.Plan.{planText}
+use Rattle.input.specs.Whole.{answered}
+use Rattle.sheet.specs.Front.{front-within, front-is}
+use Rattle.sheet.specs.Reach.{plan-reach}
 use borrow.Author.Needs.{needs}
 use Rattle.planner.proofs.answer.Statement.{statement}
 use Rattle.planner.proofs.answer.Tie as tie
@@ -25,7 +27,8 @@ hand-over-requires : tie.Need-hand-over-requires
 hand-over-requires c κs =
     let atPlan = c .before in
     let start = atPlan .before .before .before .before in
-    answered (now (start .args .bytes)) (start .args .ended) _ _ _ (start .pre) (atPlan .plan .ensures .0) (atPlan .plan .ensures .1)
+    answered planText plan-reach (now (start .args .bytes)) (start .args .ended) _ (start .pre)
+    (front-is _ _ _ _ (atPlan .plan .ensures .0) (atPlan .plan .ensures .1))
 
 returns : tie.Need-returns
 returns c = search needs

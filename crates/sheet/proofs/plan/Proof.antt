@@ -8,7 +8,8 @@ use lib.ListN.{length}
 use Rattle.definitions.specs.Plan.{outputRoom, planned, sheetText, printed, planText}
 use Rattle.sheet.specs.Wish.{wishGives}
 use Rattle.sheet.specs.Longest.{plan-length}
-use Rattle.sheet.specs.Stages.{fits-as, put-as, wish-departed, wish-taken, plan-put}
+use Rattle.sheet.specs.ReadStage.{fits-as, put-as}
+use Rattle.sheet.specs.Stages.{wish-departed, wish-taken, plan-put}
 use borrow.Author.Needs.{needs}
 use Rattle.sheet.proofs.plan.Statement.{statement}
 use Rattle.sheet.proofs.plan.Tie as tie
@@ -26,7 +27,7 @@ put-refusal-requires c κs =
     let start = atWishLine .before .before in
     let a = start .args in
     let bound : length (printed sheetText (planned (now (a .input)))) ≤ outputRoom = plan-length (now (a .input)) in
-    let line = fits-as _ _ _
+    let line = fits-as _ _ _ _
     (wish-departed (now (a .input)) _ (sym (atWishLine .wish-line .ensures) ∙ ap wishGives (c .before .before .p .given .1))) bound in
     omega arith
 
@@ -58,7 +59,7 @@ plan-network-requires c κs =
     let start = atWishLine .before .before in
     let a = start .args in
     let bound : length (printed sheetText (planned (now (a .input)))) ≤ outputRoom = plan-length (now (a .input)) in
-    let lines = fits-as _ _ _
+    let lines = fits-as _ _ _ _
     (wish-taken (now (a .input)) _ _ _ _ (sym (atWishLine .wish-line .ensures) ∙ ap wishGives (atFrom .from .given .1)) .1) bound in
     omega arith
 
@@ -70,7 +71,7 @@ returns c =
     let start = atWishLine .before .before in
     let a = start .args in
     plan-put (now (a .input)) _ _ _ (omega (arith, plan-length (now (a .input))))
-    (put-as _ _ _ _ _ (wish-departed (now (a .input)) _ (sym (atWishLine .wish-line .ensures) ∙ ap wishGives (atP .p .given .1))) (c .put-refusal .ensures))
+    (put-as _ _ _ _ _ _ (wish-departed (now (a .input)) _ (sym (atWishLine .wish-line .ensures) ∙ ap wishGives (atP .p .given .1))) (c .put-refusal .ensures))
 
 returns-2 : tie.Need-returns-2
 unfolding outputRoom
@@ -80,7 +81,7 @@ returns-2 c =
     let start = atWishLine .before .before in
     let a = start .args in
     plan-put (now (a .input)) _ _ _ (omega (arith, plan-length (now (a .input))))
-    (put-as _ _ _ _ _ (wish-taken (now (a .input)) _ _ _ _ (sym (atWishLine .wish-line .ensures) ∙ ap wishGives (atFrom .from .given .1)) .1) (c .plan-network .ensures))
+    (put-as _ _ _ _ _ _ (wish-taken (now (a .input)) _ _ _ _ (sym (atWishLine .wish-line .ensures) ∙ ap wishGives (atFrom .from .given .1)) .1) (c .plan-network .ensures))
 
 pub plan-spec : {M : Type 1} → statement M
 plan-spec =

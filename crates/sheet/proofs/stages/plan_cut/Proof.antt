@@ -3,7 +3,8 @@ use mathlib.Core.Path.{sym, _∙_, ap}
 use denote.Ref.{now}
 use Rattle.definitions.specs.Plan.{printed}
 use Rattle.forests.specs.Answers.{cutOutcome}
-use Rattle.sheet.specs.Stages.{fits-as, put-as, cut-refused, cut-done, cut-rooms}
+use Rattle.sheet.specs.ReadStage.{fits-as, put-as, cut-rooms}
+use Rattle.sheet.specs.Stages.{cut-refused, cut-done}
 use borrow.Author.Needs.{needs}
 use Rattle.sheet.proofs.stages.plan_cut.Statement.{statement}
 use Rattle.sheet.proofs.stages.plan_cut.Tie as tie
@@ -27,7 +28,7 @@ put-refusal-requires c κs =
     let atLinks = atCut .before .before in
     let start = atLinks .before .before .before .before in
     let a = start .args in
-    fits-as _ _ _ (cut-refused (a .n) (now (a .lows)) (now (a .highs)) (a .from) (a .to) (a .k) 0 (c .before .before .refusal .given .0 .0)
+    fits-as _ _ _ _ (cut-refused (a .n) (now (a .lows)) (now (a .highs)) (a .from) (a .to) (a .k) 0 (c .before .before .refusal .given .0 .0)
     (cut-rooms (a .n) (now (a .lows)) (now (a .highs)) (a .k) _ (atLinks .links .ensures) _
     (sym (atCut .cut .ensures .0) ∙ ap cutOutcome (c .before .before .refusal .given .1)))) (start .pre)
 
@@ -40,7 +41,7 @@ plan-routes-requires c κs =
     let atLinks = atCut .before .before in
     let start = atLinks .before .before .before .before in
     let a = start .args in
-    fits-as _ _ _ (cut-done (a .n) (now (a .lows)) (now (a .highs)) (a .from) (a .to) (a .k) _
+    fits-as _ _ _ _ (cut-done (a .n) (now (a .lows)) (now (a .highs)) (a .from) (a .to) (a .k) _
     (cut-rooms (a .n) (now (a .lows)) (now (a .highs)) (a .k) _ (atLinks .links .ensures) _
     (sym (atCut .cut .ensures .0) ∙ ap cutOutcome (c .before .before .kept .given .1)))) (start .pre)
 
@@ -55,7 +56,7 @@ returns c =
     let atLinks = atCut .before .before in
     let start = atLinks .before .before .before .before in
     let a = start .args in
-    put-as _ _ _ _ _ (cut-refused (a .n) (now (a .lows)) (now (a .highs)) (a .from) (a .to) (a .k) 0 (atRefusal .refusal .given .0 .0)
+    put-as _ _ _ _ _ _ (cut-refused (a .n) (now (a .lows)) (now (a .highs)) (a .from) (a .to) (a .k) 0 (atRefusal .refusal .given .0 .0)
     (cut-rooms (a .n) (now (a .lows)) (now (a .highs)) (a .k) _ (atLinks .links .ensures) _
     (sym (atCut .cut .ensures .0) ∙ ap cutOutcome (atRefusal .refusal .given .1)))) (c .before .before .put-refusal .ensures)
 
@@ -69,7 +70,7 @@ returns-2 c =
     let atLinks = atCut .before .before in
     let start = atLinks .before .before .before .before in
     let a = start .args in
-    put-as _ _ _ _ _ (cut-done (a .n) (now (a .lows)) (now (a .highs)) (a .from) (a .to) (a .k) _
+    put-as _ _ _ _ _ _ (cut-done (a .n) (now (a .lows)) (now (a .highs)) (a .from) (a .to) (a .k) _
     (cut-rooms (a .n) (now (a .lows)) (now (a .highs)) (a .k) _ (atLinks .links .ensures) _
     (sym (atCut .cut .ensures .0) ∙ ap cutOutcome (atKept .kept .given .1)))) (c .before .before .plan-routes .ensures)
 

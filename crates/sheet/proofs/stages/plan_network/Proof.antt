@@ -5,7 +5,8 @@ use denote.Ref.{now}
 use lib.Seq.{length-take-le}
 use Rattle.definitions.specs.Plan.{printed}
 use Rattle.text.specs.Answers.{readOutcome}
-use Rattle.sheet.specs.Stages.{fits-as, put-as, read-refused, read-done}
+use Rattle.sheet.specs.ReadStage.{fits-as, put-as, read-done}
+use Rattle.sheet.specs.Stages.{read-refused, read-table}
 use borrow.Author.Needs.{needs}
 use Rattle.sheet.proofs.stages.plan_network.Statement.{statement}
 use Rattle.sheet.proofs.stages.plan_network.Tie as tie
@@ -36,7 +37,7 @@ put-refusal-requires c κs =
     let atLinks = atLinks2 .before in
     let start = atLinks .before .before .before in
     let a = start .args in
-    fits-as _ _ _
+    fits-as _ _ _ _
     (read-refused (now (a .text)) _ _ (a .from) (a .to) (a .k) (c .before .before .refusal .given .0 .0) (atLinks .links .ensures) (atLinks2 .links2 .ensures)
     (sym (atRead .read .ensures .0) ∙ ap readOutcome (c .before .before .refusal .given .1))) (start .pre)
 
@@ -104,7 +105,7 @@ plan-cut-requires c κs =
     let a = start .args in
     let table = read-done (now (a .text)) _ _ _ _ _ _ (atLinks .links .ensures) (atLinks2 .links2 .ensures)
     (sym (atRead .read .ensures .0) ∙ ap readOutcome (atN .n .given .1)) (atRead .read .ensures .1 .0) (atRead .read .ensures .1 .1) in
-    fits-as _ _ _ (table .stage (a .from) (a .to) (a .k)) (start .pre)
+    fits-as _ _ _ _ (read-table _ _ _ _ _ (a .from) (a .to) (a .k) table) (start .pre)
 
 same-length : tie.Need-same-length
 same-length c = search needs
@@ -118,7 +119,7 @@ returns c =
     let atLinks = atLinks2 .before in
     let start = atLinks .before .before .before in
     let a = start .args in
-    put-as _ _ _ _ _
+    put-as _ _ _ _ _ _
     (read-refused (now (a .text)) _ _ (a .from) (a .to) (a .k) (atRefusal .refusal .given .0 .0) (atLinks .links .ensures) (atLinks2 .links2 .ensures)
     (sym (atRead .read .ensures .0) ∙ ap readOutcome (atRefusal .refusal .given .1))) (c .before .before .put-refusal .ensures)
 
@@ -135,7 +136,7 @@ returns-2 c =
     let a = start .args in
     let table = read-done (now (a .text)) _ _ _ _ _ _ (atLinks .links .ensures) (atLinks2 .links2 .ensures)
     (sym (atRead .read .ensures .0) ∙ ap readOutcome (atN .n .given .1)) (atRead .read .ensures .1 .0) (atRead .read .ensures .1 .1) in
-    put-as _ _ _ _ _ (table .stage (a .from) (a .to) (a .k)) (c .before .before .plan-cut .ensures)
+    put-as _ _ _ _ _ _ (read-table _ _ _ _ _ (a .from) (a .to) (a .k) table) (c .before .before .plan-cut .ensures)
 
 pub plan-network-spec : {M : Type 1} → statement M
 plan-network-spec =

@@ -7,7 +7,8 @@ use lib.ListN.{length}
 use Rattle.definitions.specs.Plan.{printed}
 use Rattle.text.specs.Put.{Put}
 use Rattle.routes.specs.Answers.{routeOutcome}
-use Rattle.sheet.specs.Stages.{fits-as, put-as, routes-refused, routes-written}
+use Rattle.sheet.specs.ReadStage.{fits-as, put-as}
+use Rattle.sheet.specs.Stages.{routes-refused, routes-written}
 use borrow.Author.Needs.{needs}
 use Rattle.sheet.proofs.stages.plan_routes.Statement.{statement}
 use Rattle.sheet.proofs.stages.plan_routes.Tie as tie
@@ -45,7 +46,7 @@ put-refusal-requires c κs =
     let atCounts = atRelays .before in
     let start = atCounts .before .before .before .before in
     let a = start .args in
-    fits-as _ _ _ (routes-refused (a .n) (now (a .lows)) (now (a .highs)) (a .from) (a .to) (a .k) (a .kept) _ _ _
+    fits-as _ _ _ _ (routes-refused (a .n) (now (a .lows)) (now (a .highs)) (a .from) (a .to) (a .k) (a .kept) _ _ _
     (atCounts .counts .ensures) (atRelays .relays .ensures) (atScratch .scratch .ensures) (c .before .before .refusal .given .0 .0)
     (sym (atRoute .route .ensures .0) ∙ ap routeOutcome (c .before .before .refusal .given .1))) (start .pre)
 
@@ -86,7 +87,7 @@ returns c =
     let atCounts = atRelays .before in
     let start = atCounts .before .before .before .before in
     let a = start .args in
-    put-as _ _ _ _ _ (routes-refused (a .n) (now (a .lows)) (now (a .highs)) (a .from) (a .to) (a .k) (a .kept) _ _ _
+    put-as _ _ _ _ _ _ (routes-refused (a .n) (now (a .lows)) (now (a .highs)) (a .from) (a .to) (a .k) (a .kept) _ _ _
     (atCounts .counts .ensures) (atRelays .relays .ensures) (atScratch .scratch .ensures) (atRefusal .refusal .given .0 .0)
     (sym (atRoute .route .ensures .0) ∙ ap routeOutcome (atRefusal .refusal .given .1))) (c .before .before .put-refusal .ensures)
 

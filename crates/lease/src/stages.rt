@@ -1,0 +1,47 @@
+// The list's stages, the last one first: each prints the refusal that it meets, or hands on to the next.
+ghost use mathlib.Core.Path.{_≡_};
+ghost use Prim.Native.Nat.{_≤_};
+ghost use lib.ListN.{length};
+ghost use Rattle.definitions.specs.Lease.{leaseFor, leaseText};
+ghost use Rattle.definitions.specs.Network.{Accepted};
+ghost use Rattle.definitions.specs.Plan.{printed};
+ghost use Rattle.text.specs.Put.{Put};
+ghost use Rattle.sheet.specs.ReadStage.{networkOf};
+ghost use Rattle.lease.specs.Stages.{readStage};
+use crate::print::put_list;
+use forests::CutAnswer;
+use forests::cut;
+use sheet::refusal::put_refusal;
+use sheet::rooms;
+use text::ReadAnswer;
+use text::read;
+
+// Cut, and the list with its marks.
+fn keep_cut(output: &mut [u8], n: u16, lows: &[u16], highs: &[u16], k: u16) -> usize
+    requires { ⌜ Accepted n (now lows) (now highs) ⌝ }
+    requires { ⌜ length (printed leaseText (leaseFor k (networkOf n (now lows) (now highs)))) ≤ length (now output) ⌝ }
+    ensures { λ r. ⌜ Put (now (output .entry)) 0 (printed leaseText (leaseFor k (networkOf n (now (lows .entry)) (now (highs .entry)))))
+        (now (output .exit)) r ⌝ }
+{
+    let mut marks = rooms::links();
+    match cut(n, lows, highs, k, &mut marks) {
+        CutAnswer::Refused(refusal) => put_refusal(output, refusal),
+        CutAnswer::Kept(kept) => put_list(output, k as usize, lows, highs, &marks, kept as usize),
+    }
+}
+
+// Read, and what follows.
+pub(crate) fn keep_network(output: &mut [u8], text: &[u8], k: u16) -> usize
+    requires { ⌜ length (printed leaseText (readStage (now text) k)) ≤ length (now output) ⌝ }
+    ensures { λ r. ⌜ Put (now (output .entry)) 0 (printed leaseText (readStage (now (text .entry)) k)) (now (output .exit)) r ⌝ }
+{
+    let mut lows = rooms::links();
+    let mut highs = rooms::links();
+    match read(text, &mut lows, &mut highs) {
+        ReadAnswer::Refused(refusal) => put_refusal(output, refusal),
+        ReadAnswer::Table(n, m) => {
+            let size = m as usize;
+            keep_cut(output, n, &lows[..size], &highs[..size], k)
+        }
+    }
+}

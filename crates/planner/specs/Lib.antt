@@ -1,2 +1,0 @@
--- What the planner hands to the write call.
-pub mod Answered
