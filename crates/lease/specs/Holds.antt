@@ -1,10 +1,10 @@
 -- What a list of links holds: a line for each link by its forest number, with the counts of either form; and the kept links do
--- what all the links do while fewer than k relays are dead.
+-- what all the links do while fewer than k relays are dead. Rests on the certificate.
 use Prim.Native.Nat.{ℕ, zero, suc, _+_, _≤_, _<_}
 use mathlib.Core.Bool.{Bool, true, false, not, true≢false}
 use mathlib.Core.List.{List, [], _∷_, _++_, map}
 use mathlib.Core.Logic.{_↔_}
-use mathlib.Core.Path.{_≡_, refl, sym, _∙_, ap, ap₂}
+use mathlib.Core.Path.{_≡_, refl, _∙_, ap, ap₂}
 use native.Mathlib.Omega.{arith}
 use lib.Dec.{eqb}
 use lib.ListN.{length, getD}
@@ -13,7 +13,6 @@ use Rattle.definitions.specs.Lists.{table, outside, count, joinAll}
 use Rattle.definitions.specs.Network.{Accepted}
 use Rattle.definitions.specs.Forests.{markOf, forestsOf, marksOf}
 use Rattle.definitions.specs.Form.{writeForm}
-use Rattle.definitions.specs.Text.{Network}
 use Rattle.definitions.specs.Lease.{keptLinkForm, droppedLinkForm, leaseLine, leaseLines, leaseText}
 use Rattle.definitions.specs.Demand.{Joined, LinkOf, AnyLink, Kept, Live, deadCount}
 use Rattle.definitions.specs.LeasePromise.{dispensable, linkLine, LeaseHolds}

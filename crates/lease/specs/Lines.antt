@@ -1,12 +1,11 @@
 -- The lines of a list of links by their parts, and the links' lines one by one. Assumes nothing.
 use Prim.Native.Nat.{ℕ, zero, suc, _+_, _-_, _≤_, _<_}
-use mathlib.Core.Bool.{Bool, true, false}
+use mathlib.Core.Bool.{true, false}
 use mathlib.Core.List.{List, [], _∷_, _++_, append-assoc, append-nil}
 use mathlib.Core.Path.{_≡_, refl, _∙_, ap, ap₂}
 use native.Mathlib.Omega.{arith}
 use lib.Dec.{eqb}
 use lib.ListN.{length, getD, length-append}
-use Rattle.definitions.specs.Outcome.{pick}
 use Rattle.definitions.specs.Lists.{overwrite}
 use Rattle.definitions.specs.Form.{bytes, Item, word, numeral, writeForm}
 use Rattle.definitions.specs.Text.{endForm}

@@ -1,7 +1,6 @@
 // Printing: the lines of a list of links, at an offset of a buffer that has the room.
 // Each gives the offset behind what it wrote.
 ghost use mathlib.Core.List.{[], _∷_};
-ghost use mathlib.Core.Path.{_≡_};
 ghost use Prim.Native.Nat.{_+_, _-_, _≤_};
 ghost use lib.ListN.{length};
 ghost use Rattle.definitions.specs.Form.{word, numeral, writeForm};

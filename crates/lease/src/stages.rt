@@ -1,5 +1,4 @@
 // The list's stages, the last one first: each prints the refusal that it meets, or hands on to the next.
-ghost use mathlib.Core.Path.{_≡_};
 ghost use Prim.Native.Nat.{_≤_};
 ghost use lib.ListN.{length};
 ghost use Rattle.definitions.specs.Lease.{leaseFor, leaseText};

@@ -1,6 +1,5 @@
 -- `lease::keep_into` meets its contract: the front of the list's own room is what `keep` prints. Assumes nothing.
 use mathlib.Core.Path.{sym}
-use denote.Ref.{now}
 use lib.Seq.{length-take-le}
 use Rattle.sheet.specs.Front.{front-within, front-is}
 use borrow.Author.Needs.{needs}

@@ -1,6 +1,5 @@
 -- `sheet::plan_into` meets its contract: the front of the planner's own room is what `plan` prints. Assumes nothing.
 use mathlib.Core.Path.{sym}
-use denote.Ref.{now}
 use lib.Seq.{length-take-le}
 use Rattle.sheet.specs.Front.{front-within, front-is}
 use borrow.Author.Needs.{needs}
