@@ -7,6 +7,7 @@ use native.Mathlib.Omega.{arith}
 use borrow.Author.Tests.{eq-eqb, ne-eqb}
 use lib.ListN.{length, getD, set, replicate, length-set}
 use lib.Seq.{getD-set-same, getD-set-other}
+use Rattle.lists.specs.Tables.{getD-zeros}
 use Rattle.forests.specs.Counts.{raisedCount, forestNumber, StartCounts}
 
 pub raised-none : (count : ℕ) → count ≡ 0 → raisedCount count ≡ 0
@@ -43,13 +44,8 @@ start-none size counts e =
     record {
       room = omega arith;
       waiting = λ r h. absurd (omega arith);
-      rest = λ r h. ap (λ l. getD l r 0) e ∙ zeros size r;
+      rest = λ r h. ap (λ l. getD l r 0) e ∙ getD-zeros size r;
     }
-  where
-    zeros : (n r : ℕ) → _≡_ {A = ℕ} (getD (replicate n 0) r 0) 0
-    zeros zero r = refl
-    zeros (suc n) zero = refl
-    zeros (suc n) (suc r) = zeros n r
 
 pub start-more : (n : ℕ) (counts : List ℕ) → n < length counts → StartCounts n counts → StartCounts (n + 1) (set counts n 1)
 start-more n counts h s =

@@ -8,8 +8,8 @@ use native.Mathlib.Omega.{arith}
 use borrow.Author.Tests.{eqb-true, eq-eqb}
 use lib.Count.{trailingZeros}
 use lib.ListN.{length, getD}
-use Rattle.lists.specs.Bitmap.{bitOf, marked}
-use Rattle.lists.specs.LowestBit.{no-bit, lowest-bit}
+use Rattle.lists.specs.Bitmap.{no-bit, bitOf, marked}
+use Rattle.lists.specs.LowestBit.{lowest-bit}
 use Rattle.forests.specs.Counts.{Heaviest}
 use Rattle.forests.specs.Buckets.{wordBits, columnWords, columnOf, wordIn, wordOf, slotOf, Buckets, FirstColumn, LowestBit, Leads}
 

@@ -13,7 +13,7 @@ use Rattle.definitions.specs.Text.{Network, readNetwork}
 use Rattle.definitions.specs.Plan.{room}
 use Rattle.definitions.specs.Lease.{keepForm, Lease, leaseFor, leased}
 use Rattle.definitions.specs.LeasePromise.{KeepAsked}
-use Rattle.lists.specs.SameOutcomes.{done-then}
+use Rattle.lists.specs.SameOutcomes.{done-same, done-then}
 use Rattle.text_theory.specs.Forms.{
   noZero,
   goodWord,
@@ -71,9 +71,6 @@ pub record ListedLinks (input : List ℕ) (lease : Lease) : Type 0 where
   pub some : 1 ≤ k
   pub few : k ≤ 32
   pub leaseIs : lease ≡ leaseOf k network
-
-done-same : {A : Type 0} (a b : A) → done a ≡ done b → a ≡ b
-done-same a b e = cc
 
 pub listed-links : (input : List ℕ) (lease : Lease) → leased input ≡ done lease → ListedLinks input lease
 unfolding leased leaseFor

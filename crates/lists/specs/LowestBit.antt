@@ -9,7 +9,6 @@ use lib.Count.{trailingZeros, under}
 use lib.Dec.{eqb}
 use lib.Pow.{shr-shr, shr-lt}
 use Rattle.lists.specs.Bitmap.{bitOf}
-pub use Rattle.lists.specs.Bitmap.{no-bit}
 
 -- Bit 0 is the lowest digit, and bit s + 1 is bit s of the half.
 bit-zero : (word digit : ℕ) → word % 2 ≡ digit → bitOf word 0 ≡ eqb digit 1

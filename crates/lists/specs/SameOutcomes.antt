@@ -14,6 +14,9 @@ unfolding refuseIf
 refuse-same true number place one other same = refl
 refuse-same false number place one other same = same refl
 
+pub done-same : {A : Type 0} (a b : A) → done a ≡ done b → a ≡ b
+done-same a b e = cc
+
 pub done-then : {A B : Type 0} (outcome : Outcome A) (next : A → Outcome B) (value : B) → andThen outcome next ≡ done value
     → (first : A) × (outcome ≡ done first) × (next first ≡ done value)
 unfolding andThen

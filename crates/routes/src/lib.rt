@@ -2,6 +2,10 @@
 // is said in specs/Answers.antt.
 use between::between;
 use between::one_tree;
+use forests::arrays::few_link_zeros;
+use forests::arrays::few_relay_copies;
+use forests::arrays::link_zeros;
+use forests::arrays::relay_copies;
 use forests::clear::clear;
 use forests::left::left_table;
 use forests::scan::is_small;
@@ -12,13 +16,9 @@ use network::Place;
 use network::Refusal;
 use network::Relay;
 use network::table_check;
+use sides::side_for_128_relays;
+use sides::side_for_1000_relays;
 use wish::wish_check;
-use zeros::side_for_128_relays;
-use zeros::side_for_1000_relays;
-use zeros::zeros_for_128_relays;
-use zeros::zeros_for_384_links;
-use zeros::zeros_for_1000_relays;
-use zeros::zeros_for_3000_links;
 ghost use mathlib.Core.Path.{_≡_};
 ghost use Prim.Native.Nat.{ℕ, _*_, _≤_, _<_};
 ghost use lib.ListN.{length, getD};
@@ -30,10 +30,10 @@ ghost use Rattle.routes.specs.Answers.{routeOutcome, answered, answerIn,
 
 mod between;
 mod side;
+mod sides;
 mod sweep;
 mod wish;
 mod write;
-mod zeros;
 
 // The count of relays written.
 pub enum RouteAnswer {
@@ -138,9 +138,9 @@ fn route_small(
         ≡ treeAnswer n (now (lows .entry)) (now (highs .entry)) k from to (now (counts .entry)) (now (relays .entry)) ⌝ }
     ensures { λ _. ⌜ now (scratch .exit) ≡ zeroed (now (scratch .entry)) ⌝ }
 {
-    let mut order = zeros_for_128_relays();
-    let mut places = zeros_for_128_relays();
-    let mut numbers = zeros_for_384_links();
+    let mut order = few_relay_copies(0);
+    let mut places = few_relay_copies(0);
+    let mut numbers = few_link_zeros();
     let mut a = side_for_128_relays();
     let mut b = side_for_128_relays();
     route_in(
@@ -178,9 +178,9 @@ fn route_large(
         ≡ treeAnswer n (now (lows .entry)) (now (highs .entry)) k from to (now (counts .entry)) (now (relays .entry)) ⌝ }
     ensures { λ _. ⌜ now (scratch .exit) ≡ zeroed (now (scratch .entry)) ⌝ }
 {
-    let mut order = zeros_for_1000_relays();
-    let mut places = zeros_for_1000_relays();
-    let mut numbers = zeros_for_3000_links();
+    let mut order = relay_copies(0);
+    let mut places = relay_copies(0);
+    let mut numbers = link_zeros();
     let mut a = side_for_1000_relays();
     let mut b = side_for_1000_relays();
     route_in(

@@ -19,7 +19,7 @@ use Rattle.definitions.specs.Text.{Network, readNetwork}
 use Rattle.definitions.specs.Plan.{wishForm, Sheet, room, sheetFor, planned}
 use Rattle.definitions.specs.SheetPromise.{Asked}
 use Rattle.lists.specs.Outcomes.{not-refused, then-done}
-use Rattle.lists.specs.SameOutcomes.{done-then}
+use Rattle.lists.specs.SameOutcomes.{done-same, done-then}
 use Rattle.lists.specs.Ranges.{inside-range}
 use Rattle.lists.specs.Tests.{or-false}
 use Rattle.text_theory.specs.Forms.{Fits, wish-line}
@@ -114,9 +114,6 @@ pub record SheetFor (from to k : ℕ) (network : Network) (sheet : Sheet) : Type
   pub answer : List ℕ
   pub routed : routeAnswer (network .relays) (network .lows) (network .highs) k from to (room 32) (room 1062) (room 32000) ≡ done answer
   pub sheetIs : sheet ≡ sheetOf from to k network (keptOf k network)
-
-done-same : {A : Type 0} (a b : A) → done a ≡ done b → a ≡ b
-done-same a b e = cc
 
 sheet-for : (from to k : ℕ) (network : Network) (sheet : Sheet)
     → Accepted (network .relays) (network .lows) (network .highs) → sheetFor from to k network ≡ done sheet

@@ -13,7 +13,7 @@ use forests::SplitAnswer;
 use routes::RouteAnswer;
 
 // The four answers.
-pub struct Answers {
+pub struct FourAnswers {
     pub order: OrderAnswer,
     pub split: SplitAnswer,
     pub cut: CutAnswer,
@@ -35,7 +35,7 @@ pub fn all_four(
     counts: &mut [u16],
     written: &mut [u16],
     scratch: &mut [u16],
-) -> Answers
+) -> FourAnswers
     ensures order { λ r. ⌜ orderOutcome (r .order)
         ≡ orderAnswer n (now (lows .entry)) (now (highs .entry)) (now (relays .entry)) (now (places .entry)) ⌝ }
     ensures relays { λ _. ⌜ now (relays .exit)
@@ -68,7 +68,7 @@ pub fn all_four(
     let split = forests::split(n, lows, highs, forests);
     let cut = forests::cut(n, lows, highs, k, marks);
     let route = routes::route(n, lows, highs, k, from, to, counts, written, scratch);
-    Answers {
+    FourAnswers {
         order: order,
         split: split,
         cut: cut,

@@ -8,14 +8,14 @@ use borrow.Author.Needs.{needs}
 use Rattle.routes.proofs.route_large.Statement.{statement}
 use Rattle.routes.proofs.route_large.Tie as tie
 
-zeros-for-1000-relays-requires : tie.Need-zeros-for-1000-relays-requires
-zeros-for-1000-relays-requires c κs = search needs
+relay-copies-requires : tie.Need-relay-copies-requires
+relay-copies-requires c κs = search needs
 
-zeros-for-1000-relays-requires-2 : tie.Need-zeros-for-1000-relays-requires-2
-zeros-for-1000-relays-requires-2 c κs = search needs
+relay-copies-requires-2 : tie.Need-relay-copies-requires-2
+relay-copies-requires-2 c κs = search needs
 
-zeros-for-3000-links-requires : tie.Need-zeros-for-3000-links-requires
-zeros-for-3000-links-requires c κs = search needs
+link-zeros-requires : tie.Need-link-zeros-requires
+link-zeros-requires c κs = search needs
 
 side-for-1000-relays-requires : tie.Need-side-for-1000-relays-requires
 side-for-1000-relays-requires c κs = search needs
@@ -49,7 +49,7 @@ route-in-requires c κs =
     let t = accepted (s .args .n) (s .args .lows .now) (s .args .highs .now) (s .pre .accepted) in (
       s .pre,
       route-arrays 1000 3000 (priorStart + 1001) (s .args .n) (t .few) (t .short) (omega (arith, t .few))
-          (atNoRelays .zeros-for-1000-relays .ensures) (atNoRelays2 .zeros-for-1000-relays2 .ensures) (atNoLinks .zeros-for-3000-links .ensures)
+          (atNoRelays .relay-copies .ensures) (atNoRelays2 .relay-copies2 .ensures) (atNoLinks .link-zeros .ensures)
           (atNoPaths .side-for-1000-relays .ensures) (atNoPaths2 .side-for-1000-relays2 .ensures),
     )
 
@@ -69,9 +69,9 @@ pub route-large-spec : {M : Type 1} → statement M
 route-large-spec =
     tie.close
     (tie.spec
-    zeros-for-1000-relays-requires
-    zeros-for-1000-relays-requires-2
-    zeros-for-3000-links-requires
+    relay-copies-requires
+    relay-copies-requires-2
+    link-zeros-requires
     side-for-1000-relays-requires
     side-for-1000-relays-requires-2
     slice-aggregate-route-in

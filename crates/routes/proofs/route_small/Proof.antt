@@ -7,14 +7,14 @@ use borrow.Author.Needs.{needs}
 use Rattle.routes.proofs.route_small.Statement.{statement}
 use Rattle.routes.proofs.route_small.Tie as tie
 
-zeros-for-128-relays-requires : tie.Need-zeros-for-128-relays-requires
-zeros-for-128-relays-requires c κs = search needs
+few-relay-copies-requires : tie.Need-few-relay-copies-requires
+few-relay-copies-requires c κs = search needs
 
-zeros-for-128-relays-requires-2 : tie.Need-zeros-for-128-relays-requires-2
-zeros-for-128-relays-requires-2 c κs = search needs
+few-relay-copies-requires-2 : tie.Need-few-relay-copies-requires-2
+few-relay-copies-requires-2 c κs = search needs
 
-zeros-for-384-links-requires : tie.Need-zeros-for-384-links-requires
-zeros-for-384-links-requires c κs = search needs
+few-link-zeros-requires : tie.Need-few-link-zeros-requires
+few-link-zeros-requires c κs = search needs
 
 side-for-128-relays-requires : tie.Need-side-for-128-relays-requires
 side-for-128-relays-requires c κs = search needs
@@ -47,7 +47,7 @@ route-in-requires c κs =
     let s = atFewRelays .before .before .before .before .before .before in (
       s .pre .0,
       route-arrays 128 384 (priorStart + 129) (s .args .n) (s .pre .1) (s .pre .2) (omega (arith, s .pre .1))
-          (atFewRelays .zeros-for-128-relays .ensures) (atFewRelays2 .zeros-for-128-relays2 .ensures) (atFewLinks .zeros-for-384-links .ensures)
+          (atFewRelays .few-relay-copies .ensures) (atFewRelays2 .few-relay-copies2 .ensures) (atFewLinks .few-link-zeros .ensures)
           (atFewPaths .side-for-128-relays .ensures) (atFewPaths2 .side-for-128-relays2 .ensures),
     )
 
@@ -67,9 +67,9 @@ pub route-small-spec : {M : Type 1} → statement M
 route-small-spec =
     tie.close
     (tie.spec
-    zeros-for-128-relays-requires
-    zeros-for-128-relays-requires-2
-    zeros-for-384-links-requires
+    few-relay-copies-requires
+    few-relay-copies-requires-2
+    few-link-zeros-requires
     side-for-128-relays-requires
     side-for-128-relays-requires-2
     slice-aggregate-route-in
