@@ -2,11 +2,12 @@
 use Prim.Native.Nat.{ℕ, zero, suc, _+_, _-_, _*_, _^_, _≤_, _<_}
 use mathlib.Core.Bool.{true, false}
 use mathlib.Core.List.{List, [], _∷_}
+use mathlib.Core.Logic.{_⊎_, inl, inr}
 use mathlib.Core.Path.{_≡_, refl}
 use native.Mathlib.Omega.{arith}
 use borrow.Author.Tests.{eq-eqb, ne-eqb}
 use Rattle.definitions.specs.Lists.{outside}
-use Rattle.lists.specs.Ranges.{inside}
+use Rattle.lists.specs.Ranges.{inside, below}
 use Rattle.definitions.specs.Form.{departs, reads, byteAt, scanDigits, scanNumber}
 
 -- A byte that is no digit ends the number.
@@ -18,6 +19,12 @@ digits-end text x p (suc more) e = rw e
 pub digits-done : (text : List ℕ) (x p more : ℕ) → more ≡ 0 → scanDigits text x p more ≡ reads (x ∷ []) p
 unfolding scanDigits
 digits-done text x p more e = rw e
+
+-- A line end, a space and a bracket are no digits.
+pub no-digit : (b : ℕ) → (b ≡ 10) ⊎ ((b ≡ 32) ⊎ (b ≡ 41)) → outside 48 57 b ≡ true
+no-digit b (inl e) = below 48 57 b (omega arith)
+no-digit b (inr (inl e)) = below 48 57 b (omega arith)
+no-digit b (inr (inr e)) = below 48 57 b (omega arith)
 
 -- A later digit.
 pub digits-step : (text : List ℕ) (x p more : ℕ) → 0 < more → outside 48 57 (byteAt text p) ≡ false

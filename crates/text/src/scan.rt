@@ -58,8 +58,10 @@ pub fn word(text: &[u8], letters: &[u8], at: usize) -> WordScan
     WordScan::Reads(at + i)
 }
 
-// At most three later digits behind a first one. Any other byte ends the number: a space, a bracket or a line end where the
-// word due behind the number has it, or else a byte that departs from that word.
+// At most three later digits behind a first one. "the reader decides on each byte by ranges: first digit 1 to 9, zero alone,
+// later digits, space, bracket, line end": the first two in `number`, the others here. Each byte but a digit ends the number;
+// the word due behind it tells whether the byte departs. A `match` of its own for the three: in one with the digits they are
+// tested before them, which costs instructions for each digit.
 fn digits(text: &[u8], first: u16, at: usize) -> NumberScan
     requires { ⌜ (first ≤ 9) × (at ≤ length (now text)) ⌝ }
     ensures { λ r. ⌜ numberGives r ≡ scanDigits (now (text .entry)) first at 3 ⌝ }
@@ -76,9 +78,14 @@ fn digits(text: &[u8], first: u16, at: usize) -> NumberScan
                 p += 1;
                 more -= 1;
             }
-            _ => {
-                return NumberScan::Reads(x, p);
-            }
+            _ => match b {
+                b' ' | b')' | b'\n' => {
+                    return NumberScan::Reads(x, p);
+                }
+                _ => {
+                    return NumberScan::Reads(x, p);
+                }
+            },
         }
     }
     NumberScan::Reads(x, p)

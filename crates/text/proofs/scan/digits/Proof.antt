@@ -2,7 +2,8 @@
 -- has as many digits fewer than four. Assumes nothing.
 use Prim.Native.Nat.{_-_, _^_, _≤_, _<_}
 use mathlib.Core.Path.{_≡_, refl, sym, _∙_}
-use mathlib.Core.Bool.{false}
+use mathlib.Core.Bool.{true, false}
+use mathlib.Core.Logic.{⊎-elim}
 use native.Mathlib.Omega.{arith}
 use lib.ListN.{length}
 use denote.Ref.{now}
@@ -10,7 +11,7 @@ use Rattle.definitions.specs.Lists.{outside}
 use Rattle.definitions.specs.Form.{byteAt, scanDigits}
 use Rattle.text_theory.specs.Numbers.{byte-within}
 use Rattle.lists.specs.Ranges.{below, above, inside}
-use Rattle.text.specs.DigitByDigit.{digits-end, digits-step, digits-bound, digits-done, digits-room}
+use Rattle.text.specs.DigitByDigit.{digits-end, no-digit, digits-step, digits-bound, digits-done, digits-room}
 use Rattle.text.proofs.scan.digits.Statement.{statement}
 use Rattle.text.proofs.scan.digits.Tie as tie
 
@@ -66,23 +67,27 @@ loop-again c =
 
 returns : tie.Need-returns Inv-loop μ-loop
 returns c =
-    let l = c .before .before .before in
-    let a = l .before .before .args in
-    let b = c .before .byte in
-    sym
-    (l .loop .inv .3
-    ∙ digits-end (now (a .text)) (l .loop .x) (l .loop .p) (l .loop .more)
-    (rw (b .ensures) at (below 48 57 (b .result) (c .if1 .taken))))
-
-returns-2 : tie.Need-returns-2 Inv-loop μ-loop
-returns-2 c =
     let l = c .before .before .before .before in
     let a = l .before .before .args in
     let b = c .before .before .byte in
     sym
     (l .loop .inv .3
     ∙ digits-end (now (a .text)) (l .loop .x) (l .loop .p) (l .loop .more)
-    (rw (b .ensures) at (above 48 57 (b .result) (c .before .if1 .left) (omega arith))))
+    (rw (b .ensures) at (no-digit (b .result) (c .match .keys1))))
+
+returns-2 : tie.Need-returns-2 Inv-loop μ-loop
+returns-2 c =
+    let l = c .before .before .before .before in
+    let a = l .before .before .args in
+    let b = c .before .before .byte in
+    let other : outside 48 57 (b .result) ≡ true =
+    ⊎-elim
+    (λ w. below 48 57 (b .result) (w .taken))
+    (λ w. above 48 57 (b .result) (w .0 .left) (omega (arith, w .1 .left)))
+    (c .before .if1 .came) in
+    sym
+    (l .loop .inv .3
+    ∙ digits-end (now (a .text)) (l .loop .x) (l .loop .p) (l .loop .more) (rw (b .ensures) at other))
 
 returns-3 : tie.Need-returns-3 Inv-loop μ-loop
 returns-3 c =
