@@ -16,7 +16,7 @@ use Rattle.definitions.specs.Form.{writeForm}
 use Rattle.definitions.specs.Lease.{keptLinkForm, droppedLinkForm, leaseLine, leaseLines, leaseText}
 use Rattle.definitions.specs.Demand.{Joined, LinkOf, AnyLink, Kept, Live, deadCount}
 use Rattle.definitions.specs.LeasePromise.{dispensable, linkLine, LeaseHolds}
-use Rattle.lists.specs.Chains.{joined-map}
+use Rattle.theory.specs.JoinedRelays.{joined-map}
 use Rattle.lists.specs.Counting.{count-not}
 use Rattle.lists.specs.Maps.{getD-map}
 use Rattle.theory.specs.Certificate.{survives}

@@ -104,7 +104,7 @@ pub fn number(text: &[u8], at: usize) -> NumberScan
 }
 
 // A word and the number behind it.
-fn word_number(text: &[u8], letters: &[u8], at: usize) -> NumberScan
+pub fn word_number(text: &[u8], letters: &[u8], at: usize) -> NumberScan
     requires { ⌜ noZero (now letters) ≡ true ⌝ }
     ensures { λ r. ⌜ numberGives r ≡ scanForm (now (text .entry)) (word (now (letters .entry)) ∷ numeral ∷ []) at ⌝ }
 {
