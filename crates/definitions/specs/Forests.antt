@@ -10,7 +10,7 @@ use Rattle.definitions.specs.Lists.{table, overwrite, outside, rising, p
 use Rattle.definitions.specs.Network.{linked, tableCheck}
 use Rattle.definitions.specs.Order.{orderOf, placeOf, relayAt}
 
--- "a relay's earlier neighbours [are] those with a lower place, in rising place": of the relay at place v, as places.
+-- "a relay's earlier neighbours be those with a lower place, in rising place": of the relay at place v, as places.
 unfoldable pub earlier : (linked : ℕ → ℕ → Bool) (order : List ℕ) (v : ℕ) → List ℕ
 earlier linked order zero = []
 earlier linked order (suc v) =
@@ -68,7 +68,8 @@ markOf k forest = pick (outside 1 k forest) 0 1
 unfoldable pub marksOf : (n : ℕ) (lows highs : List ℕ) (k : ℕ) → List ℕ
 marksOf n lows highs k = map (markOf k) (forestsOf n lows highs)
 
--- "Cut. Table check; 9, k outside 1 to 32; 12, the list of marks shorter than m. The answer is the count of ones."
+-- "Cut. Table check; 9, k outside 1 to 32; 12, the list of marks (1 kept, 0 dropped) shorter than m. The answer is the count
+-- of ones."
 unfoldable pub cutAnswer : (n : ℕ) (lows highs : List ℕ) (k : ℕ) (marks : List ℕ) → Answer
 cutAnswer n lows highs k marks =
     andThen (tableCheck n lows highs) λ _.

@@ -52,7 +52,7 @@ linksCheck n lows highs i (suc count) =
     let fault = linkFault n lows highs i (getD lows i 0) (getD highs i 0) in
     refuseIf (ltb 0 fault) fault i (linksCheck n lows highs (i + 1) count)
 
--- "Table check: 3; then 4, lists of unequal length (m is their length) or over 3,000; then link by link 5, 6, 7."
+-- The table check: "3; then 4, lists of unequal length (m is their length) or over 3,000; then link by link 5, 6, 7."
 unfoldable pub tableCheck : (n : ℕ) (lows highs : List ℕ) → Answer
 tableCheck n lows highs =
     refuseIf (outside 1 1000 n) 3 0

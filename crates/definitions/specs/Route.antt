@@ -38,8 +38,8 @@ unfoldable pub tooShort : (n k : ℕ) (counts relays scratch : List ℕ) → Boo
 tooShort n k counts relays scratch =
     ltb (length counts) k || (ltb (length relays) (n - 2 + 2 * k) || ltb (length scratch) (k * n))
 
--- "Route. Table check; 9; 10, `from` or `to` not below n; 11, both equal; 12; 13, not in one tree of forest k. The
--- answer is the count of relays written."
+-- "Route. Table check; 9; 10, `from` or `to` not below n; 11, both equal; 12, count list shorter than k, relay list shorter than
+-- n − 2 + 2k, or scratch shorter than k × n; 13, not in one tree of forest k. The answer is the count of relays written."
 unfoldable pub routeAnswer : (n : ℕ) (lows highs : List ℕ) (k from to : ℕ) (counts relays scratch : List ℕ) → Answer
 routeAnswer n lows highs k from to counts relays scratch =
     andThen (tableCheck n lows highs) λ _.

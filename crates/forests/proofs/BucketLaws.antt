@@ -31,7 +31,7 @@ unfolding slotOf
 slot-bit c r = omega arith
 
 -- The bit of r, none if it is placed, flipped in the word of count c.
-abbrev flipped : List ℕ → ℕ → ℕ → ℕ → List ℕ
+abbrev flipped : (bits : List ℕ) (c r count : ℕ) → List ℕ
 flipped bits c r count = set bits (wordOf c r) (bitXor (getD bits (wordOf c r) 0) (bitFor count r))
 
 flipped-none : (bits : List ℕ) (c r count : ℕ) → count ≡ 0 → flipped bits c r count ≡ bits

@@ -29,7 +29,7 @@ visit-done {h} {lows} {highs} {nexts} {counts} {counts′} {bits′} {forests} {
     }
 
 -- The walk stands before the half-link h, the next one at x; below its link all is done.
-abbrev pub Walking : List ℕ → List ℕ → ℕ → ℕ → List ℕ → List ℕ → List ℕ → List ℕ → List ℕ → Type 0
+abbrev pub Walking : (lows highs : List ℕ) (x h : ℕ) (counts counts′ bits′ forests forests′ : List ℕ) → Type 0
 Walking lows highs x h counts counts′ bits′ forests forests′ =
     (h ≤ 2 * length lows)
     × (h < 2 * length lows → (touches lows highs x (h / 2) ≡ true) × (h ≡ halfOf lows x (h / 2)))

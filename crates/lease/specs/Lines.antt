@@ -13,29 +13,17 @@ use Rattle.definitions.specs.Plan.{keptForm}
 use Rattle.definitions.specs.Lease.{leaseForm, keptLinkForm, droppedLinkForm, droppedForm, leaseLine, leaseLines}
 use Rattle.lists.specs.Overwritten.{getD-overwrite}
 use Rattle.text.specs.Scans.{pairForm}
-
--- A line of one number.
-abbrev pub singleForm : List ℕ → List ℕ → List Item
-singleForm front back = word front ∷ numeral ∷ word back ∷ []
+use Rattle.sheet.specs.SheetLines.{singleForm}
 
 -- A line of three numbers, as a link has it.
 abbrev pub tripleForm : List ℕ → List Item
 tripleForm front = word front ∷ numeral ∷ pairForm (bytes " ") (bytes " ") (bytes ")\n")
-
-pub single-written : (front back : List ℕ) (x : ℕ)
-    → writeForm (singleForm front back) (x ∷ []) ≡ writeForm (word front ∷ numeral ∷ []) (x ∷ []) ++ back
-unfolding writeForm
-single-written front back x = simp (append-nil, append-assoc)
 
 pub triple-written : (front : List ℕ) (i a b : ℕ)
     → writeForm (tripleForm front) (i ∷ a ∷ b ∷ [])
     ≡ writeForm (word front ∷ numeral ∷ []) (i ∷ []) ++ writeForm (pairForm (bytes " ") (bytes " ") (bytes ")\n")) (a ∷ b ∷ [])
 unfolding writeForm
 triple-written front i a b = simp (append-nil, append-assoc)
-
-pub single-length : (front back : List ℕ) (x : ℕ)
-    → length (writeForm (singleForm front back) (x ∷ [])) ≡ length (writeForm (word front ∷ numeral ∷ []) (x ∷ [])) + length back
-single-length front back x = ap length (single-written front back x) ∙ simp length-append
 
 pub triple-length : (front : List ℕ) (i a b : ℕ)
     → length (writeForm (tripleForm front) (i ∷ a ∷ b ∷ []))
@@ -83,7 +71,7 @@ lines-front lows highs marks old (suc count) i h =
     (lines-front lows highs marks old count (i + 1) (omega arith))
 
 -- A whole list, with so many links kept.
-unfoldable pub listLines : ℕ → List ℕ → List ℕ → List ℕ → ℕ → List ℕ
+unfoldable pub listLines : (k : ℕ) (lows highs marks : List ℕ) (kept : ℕ) → List ℕ
 listLines k lows highs marks kept =
     writeForm leaseForm (k ∷ []) ++
     (leaseLines lows highs marks 0 (length lows) ++

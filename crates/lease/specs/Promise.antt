@@ -19,7 +19,7 @@ use Rattle.text_theory.specs.Spans.{span}
 use Rattle.text_theory.specs.Refusals.{on-scan-refused}
 use Rattle.sheet.specs.Refusals.{Printable, cut-printable, front-printable}
 use Rattle.lease.specs.Listed.{leaseOf, line-read, keep-asked, listed-links}
-use Rattle.lease.specs.Holds.{lease-holds}
+use Rattle.lease.specs.KeptLinks.{lease-holds}
 
 -- The refusals that are printed.
 lease-printable : (k : ℕ) (network : Network) → Accepted (network .relays) (network .lows) (network .highs)

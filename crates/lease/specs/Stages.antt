@@ -28,7 +28,7 @@ use Rattle.sheet.specs.Planned.{cut-passed}
 use Rattle.sheet.specs.ReadStage.{whole-put, networkOf, stage-refused, cut-rooms, network-refused, ReadTable}
 use Rattle.lease.specs.Lines.{lines-front, listLines}
 use Rattle.lease.specs.Listed.{keep-line}
-use Rattle.lease.specs.Holds.{counts-all}
+use Rattle.lease.specs.KeptLinks.{counts-all}
 
 -- Read, and the stages behind it.
 unfoldable pub readStage : List ℕ → ℕ → Outcome Lease

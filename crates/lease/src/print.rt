@@ -3,22 +3,13 @@
 ghost use mathlib.Core.List.{[], _∷_};
 ghost use Prim.Native.Nat.{_+_, _-_, _≤_};
 ghost use lib.ListN.{length};
-ghost use Rattle.definitions.specs.Form.{word, numeral, writeForm};
+ghost use Rattle.definitions.specs.Form.{writeForm};
 ghost use Rattle.definitions.specs.Lease.{leaseLine, leaseLines};
 ghost use Rattle.text.specs.Put.{Put};
 ghost use Rattle.lease.specs.Lines.{tripleForm, listLines};
 use sheet::print::put_kept;
+use sheet::print::put_single;
 use text::put;
-
-// A line of one number: two words with the number between them.
-fn put_single(output: &mut [u8], at: usize, front: &[u8], x: usize, back: &[u8]) -> usize
-    requires { ⌜ at + length (writeForm (word (now front) ∷ numeral ∷ word (now back) ∷ []) (x ∷ [])) ≤ length (now output) ⌝ }
-    ensures { λ r. ⌜ Put (now (output .entry)) at
-        (writeForm (word (now (front .entry)) ∷ numeral ∷ word (now (back .entry)) ∷ []) (x ∷ [])) (now (output .exit)) r ⌝ }
-{
-    let p = put::put_word_number(output, at, front, x);
-    put::put_word(output, p, back)
-}
 
 // A line of a link's index and its two relays.
 fn put_triple(output: &mut [u8], at: usize, front: &[u8], i: usize, a: usize, b: usize) -> usize

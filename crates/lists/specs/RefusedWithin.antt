@@ -33,22 +33,11 @@ Bounds numbers places number place = (number ≤ numbers) × (place ≤ places)
 abbrev pub RefusedWithin : {A : Type 0} → ℕ → ℕ → Outcome A → Type 0
 RefusedWithin numbers places outcome = RefusedAs (Bounds numbers places) outcome
 
-pub within-more : {A : Type 0} (numbers places more further : ℕ) (outcome : Outcome A) → numbers ≤ more → places ≤ further
-    → RefusedWithin numbers places outcome → RefusedWithin more further outcome
-within-more numbers places more further outcome h l within =
-    as-more (Bounds numbers places) (Bounds more further) outcome (λ number place w. (omega (arith, w .0), omega (arith, w .1))) within
-
 pub refuse-within : {A : Type 0} (numbers places : ℕ) (b : Bool) (number place : ℕ) (rest : Outcome A)
     → number ≤ numbers → place ≤ places → (b ≡ false → RefusedWithin numbers places rest)
     → RefusedWithin numbers places (refuseIf b number place rest)
 refuse-within numbers places b number place rest h l after =
     refuse-as (Bounds numbers places) b number place rest (λ _. (h, l)) after
-
-pub then-within : {A B : Type 0} (numbers places : ℕ) (outcome : Outcome A) (next : A → Outcome B)
-    → RefusedWithin numbers places outcome
-    → ((value : A) → outcome ≡ done value → RefusedWithin numbers places (next value))
-    → RefusedWithin numbers places (andThen outcome next)
-then-within numbers places outcome next within after = then-as (Bounds numbers places) outcome next within after
 
 pub pick-within : (limit : ℕ) (b : Bool) (one other : ℕ) → one ≤ limit → other ≤ limit → pick b one other ≤ limit
 pick-within limit true one other h l = h

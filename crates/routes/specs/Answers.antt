@@ -25,7 +25,7 @@ routeOutcome (Written count) = done (count ∷ [])
 routeOutcome (RouteAnswer.Refused refusal) = refusalOf refusal
 
 -- 9 to 12, from the lengths of the three lists.
-unfoldable pub wishCheck : ℕ → ℕ → ℕ → ℕ → ℕ → ℕ → ℕ → Answer
+unfoldable pub wishCheck : (n k from to countsLength relaysLength scratchLength : ℕ) → Answer
 wishCheck n k from to countsLength relaysLength scratchLength =
     refuseIf (outside 1 32 k) 9 0
     (refuseIf (leb n from || leb n to) 10 0
@@ -43,13 +43,13 @@ abbrev pub answered : List ℕ → List ℕ → Answer → Answered
 answered counts relays answer = record { countList = counts; relayList = relays; answer = answer }
 
 -- Between two places over a left table: the routes, or 13.
-unfoldable pub answerIn : List ℕ → List ℕ → (ℕ → ℕ → ℕ) → ℕ → ℕ → ℕ → List ℕ → List ℕ → List ℕ → Answered
+unfoldable pub answerIn : (a b : List ℕ) (left : ℕ → ℕ → ℕ) (k p q : ℕ) (order counts relays : List ℕ) → Answered
 answerIn a b left k p q order counts relays =
     let all = betweenIn a b left k p q order counts relays in
     pick (oneTreeIn left k p q) (answered (all .countList) (all .relayList) (done (all .upto ∷ []))) (answered counts relays (refused 13 0))
 
 -- The same as the definition has it.
-unfoldable pub treeAnswer : ℕ → List ℕ → List ℕ → ℕ → ℕ → ℕ → List ℕ → List ℕ → Answered
+unfoldable pub treeAnswer : (n : ℕ) (lows highs : List ℕ) (k from to : ℕ) (counts relays : List ℕ) → Answered
 treeAnswer n lows highs k from to counts relays =
     let routes = routesOf n lows highs k from to in
     pick (oneTreeOf n lows highs k from to)

@@ -8,16 +8,16 @@ use Rattle.routes.specs.Sides.{sweptIn}
 use Rattle.routes.specs.Writing.{Written, writeFrom}
 
 -- Each of the `gap` places after t has a left entry of index k.
-unfoldable pub aliveIn : (ℕ → ℕ → ℕ) → ℕ → ℕ → ℕ → Bool
+unfoldable pub aliveIn : (left : ℕ → ℕ → ℕ) (k t gap : ℕ) → Bool
 aliveIn left k t zero = true
 aliveIn left k t (suc gap) = pick (eqb (left k (t + suc gap)) 0) false (aliveIn left k t gap)
 
 -- The test of one tree: the same for the places after the earlier of p and q, up to the later.
-unfoldable pub oneTreeIn : (ℕ → ℕ → ℕ) → ℕ → ℕ → ℕ → Bool
+unfoldable pub oneTreeIn : (left : ℕ → ℕ → ℕ) (k p q : ℕ) → Bool
 oneTreeIn left k p q = pick (ltb q p) (aliveIn left k q (p - q)) (aliveIn left k p (q - p))
 
 -- The routes from p to q: swept on the sides a and b from the later of the two, written from p on.
-unfoldable pub betweenIn : List ℕ → List ℕ → (ℕ → ℕ → ℕ) → ℕ → ℕ → ℕ → List ℕ → List ℕ → List ℕ → Written
+unfoldable pub betweenIn : (a b : List ℕ) (left : ℕ → ℕ → ℕ) (k p q : ℕ) (order counts relays : List ℕ) → Written
 betweenIn a b left k p q order counts relays =
     let falls = sweptIn left k p q a b in
     let rises = sweptIn left k q p a b in

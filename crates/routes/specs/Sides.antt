@@ -15,11 +15,11 @@ abbrev pub sides : List ℕ → List ℕ → Sides
 sides a b = record { sideA = a; sideB = b }
 
 -- The largest index up to k whose A-path or B-path ends at v, or 0.
-unfoldable pub highestIn : ℕ → ℕ → List ℕ → List ℕ → ℕ
+unfoldable pub highestIn : (k v : ℕ) (a b : List ℕ) → ℕ
 highestIn k v a b = largest (λ i. eqb (endIn a i) v || eqb (endIn b i) v) k
 
 -- Path i for i, …, 1 of side A starts as s, left(i, s).
-unfoldable pub startA : (ℕ → ℕ → ℕ) → ℕ → ℕ → List ℕ → List ℕ
+unfoldable pub startA : (left : ℕ → ℕ → ℕ) (s i : ℕ) (a : List ℕ) → List ℕ
 startA left s zero a = a
 startA left s (suc i) a = startA left s i (setPath a (suc i) (left (suc i) s) s)
 
@@ -29,7 +29,7 @@ startB t zero b = b
 startB t (suc i) b = startB t i (setPath b (suc i) t 0)
 
 -- B-path i goes on from t to left(i, t) unless A-path i ends at t; for i, …, 1.
-unfoldable pub leaveAt : (ℕ → ℕ → ℕ) → ℕ → List ℕ → ℕ → List ℕ → List ℕ
+unfoldable pub leaveAt : (left : ℕ → ℕ → ℕ) (t : ℕ) (a : List ℕ) (i : ℕ) (b : List ℕ) → List ℕ
 leaveAt left t a i b = pick (eqb (endIn a i) t) b (setPath b i (left i t) t)
 
 unfoldable pub leaveFrom : (ℕ → ℕ → ℕ) → ℕ → List ℕ → ℕ → List ℕ → List ℕ
@@ -37,25 +37,25 @@ leaveFrom left t a zero b = b
 leaveFrom left t a (suc i) b = leaveFrom left t a i (leaveAt left t a (suc i) b)
 
 -- At v both sides trade for j, and its two paths meet or go on.
-unfoldable pub passAt : (ℕ → ℕ → ℕ) → ℕ → ℕ → List ℕ → List ℕ → Sides
+unfoldable pub passAt : (left : ℕ → ℕ → ℕ) (v j : ℕ) (a b : List ℕ) → Sides
 passAt left v j a b =
     let a′ = tradeFrom left v j (pred j) a in
     let b′ = tradeFrom left v j (pred j) b in
     sides (advance left v j (endIn b′ j) a′) (advance left v j (endIn a′ j) b′)
 
 -- The step at v.
-unfoldable pub stepIn : (ℕ → ℕ → ℕ) → ℕ → ℕ → ℕ → List ℕ → List ℕ → Sides
+unfoldable pub stepIn : (left : ℕ → ℕ → ℕ) (k t v : ℕ) (a b : List ℕ) → Sides
 stepIn left k t v a b =
     let j = highestIn k v a b in
     pick (eqb v t) (sides a (leaveFrom left t a k b)) (pick (eqb j 0) (sides a b) (passAt left v j a b))
 
 -- The steps at v, …, 1.
-unfoldable pub sweepIn : (ℕ → ℕ → ℕ) → ℕ → ℕ → ℕ → List ℕ → List ℕ → Sides
+unfoldable pub sweepIn : (left : ℕ → ℕ → ℕ) (k t v : ℕ) (a b : List ℕ) → Sides
 sweepIn left k t zero a b = sides a b
 sweepIn left k t (suc v) a b =
     let after = stepIn left k t (suc v) a b in
     sweepIn left k t v (after .sideA) (after .sideB)
 
 -- The sweep from the start.
-unfoldable pub sweptIn : (ℕ → ℕ → ℕ) → ℕ → ℕ → ℕ → List ℕ → List ℕ → Sides
+unfoldable pub sweptIn : (left : ℕ → ℕ → ℕ) (k s t : ℕ) (a b : List ℕ) → Sides
 sweptIn left k s t a b = sweepIn left k t (pred s) (startA left s k a) (startB t k b)

@@ -18,13 +18,13 @@ unfoldable pub countIn : List ℕ → ℕ → ℕ
 countIn side i = chainLength side 1000 (secondIn side i)
 
 -- `count` relays from x back, written downwards to `from`.
-unfoldable pub writeDown : List ℕ → List ℕ → ℕ → ℕ → ℕ → List ℕ → List ℕ
+unfoldable pub writeDown : (side order : List ℕ) (from count x : ℕ) (relays : List ℕ) → List ℕ
 writeDown side order from zero x relays = relays
 writeDown side order from (suc count) x relays =
     writeDown side order from count (priorIn side x) (set relays (from + count) (relayAt order x))
 
 -- `count` relays from x back, written upwards from `at`.
-unfoldable pub writeUp : List ℕ → List ℕ → ℕ → ℕ → ℕ → List ℕ → List ℕ
+unfoldable pub writeUp : (side order : List ℕ) (at count x : ℕ) (relays : List ℕ) → List ℕ
 writeUp side order at zero x relays = relays
 writeUp side order at (suc count) x relays =
     writeUp side order (at + 1) count (priorIn side x) (set relays at (relayAt order x))
@@ -34,7 +34,7 @@ unfoldable pub routeLength : List ℕ → List ℕ → ℕ → ℕ
 routeLength front back i = countIn front i + 1 + countIn back i
 
 -- Route i, written from `from` on: the front side's path down from the meeting relay, the back side's up from it.
-unfoldable pub writeRoute : List ℕ → List ℕ → List ℕ → ℕ → ℕ → List ℕ → List ℕ
+unfoldable pub writeRoute : (front back order : List ℕ) (i from : ℕ) (relays : List ℕ) → List ℕ
 writeRoute front back order i from relays =
     let count = countIn front i in
     let low = writeDown front order from count (secondIn front i) relays in
@@ -51,7 +51,7 @@ abbrev pub written : List ℕ → List ℕ → ℕ → Written
 written counts relays upto = record { countList = counts; relayList = relays; upto = upto }
 
 -- The `more` routes after route i, written from `from` on.
-unfoldable pub writeFrom : List ℕ → List ℕ → List ℕ → ℕ → ℕ → ℕ → List ℕ → List ℕ → Written
+unfoldable pub writeFrom : (front back order : List ℕ) (more i from : ℕ) (counts relays : List ℕ) → Written
 writeFrom front back order zero i from counts relays = written counts relays from
 writeFrom front back order (suc more) i from counts relays =
     let length = routeLength front back (i + 1) in

@@ -95,7 +95,7 @@ cut-passed n lows highs k marks values table e =
     record { some = range .0; few = range .1; counted = cc }
 
 -- The sheet of a network, with so many links kept.
-abbrev pub sheetOf : ℕ → ℕ → ℕ → Network → ℕ → Sheet
+abbrev pub sheetOf : (from to k : ℕ) (network : Network) (kept : ℕ) → Sheet
 sheetOf from to k network kept =
     record {
       from = from;

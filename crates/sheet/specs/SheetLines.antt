@@ -1,4 +1,4 @@
--- The lines of a sheet, and how a list of routes is printed route by route and relay by relay. Assumes nothing.
+-- The lines of a sheet by their parts, and how a list of routes is printed route by route and relay by relay. Assumes nothing.
 use Prim.Native.Nat.{ℕ, suc, _+_, _-_, _≤_, _<_}
 use mathlib.Core.List.{List, [], _∷_, _++_, append-assoc, append-nil}
 use mathlib.Core.Path.{_≡_, _∙_, ap}
@@ -7,7 +7,7 @@ use native.Mathlib.Omega.{arith}
 use lib.ListN.{length, getD, take, drop, length-append, length-take, drop-of-length-le}
 use lib.Seq.{slice, slice-cons, drop-drop}
 use Rattle.definitions.specs.Demand.{cutUp}
-use Rattle.definitions.specs.Form.{bytes, word, numeral, decimal, writeForm}
+use Rattle.definitions.specs.Form.{bytes, Item, word, numeral, decimal, writeForm}
 use Rattle.definitions.specs.Lists.{total}
 use Rattle.definitions.specs.Text.{endForm}
 use Rattle.definitions.specs.Plan.{sheetForm, keptForm, spaced, routeLines}
@@ -15,12 +15,21 @@ use Rattle.lists.specs.Front.{drop-take}
 use Rattle.text.specs.Scans.{pairForm}
 
 -- The wish, the routes, the count of kept links, and the end.
-unfoldable pub sheetLines : ℕ → ℕ → ℕ → List (List ℕ) → ℕ → List ℕ
+unfoldable pub sheetLines : (from to k : ℕ) (routes : List (List ℕ)) (kept : ℕ) → List ℕ
 sheetLines from to k routes kept =
     writeForm sheetForm (from ∷ to ∷ k ∷ []) ++
     (routeLines routes ++ (writeForm keptForm (kept ∷ []) ++ writeForm endForm []))
 
+-- The form of a line of one number.
+abbrev pub singleForm : (front back : List ℕ) → List Item
+singleForm front back = word front ∷ numeral ∷ word back ∷ []
+
 -- A line by its parts.
+pub single-written : (front back : List ℕ) (x : ℕ)
+    → writeForm (singleForm front back) (x ∷ []) ≡ writeForm (word front ∷ numeral ∷ []) (x ∷ []) ++ back
+unfolding writeForm
+single-written front back x = simp (append-nil, append-assoc)
+
 pub wish-written : (from to k : ℕ)
     → writeForm sheetForm (from ∷ to ∷ k ∷ [])
     ≡ writeForm (pairForm (bytes "(sheet (from ") (bytes ") (to ") (bytes ") (k ")) (from ∷ to ∷ [])
@@ -28,26 +37,21 @@ pub wish-written : (from to k : ℕ)
 unfolding writeForm sheetForm
 wish-written from to k = simp (append-nil, append-assoc)
 
-pub kept-written : (kept : ℕ)
-    → writeForm keptForm (kept ∷ []) ≡ writeForm (word (bytes "(kept ") ∷ numeral ∷ []) (kept ∷ []) ++ bytes ")\n"
-unfolding writeForm keptForm
-kept-written kept = simp append-nil
-
 pub route-written : (route : List ℕ)
     → routeLines (route ∷ []) ≡ bytes "(route" ++ (spaced route ++ bytes ")\n")
 unfolding routeLines
 route-written route = simp append-nil
 
 -- Their lengths.
+pub single-length : (front back : List ℕ) (x : ℕ)
+    → length (writeForm (singleForm front back) (x ∷ [])) ≡ length (writeForm (word front ∷ numeral ∷ []) (x ∷ [])) + length back
+single-length front back x = ap length (single-written front back x) ∙ simp length-append
+
 pub wish-length : (from to k : ℕ)
     → length (writeForm sheetForm (from ∷ to ∷ k ∷ []))
     ≡ length (writeForm (pairForm (bytes "(sheet (from ") (bytes ") (to ") (bytes ") (k ")) (from ∷ to ∷ []))
     + (length (decimal k) + 3)
 wish-length from to k = ap length (wish-written from to k) ∙ simp length-append
-
-pub kept-length : (kept : ℕ)
-    → length (writeForm keptForm (kept ∷ [])) ≡ length (writeForm (word (bytes "(kept ") ∷ numeral ∷ []) (kept ∷ [])) + 2
-kept-length kept = ap length (kept-written kept) ∙ simp length-append
 
 pub route-length : (route : List ℕ) → length (routeLines (route ∷ [])) ≡ 6 + (length (spaced route) + 2)
 route-length route = ap length (route-written route) ∙ simp length-append (omega arith)
@@ -84,7 +88,7 @@ unfolding spaced
 relays-end relays i last h = ap spaced (slice-past relays i last h)
 
 -- The routes that are left, from the i-th of k on, whose relays begin at `first`.
-unfoldable pub routesLeft : ℕ → ℕ → ℕ → List ℕ → List ℕ → List (List ℕ)
+unfoldable pub routesLeft : (i k first : ℕ) (counts relays : List ℕ) → List (List ℕ)
 routesLeft i k first counts relays = cutUp (slice i k counts) (drop first relays)
 
 lines-first : (route : List ℕ) (routes : List (List ℕ))

@@ -29,7 +29,7 @@ use Rattle.sheet.specs.ReadStage.{networkOf, stage-refused, network-refu
 use Rattle.sheet.specs.Routes.{length-routes}
 
 -- Route, behind Cut's count.
-unfoldable pub routeStage : ℕ → ℕ → ℕ → Network → ℕ → Outcome Sheet
+unfoldable pub routeStage : (from to k : ℕ) (network : Network) (kept : ℕ) → Outcome Sheet
 routeStage from to k network kept =
     andThen (routeAnswer (network .relays) (network .lows) (network .highs) k from to (room 32) (room 1062) (room 32000)) λ _.
     done (sheetOf from to k network kept)
@@ -145,7 +145,7 @@ module _
         })
 
 -- Read, and the stages behind it.
-unfoldable pub readStage : List ℕ → ℕ → ℕ → ℕ → Outcome Sheet
+unfoldable pub readStage : (text : List ℕ) (from to k : ℕ) → Outcome Sheet
 readStage text from to k = andThen (readNetwork text 3000 3000) (sheetFor from to k)
 
 pub read-refused : (text lows highs : List ℕ) (from to k : ℕ) (refusal : Refusal) → lows ≡ room 3000 → highs ≡ room 3000

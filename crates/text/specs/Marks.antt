@@ -16,7 +16,7 @@ use Rattle.text_theory.specs.Lengths.{length-header, length-text}
 use Rattle.text.specs.Written.{links-step, length-links-step, links-end}
 
 -- The bytes of the form that is due behind i links.
-abbrev pub dueText : Due → ℕ → List ℕ → List ℕ → ℕ → List ℕ
+abbrev pub dueText : (due : Due) (n : ℕ) (lows highs : List ℕ) (i : ℕ) → List ℕ
 dueText dues.Header n lows highs i = writeForm headerForm (n ∷ length lows ∷ [])
 dueText dues.Link n lows highs i = writeForm linkForm (getD lows i 0 ∷ getD highs i 0 ∷ [])
 dueText dues.End n lows highs i = writeForm endForm []
@@ -27,7 +27,7 @@ linksAfter dues.Link i = i + 1
 linksAfter dues.End i = i
 
 -- A link line needs an entry in each list.
-abbrev pub DueEntries : Due → ℕ → List ℕ → List ℕ → Type 0
+abbrev pub DueEntries : (due : Due) (i : ℕ) (lows highs : List ℕ) → Type 0
 DueEntries dues.Header i lows highs = Unit {0}
 DueEntries dues.Link i lows highs = (i < length lows) × (i < length highs)
 DueEntries dues.End i lows highs = Unit {0}

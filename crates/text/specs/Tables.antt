@@ -48,7 +48,7 @@ refused-early outcome lows highs refusal e =
     record { network = e; lowRoom = omega arith; highRoom = omega arith; sameLows = refl; sameHighs = refl }
 
 -- After the header line: "3, n outside 1 to 1,000; 4, m over 3,000; 8, a table list shorter than m."
-unfoldable pub afterHeader : List ℕ → ℕ → ℕ → ℕ → ℕ → ℕ → Outcome Network
+unfoldable pub afterHeader : (text : List ℕ) (n m p roomLows roomHighs : ℕ) → Outcome Network
 afterHeader text n m p roomLows roomHighs =
     refuseIf (outside 1 1000 n) 3 0
     (refuseIf (ltb 3000 m) 4 0

@@ -25,7 +25,7 @@ lines (a ∷ ls) [] = []
 lines (a ∷ ls) (b ∷ hs) = writeForm linkForm (a ∷ b ∷ []) ++ lines ls hs
 
 -- None of these links has a fault, each behind those before it.
-abbrev pub Faultless : ℕ → List ℕ → List ℕ → List ℕ → List ℕ → Type 0
+abbrev pub Faultless : (n : ℕ) (lows highs ls hs : List ℕ) → Type 0
 Faultless n lows highs [] hs = Unit {0}
 Faultless n lows highs (a ∷ ls) [] = Unit {0}
 Faultless n lows highs (a ∷ ls) (b ∷ hs) =

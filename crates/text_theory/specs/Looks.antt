@@ -35,7 +35,7 @@ abbrev pub Alike : List ℕ → List ℕ → ℕ → Type 0
 Alike text other q = (i : ℕ) → i ≤ q → byteAt other i ≡ byteAt text i
 
 -- From p on a reading of the text gives `scan`, at p or behind it, and so it does of every text that is alike up to there.
-abbrev Looks : List ℕ → ℕ → (List ℕ → Scan) → Scan → Type 0
+abbrev Looks : (text : List ℕ) (p : ℕ) (reading : List ℕ → Scan) (scan : Scan) → Type 0
 Looks text p reading scan =
     (p ≤ offset scan) × ((other : List ℕ) → Alike text other (offset scan) → reading other ≡ scan)
 

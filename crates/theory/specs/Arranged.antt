@@ -20,7 +20,7 @@ use Rattle.theory.specs.Links.{one-link}
 use Rattle.theory.specs.ForestNumbers.{Placed, LinkFacts, link-facts}
 
 -- left(i, v) of a table and an order.
-abbrev pub leftIn : List ℕ → List ℕ → List ℕ → ℕ → ℕ → ℕ
+abbrev pub leftIn : (order lows highs : List ℕ) (i v : ℕ) → ℕ
 leftIn order lows highs = left (linked lows highs) order
 
 pub record Arranged (order lows highs : List ℕ) : Type 0 where

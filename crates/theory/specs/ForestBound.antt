@@ -30,7 +30,7 @@ use Rattle.theory.specs.ForestNumbers.{earlierPlace, laterPlace, forestI
 use Rattle.theory.specs.Arranged.{leftIn, Arranged, arranged-forest, base-arranged}
 
 -- The indices of the links of forest f.
-unfoldable pub linksIn : List ℕ → List ℕ → List ℕ → ℕ → List ℕ
+unfoldable pub linksIn : (order lows highs : List ℕ) (f : ℕ) → List ℕ
 linksIn order lows highs f = keep (λ j. eqb f (forestIn order lows highs j)) (table (λ r. r) 0 (length lows))
 
 -- Over any order; a link without a forest may be in the table.

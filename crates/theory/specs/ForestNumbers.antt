@@ -22,22 +22,22 @@ use Rattle.theory.specs.Places.{relay-of-place, place-of-relay, placed-i
 use Rattle.theory.specs.Left.{left-range, left-below, left-linked, left-forest, forest-some, forest-left}
 
 -- The earlier and the later place of link i.
-abbrev pub earlierPlace : List ℕ → List ℕ → List ℕ → ℕ → ℕ
+abbrev pub earlierPlace : (order lows highs : List ℕ) (i : ℕ) → ℕ
 earlierPlace order lows highs i = min (placeOf order (getD lows i 0)) (placeOf order (getD highs i 0))
 
 abbrev pub laterPlace : List ℕ → List ℕ → List ℕ → ℕ → ℕ
 laterPlace order lows highs i = max (placeOf order (getD lows i 0)) (placeOf order (getD highs i 0))
 
 -- The forest number of link i.
-abbrev pub forestIn : List ℕ → List ℕ → List ℕ → ℕ → ℕ
+abbrev pub forestIn : (order lows highs : List ℕ) (i : ℕ) → ℕ
 forestIn order lows highs i = forestOf (linked lows highs) order lows highs i
 
 -- Both ends of link i have a place.
-abbrev pub Placed : List ℕ → List ℕ → List ℕ → ℕ → Type 0
+abbrev pub Placed : (order lows highs : List ℕ) (i : ℕ) → Type 0
 Placed order lows highs i = (has order (getD lows i 0) ≡ true) × (has order (getD highs i 0) ≡ true)
 
 -- Both ends of each link of forest f have a place: so it is of every forest from 1 on (`forest-placed`).
-abbrev pub AllPlaced : List ℕ → List ℕ → List ℕ → ℕ → Type 0
+abbrev pub AllPlaced : (order lows highs : List ℕ) (f : ℕ) → Type 0
 AllPlaced order lows highs f = (i : ℕ) → i < length lows → forestIn order lows highs i ≡ f → Placed order lows highs i
 
 -- Link i in an order: its places, its forest, and that left gives the earlier place.

@@ -23,7 +23,7 @@ use Rattle.lists.specs.Concat.{has-joinAll, noRepeat-joinAll, length-joinAll-le
 use Rattle.theory.specs.Trees.{TreeLink, treeLink-sym}
 
 -- A link of one of the forests 1 to k, either way round.
-abbrev pub LeftLink : (ℕ → ℕ → ℕ) → ℕ → ℕ → ℕ → Type 0
+abbrev pub LeftLink : (left : ℕ → ℕ → ℕ) (k a b : ℕ) → Type 0
 LeftLink left k a b = (h : ℕ) × (1 ≤ h) × (h ≤ k) × TreeLink left h a b
 
 pub leftLink-sym : (left : ℕ → ℕ → ℕ) (k a b : ℕ) → LeftLink left k a b → LeftLink left k b a
@@ -48,7 +48,7 @@ pub record RoutesWithin (left : ℕ → ℕ → ℕ) (k top p q : ℕ) (routes :
   pub written : length (joinAll routes) ≤ top - 2 + 2 * k
 
 -- From the later place s to the earlier place t.
-abbrev pub PlaceRoute : (ℕ → ℕ → ℕ) → ℕ → ℕ → ℕ → List ℕ → Type 0
+abbrev pub PlaceRoute : (left : ℕ → ℕ → ℕ) (k s t : ℕ) (route : List ℕ) → Type 0
 PlaceRoute left k s t route = RouteWithin left k s s t route
 
 abbrev pub PlaceRoutes : (ℕ → ℕ → ℕ) → ℕ → ℕ → ℕ → List (List ℕ) → Type 0

@@ -37,7 +37,7 @@ pub record RoutesThrough (n : ℕ) (relay : ℕ → Type 0) (lows highs marks : 
   pub written : length (joinAll routes) ≤ n - 2 + 2 * k
 
 -- Through the relays of an order, and through all relays of the base.
-abbrev pub RoutesIn : List ℕ → List ℕ → List ℕ → List ℕ → ℕ → ℕ → ℕ → List (List ℕ) → Type 0
+abbrev pub RoutesIn : (order lows highs marks : List ℕ) (k from to : ℕ) (routes : List (List ℕ)) → Type 0
 RoutesIn order lows highs marks k from to routes =
     RoutesThrough (length order) (λ r. has order r ≡ true) lows highs marks k from to routes
 

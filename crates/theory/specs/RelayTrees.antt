@@ -26,7 +26,7 @@ use Rattle.theory.specs.Columns.{NumberedIn, Numbered}
 use Rattle.theory.specs.TableLinks.{forest-link, forest-places}
 
 -- The places above the earlier of two, up to the later.
-abbrev pub AliveBetween : (ℕ → ℕ → ℕ) → ℕ → ℕ → ℕ → Type 0
+abbrev pub AliveBetween : (left : ℕ → ℕ → ℕ) (i p q : ℕ) → Type 0
 AliveBetween left i p q = Alive left i (min p q) (max p q)
 
 module _ (left : ℕ → ℕ → ℕ) (laws : LeftLaws left) (i p q : ℕ) (one : 1 ≤ p) (other : 1 ≤ q) (differ : p ≢ q) where

@@ -17,7 +17,7 @@ use Rattle.theory.specs.SweepInvariant.{ClosedSlot, Sweeping, open-slot}
 use Rattle.theory.specs.SweepSettle.{SlotState, settle-both, settle-hasA, settle-hasB, lower, settled}
 
 -- The slots with other paths.
-abbrev pub withPaths : (ℕ → Slot) → (ℕ → List ℕ) → (ℕ → List ℕ) → ℕ → Slot
+abbrev pub withPaths : (slots : ℕ → Slot) (newA newB : ℕ → List ℕ) (i : ℕ) → Slot
 withPaths slots newA newB i = record { isOpen = slots i .isOpen; pathA = newA i; pathB = newB i }
 
 closed-past : {left : ℕ → ℕ → ℕ} {k s t i : ℕ} {slot : Slot} (v : ℕ) → ClosedSlot left k s t (suc v) i slot → ClosedSlot left k s t v i slot

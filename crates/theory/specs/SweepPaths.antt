@@ -15,7 +15,7 @@ use Rattle.theory.specs.LeftLaws.{LeftLaws}
 use Rattle.theory.specs.Trees.{Alive, alive-lower, alive-left, alive-join}
 
 -- x is an earlier neighbour of y, by a link of the forests 1 to k.
-abbrev pub Down : (ℕ → ℕ → ℕ) → ℕ → ℕ → ℕ → Type 0
+abbrev pub Down : (left : ℕ → ℕ → ℕ) (k x y : ℕ) → Type 0
 Down left k x y = (h : ℕ) × (1 ≤ h) × (h ≤ k) × (0 < x) × (left h y ≡ x)
 
 -- The path x ∷ rest, its end x first, goes down from c by links of the forests 1 to k.

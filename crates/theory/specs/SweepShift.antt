@@ -15,14 +15,14 @@ use Rattle.definitions.specs.Sweep.{beforeEnd, together, previousIn, replaceEnd
 use Rattle.lists.specs.Searches.{clash, largest-bound, largest-passes, largest-above, First, first-holds}
 
 -- In a set of indices whose highest is j: the next higher one of i, of j the lowest; and back.
-abbrev stepUp : (ℕ → Bool) → ℕ → ℕ → ℕ → ℕ
+abbrev stepUp : (set : ℕ → Bool) (k j i : ℕ) → ℕ
 stepUp set k j i = pick (eqb i j) (firstFrom set 1 k) (firstFrom set (suc i) k)
 
 abbrev stepDown : (ℕ → Bool) → ℕ → ℕ → ℕ
 stepDown set j n = pick (set n) (pick (eqb (previousIn set n) 0) j (previousIn set n)) n
 
 -- The index whose path index i gets, and back: the index that gets the path of index n.
-unfoldable pub source : ℕ → ℕ → (ℕ → Bool) → ℕ → ℕ
+unfoldable pub source : (k j : ℕ) (ends : ℕ → Bool) (i : ℕ) → ℕ
 source k j ends i = pick (eqb (largest ends k) 0) i (pick (together ends j i) (stepUp (together ends j) k j i) i)
 
 target : ℕ → ℕ → (ℕ → Bool) → ℕ → ℕ

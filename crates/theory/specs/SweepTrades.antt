@@ -21,7 +21,7 @@ abbrev pub ownEnd : (ℕ → ℕ → ℕ) → ℕ → List ℕ → List ℕ
 ownEnd left i path = left i (beforeEnd path) ∷ tail path
 
 -- Index i gets the path of index j with its own end, and j gets the path of i.
-unfoldable pub tradePaths : (ℕ → ℕ → ℕ) → ℕ → ℕ → (ℕ → List ℕ) → ℕ → List ℕ
+unfoldable pub tradePaths : (left : ℕ → ℕ → ℕ) (j i : ℕ) (paths : ℕ → List ℕ) (h : ℕ) → List ℕ
 tradePaths left j i paths h = pick (eqb h i) (ownEnd left i (paths j)) (pick (eqb h j) (paths i) (paths h))
 
 -- The same for those of the indices i, …, 1 that end at v, one after another.

@@ -16,11 +16,11 @@ use Rattle.theory.specs.JoinedRelays.{joined-trans, joined-sym}
 use Rattle.theory.specs.LeftLaws.{LeftLaws}
 
 -- Every place above e, up to s, has an i-th earlier neighbour.
-abbrev pub Alive : (ℕ → ℕ → ℕ) → ℕ → ℕ → ℕ → Type 0
+abbrev pub Alive : (left : ℕ → ℕ → ℕ) (i e s : ℕ) → Type 0
 Alive left i e s = (x : ℕ) → e < x → x ≤ s → 0 < left i x
 
 -- A link of forest i between places, either way round.
-abbrev pub TreeLink : (ℕ → ℕ → ℕ) → ℕ → ℕ → ℕ → Type 0
+abbrev pub TreeLink : (left : ℕ → ℕ → ℕ) (i a b : ℕ) → Type 0
 TreeLink left i a b = ((0 < b) × (left i a ≡ b)) ⊎ ((0 < a) × (left i b ≡ a))
 
 pub treeLink-sym : (left : ℕ → ℕ → ℕ) (i a b : ℕ) → TreeLink left i a b → TreeLink left i b a

@@ -79,7 +79,7 @@ refuse-then false number place rest next = refl
 
 module _ (n : ℕ) (lows highs : List ℕ) (k from to : ℕ) (counts relays scratch : List ℕ) where
   -- What Route promises of its answer and the three lists afterwards.
-  abbrev pub Promised : Answer → List ℕ → List ℕ → List ℕ → Type 0
+  abbrev pub Promised : (answer : Answer) (counts′ relays′ scratch′ : List ℕ) → Type 0
   Promised answer counts′ relays′ scratch′ =
       (answer ≡ routeAnswer n lows highs k from to counts relays scratch)
       × ((counts′ ≡ countsAfter n lows highs k from to counts relays scratch)

@@ -13,7 +13,7 @@ use Rattle.routes.proofs.sweep.highest.Statement.{statement}
 use Rattle.routes.proofs.sweep.highest.Tie as tie
 
 -- Path i of one of the sides ends at v.
-abbrev ends : List ℕ → List ℕ → ℕ → ℕ → Bool
+abbrev ends : (a b : List ℕ) (v i : ℕ) → Bool
 ends a b v i = eqb (endIn a i) v || eqb (endIn b i) v
 
 first-ends : (a b : List ℕ) (v i : ℕ) → endIn a i ≡ v → ends a b v i ≡ true
