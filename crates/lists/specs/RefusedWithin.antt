@@ -2,7 +2,6 @@
 use Prim.Native.Nat.{ℕ, _≤_}
 use mathlib.Core.Bool.{Bool, true, false}
 use mathlib.Core.Path.{_≡_, refl}
-use native.Mathlib.Omega.{arith}
 use Rattle.definitions.specs.Outcome.{pick, Outcome, refused, done, refuseIf, andThen}
 
 abbrev pub RefusedAs : {A : Type 0} → (ℕ → ℕ → Type 0) → Outcome A → Type 0
