@@ -15,11 +15,15 @@ raisedCount count = pick (eqb count 0) 0 (count + 1)
 unfoldable pub forestNumber : (count old : ℕ) → ℕ
 forestNumber count old = pick (eqb count 0) old count
 
+-- From relay n on no relay waits.
+abbrev pub NoneBeyond : (n : ℕ) (counts : List ℕ) → Type 0
+NoneBeyond n counts = (r : ℕ) → n ≤ r → getD counts r 0 ≡ 0
+
 -- The counts when the first n relays wait and none is placed.
 pub record StartCounts (n : ℕ) (counts : List ℕ) : Type 0 where
   pub room : n ≤ length counts
   pub waiting : (r : ℕ) → r < n → getD counts r 0 ≡ 1
-  pub rest : (r : ℕ) → n ≤ r → getD counts r 0 ≡ 0
+  pub rest : NoneBeyond n counts
 
 -- x is the lowest of the relays with the greatest count: document 01's "unplaced relay with the most links to placed ones, of
 -- equals the lowest relay number".

@@ -12,7 +12,7 @@ use Rattle.definitions.specs.Order.{weight, nextRelay, placedAfter, allRelays, 
 use Rattle.definitions.specs.Forests.{forestsOf}
 use Rattle.forests.specs.Fronts.{SameBeyond}
 use Rattle.forests.specs.Chains.{NoChains, ChainedFrom}
-use Rattle.forests.specs.Counts.{StartCounts}
+use Rattle.forests.specs.Counts.{NoneBeyond, StartCounts}
 use Rattle.forests.specs.Buckets.{columnWords, Buckets}
 use Rattle.forests.specs.Walk.{Walkable, Walked}
 
@@ -28,7 +28,7 @@ pub record CountsAt (n : ℕ) (lows highs : List ℕ) (k : ℕ) (counts : List �
   pub room : n ≤ length counts
   pub count : (r : ℕ) → r < n
       → getD counts r 0 ≡ pick (has (placed n lows highs k) r) 0 (suc (weight (linked lows highs) (placed n lows highs k) r))
-  pub rest : (r : ℕ) → n ≤ r → getD counts r 0 ≡ 0
+  pub rest : NoneBeyond n counts
 
 -- What placing the next relay at v asks.
 pub record Placeable (n v most : ℕ) (lows highs first nexts counts bits relays places forests : List ℕ) : Type 0 where

@@ -160,12 +160,9 @@ table-read text lows highs n m e =
         ap (λ (i : ℕ). take i (highsAfter text lows highs)) (sym links ∙ even) ∙ highs-front text lows highs network read in
         rw (first, second, ← relays) (both .0, both .1, links)
 
-writes-back : (text lows highs : List ℕ) (n m : ℕ) → readAnswer text lows highs ≡ done (n ∷ m ∷ [])
-    → TextBack n m (take m (lowsAfter text lows highs)) (take m (highsAfter text lows highs)) text
-writes-back text lows highs n m e =
-    let (whole, check, links) = table-read text lows highs n m e in
-    let ls = take m (lowsAfter text lows highs) in
-    let hs = take m (highsAfter text lows highs) in
+-- A table whose text this is.
+text-back : (n m : ℕ) (ls hs text : List ℕ) → textOf n ls hs ≡ text → Accepted n ls hs → length ls ≡ m → TextBack n m ls hs text
+text-back n m ls hs text whole check links =
     record {
       passes = check;
       links = links;
@@ -220,5 +217,7 @@ demand-two =
             write-done n lows highs buffer check room .0,
             λ toLows toHighs g. rw front (table-back n lows highs check toLows toHighs (rw front at g)),
           );
-      writesBack = writes-back;
+      writesBack = λ text lows highs n m e.
+          let (whole, check, links) = table-read text lows highs n m e in
+          text-back n m _ _ text whole check links;
     }

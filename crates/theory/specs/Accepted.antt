@@ -74,6 +74,10 @@ good-links n lows highs i (suc count) h =
     refuse-not (ltb 0 fault) fault i (linksCheck n lows highs (i + 1) count) (le-ltb 0 fault (omega arith))
     ∙ good-links n lows highs (i + 1) count (λ j p q. h j (omega arith) (omega arith))
 
+-- Of each link the low relay is below the high one.
+abbrev pub LowBelowHigh : (lows highs : List ℕ) → Type 0
+LowBelowHigh lows highs = (i : ℕ) → i < length lows → getD lows i 0 < getD highs i 0
+
 -- The table of a network: "n relays, 1 to 1,000", "m links, 0 to 3,000", "A link joins two different relays, at most one for
 -- each two, and is held as its low and its high relay number."
 pub record ProperTable (n : ℕ) (lows highs : List ℕ) : Type 0 where
@@ -81,7 +85,7 @@ pub record ProperTable (n : ℕ) (lows highs : List ℕ) : Type 0 where
   pub few : n ≤ 1000
   pub even : length lows ≡ length highs
   pub short : length lows ≤ 3000
-  pub ordered : (i : ℕ) → i < length lows → getD lows i 0 < getD highs i 0
+  pub ordered : LowBelowHigh lows highs
   pub below : (i : ℕ) → i < length lows → getD highs i 0 < n
   pub once : (i j : ℕ) → i < j → j < length lows → getD lows i 0 ≡ getD lows j 0 → getD highs i 0 ≡ getD highs j 0 → ⊥
 

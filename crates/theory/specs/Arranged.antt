@@ -5,14 +5,14 @@ use mathlib.Core.Bool.{true}
 use mathlib.Core.List.{List}
 use mathlib.Core.Path.{_≡_}
 use native.Mathlib.Omega.{arith}
-use lib.ListN.{length, getD}
+use lib.ListN.{length}
 use Rattle.definitions.specs.Lists.{has}
 use Rattle.definitions.specs.Network.{joins, linked, Accepted}
 use Rattle.definitions.specs.Order.{placedAfter, allRelays, firstRelay, orderOf}
 use Rattle.definitions.specs.Forests.{left}
 use Rattle.definitions.specs.Demand.{NoRepeat}
 use Rattle.theory.specs.LeftLaws.{LeftLaws}
-use Rattle.theory.specs.Accepted.{ProperTable, accepted}
+use Rattle.theory.specs.Accepted.{LowBelowHigh, ProperTable, accepted}
 use Rattle.theory.specs.Ordering.{placed-length, placed-no-repeat, placed-maximal}
 use Rattle.theory.specs.AllRelays.{all-long, all-once, first-of-all}
 use Rattle.theory.specs.Left.{laws-of-left}
@@ -27,7 +27,7 @@ pub record Arranged (order lows highs : List ℕ) : Type 0 where
   -- No relay has two places.
   pub unique : NoRepeat order
   -- "A link joins two different relays", "held as its low and its high relay number",
-  pub ordered : (i : ℕ) → i < length lows → getD lows i 0 < getD highs i 0
+  pub ordered : LowBelowHigh lows highs
   -- "at most one for each two".
   pub once : (a b i j : ℕ) → i < length lows → j < length lows → joins lows highs a b i ≡ true → joins lows highs a b j ≡ true → i ≡ j
   -- The order is maximal, as left shows it.
