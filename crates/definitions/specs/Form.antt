@@ -77,7 +77,8 @@ decimalWithin (suc fuel) x =
     let tens = decimalWithin fuel (x / 10) in
     pick (ltb x 10) ((48 + x) ∷ []) (tens ++ ((48 + x % 10) ∷ []))
 
--- Numbers are in base ten, "with as many digits as it takes": a number above 0 has no more digits than it counts.
+-- A number in base ten, "with as many digits as it takes". x steps are enough: each takes a digit off, and x has at most
+-- x + 1 digits.
 unfoldable pub decimal : (x : ℕ) → List ℕ
 decimal x = decimalWithin x x
 
