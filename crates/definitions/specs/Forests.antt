@@ -1,12 +1,12 @@
 -- Document 01, 'The forests' (document 002, section 2): earlier neighbours, left(i, v), forest numbers, trees, the cut.
 -- Over any test `linked` and any order; places are 1 to n, and 0 means none.
 use Prim.Native.Nat.{ℕ, zero, suc, min, max}
-use mathlib.Core.Bool.{Bool}
+use mathlib.Core.Bool.{Bool, _&&_}
 use mathlib.Core.List.{List, [], _∷_, map}
 use lib.Dec.{eqb, ltb}
 use lib.ListN.{length, getD}
 use Rattle.definitions.specs.Outcome.{pick, Answer, done, refuseIf, andThen, ifDone}
-use Rattle.definitions.specs.Lists.{table, overwrite, outside, rising, position, total, greatest}
+use Rattle.definitions.specs.Lists.{table, overwrite, outside, firstFrom, rising, position, total, greatest}
 use Rattle.definitions.specs.Network.{linked, tableCheck}
 use Rattle.definitions.specs.Order.{orderOf, placeOf, relayAt}
 
@@ -31,6 +31,26 @@ forestOf linked order lows highs i =
     let p = placeOf order (getD lows i 0) in
     let q = placeOf order (getD highs i 0) in
     forestBetween linked order (min p q) (max p q)
+
+-- The place of the later end of link i of the table.
+unfoldable pub laterOf : (order lows highs : List ℕ) (i : ℕ) → ℕ
+laterOf order lows highs i = max (placeOf order (getD lows i 0)) (placeOf order (getD highs i 0))
+
+-- "The link to the i-th of them belongs to forest i": the index of v's link to its i-th earlier neighbour, which is the link of
+-- forest i that has its later end at v; 0 if there is none.
+unfoldable pub leftLink : (linked : ℕ → ℕ → Bool) (order lows highs : List ℕ) (i v : ℕ) → ℕ
+leftLink linked order lows highs i v =
+    firstFrom (λ l. eqb (forestOf linked order lows highs l) i && eqb (laterOf order lows highs l) v) 0 (length lows)
+
+-- "Looking up left(i, v) is to give the link's index along with the relay" (document 02, #101): the place of the neighbour, and
+-- the index of the link to it.
+pub record Entry : Type 0 where
+  pub place : ℕ
+  pub link : ℕ
+
+unfoldable pub leftEntry : (linked : ℕ → ℕ → Bool) (order lows highs : List ℕ) (i v : ℕ) → Entry
+leftEntry linked order lows highs i v =
+    record { place = left linked order i v; link = leftLink linked order lows highs i v }
 
 -- The forest number of each link, in the order of the table.
 unfoldable pub forestsOf : (n : ℕ) (lows highs : List ℕ) → List ℕ

@@ -6,6 +6,7 @@ pub mod Order
 pub mod Forests
 pub mod Sweep
 pub mod Route
+pub mod Over
 pub mod Form
 pub mod Text
 pub mod Plan

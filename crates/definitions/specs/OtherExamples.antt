@@ -135,12 +135,37 @@ otherExamples =
     -- Pair numbers out of range and out of order.
     ∷ record { found = pairOf 0 1000; due = refusedAt 5 0 [] }
     ∷ record { found = pairOf 3 3; due = refusedAt 6 0 [] }
-    -- The planner program: document 01's sheet of the mesh, and refusals as they are printed.
+    -- The planner program: document 01's sheet of the mesh with the lines of document 02, #101, the other worked sheets, and
+    -- refusals as they are printed.
     ∷ record {
       found =
           printsFor
           "(want 4 1 2)\n(net (relays 5) (links 7))\n(link 0 1)\n(link 0 2)\n(link 1 2)\n(link 1 3)\n(link 2 3)\n(link 2 4)\n(link 3 4)\n(end)\n";
-      due = prints "(sheet (from 4) (to 1) (k 2))\n(route 4 3 1)\n(route 4 2 1)\n(kept 7)\n(end)\n";
+      due = prints "(sheet (from 4) (to 1) (k 2))\n(route 4 3 1)\n(over 6 3)\n(route 4 2 1)\n(over 5 2)\n(kept 7)\n(end)\n";
+    }
+    ∷ record {
+      found =
+          printsFor
+          "(want 1 4 2)\n(net (relays 5) (links 7))\n(link 0 1)\n(link 0 2)\n(link 1 2)\n(link 1 3)\n(link 2 3)\n(link 2 4)\n(link 3 4)\n(end)\n";
+      due = prints "(sheet (from 1) (to 4) (k 2))\n(route 1 3 4)\n(over 3 6)\n(route 1 2 4)\n(over 2 5)\n(kept 7)\n(end)\n";
+    }
+    ∷ record {
+      found =
+          printsFor
+          "(want 4 1 1)\n(net (relays 5) (links 7))\n(link 0 1)\n(link 0 2)\n(link 1 2)\n(link 1 3)\n(link 2 3)\n(link 2 4)\n(link 3 4)\n(end)\n";
+      due = prints "(sheet (from 4) (to 1) (k 1))\n(route 4 2 0 1)\n(over 5 1 0)\n(kept 4)\n(end)\n";
+    }
+    ∷ record {
+      found =
+          printsFor
+          "(want 3 2 2)\n(net (relays 4) (links 4))\n(link 0 1)\n(link 1 2)\n(link 2 3)\n(link 0 3)\n(end)\n";
+      due = prints "(sheet (from 3) (to 2) (k 2))\n(route 3 0 1 2)\n(over 3 0 1)\n(route 3 2)\n(over 2)\n(kept 4)\n(end)\n";
+    }
+    ∷ record {
+      found =
+          printsFor
+          "(want 3 2 3)\n(net (relays 4) (links 6))\n(link 0 1)\n(link 0 2)\n(link 0 3)\n(link 1 2)\n(link 1 3)\n(link 2 3)\n(end)\n";
+      due = prints "(sheet (from 3) (to 2) (k 3))\n(route 3 0 2)\n(over 2 1)\n(route 3 1 2)\n(over 4 3)\n(route 3 2)\n(over 5)\n(kept 6)\n(end)\n";
     }
     ∷ record { found = printsFor "(want 4 1)\n"; due = prints "(refused 1 9)\n" }
     ∷ record { found = printsFor "(want 4 1 2)\n(net (relays 04"; due = prints "(refused 2 14)\n" }

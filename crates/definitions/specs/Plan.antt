@@ -1,13 +1,14 @@
 -- Document 01, 'The planner program': from the bytes of the input to the bytes of the output.
 -- Assumes nothing.
 use Prim.Native.Nat.{ℕ}
-use mathlib.Core.List.{List, [], _∷_, _++_}
+use mathlib.Core.List.{List, [], _∷_, _++_, tail}
 use lib.Dec.{ltb}
 use lib.ListN.{length, getD, drop, replicate}
 use Rattle.definitions.specs.Outcome.{Outcome, refused, done, Answer, refuseIf, andThen, ifDone}
 use Rattle.definitions.specs.Lists.{overwrite}
 use Rattle.definitions.specs.Forests.{cutAnswer}
 use Rattle.definitions.specs.Route.{routesOf, routeAnswer}
+use Rattle.definitions.specs.Over.{oversOf}
 use Rattle.definitions.specs.Form.{bytes, Item, word, numeral, scanForm, onScan, decimal, writeForm}
 use Rattle.definitions.specs.Text.{Network, endForm, readNetwork}
 
@@ -27,12 +28,13 @@ keptForm = word (bytes "(kept ") ∷ numeral ∷ word (bytes ")\n") ∷ []
 unfoldable pub refusedForm : List Item
 refusedForm = word (bytes "(refused ") ∷ numeral ∷ word (bytes " ") ∷ numeral ∷ word (bytes ")\n") ∷ []
 
--- A sheet: the wish, the routes, and the count of kept links.
+-- A sheet: the wish, the routes, for each of them its links, and the count of kept links.
 pub record Sheet : Type 0 where
   pub from : ℕ
   pub to : ℕ
   pub k : ℕ
   pub routes : List (List ℕ)
+  pub overs : List (List ℕ)
   pub kept : ℕ
 
 -- One of the program's own lists: zeros.
@@ -45,7 +47,7 @@ inputRoom = 45062
 
 -- The bytes that it has for its output.
 unfoldable pub outputRoom : ℕ
-outputRoom = 4608
+outputRoom = 9935
 
 -- "It reads, cuts and routes, and the first refusal met is the one printed."
 unfoldable pub sheetFor : (from to k : ℕ) (network : Network) → Outcome Sheet
@@ -55,7 +57,15 @@ sheetFor from to k network =
     let highs = network .highs in
     andThen (cutAnswer n lows highs k (room 3000)) λ kept.
     andThen (routeAnswer n lows highs k from to (room 32) (room 1062) (room 32000)) λ _.
-    done (record { from = from; to = to; k = k; routes = routesOf n lows highs k from to; kept = getD kept 0 0 })
+    done
+    (record {
+      from = from;
+      to = to;
+      k = k;
+      routes = routesOf n lows highs k from to;
+      overs = oversOf n lows highs k from to;
+      kept = getD kept 0 0;
+    })
 
 -- "1: that line departs from its form, at the byte. Offsets for 2 count from the first byte after that line."
 unfoldable pub planned : (input : List ℕ) → Outcome Sheet
@@ -63,21 +73,28 @@ planned input =
     onScan 1 (scanForm input wishForm 0) λ wish p.
     andThen (readNetwork (drop p input) 3000 3000) (sheetFor (getD wish 0 0) (getD wish 1 0) (getD wish 2 0))
 
--- The relays of a route, each behind a space.
-unfoldable pub spaced : (route : List ℕ) → List ℕ
+-- Numbers, each behind a space.
+unfoldable pub spaced : (numbers : List ℕ) → List ℕ
 spaced [] = []
-spaced (r ∷ route) = bytes " " ++ (decimal r ++ spaced route)
+spaced (x ∷ numbers) = bytes " " ++ (decimal x ++ spaced numbers)
 
--- "each `route` lists relay numbers"
-unfoldable pub routeLines : (routes : List (List ℕ)) → List ℕ
-routeLines [] = []
-routeLines (route ∷ routes) = bytes "(route" ++ (spaced route ++ (bytes ")\n" ++ routeLines routes))
+-- A line of numbers behind a word.
+unfoldable pub numbersLine : (name numbers : List ℕ) → List ℕ
+numbersLine name numbers = name ++ (spaced numbers ++ bytes ")\n")
+
+-- "each `route` lists relay numbers"; "After each `(route ..)` line the sheet gets `(over ..)` with the indices of the links in
+-- turn" (document 02, #101).
+unfoldable pub routeLines : (routes overs : List (List ℕ)) → List ℕ
+routeLines [] overs = []
+routeLines (route ∷ routes) overs =
+    numbersLine (bytes "(route") route ++
+    (numbersLine (bytes "(over") (getD overs 0 []) ++ routeLines routes (tail overs))
 
 -- "`from`, `to` and `k` repeat the wish, each `route` lists relay numbers, `kept` is the count from the cut."
 unfoldable pub sheetText : (sheet : Sheet) → List ℕ
 sheetText sheet =
     writeForm sheetForm (sheet .from ∷ sheet .to ∷ sheet .k ∷ []) ++
-    (routeLines (sheet .routes) ++ (writeForm keptForm (sheet .kept ∷ []) ++ writeForm endForm []))
+    (routeLines (sheet .routes) (sheet .overs) ++ (writeForm keptForm (sheet .kept ∷ []) ++ writeForm endForm []))
 
 -- "A refusal prints only `(refused NUMBER PLACE)`, PLACE with as many digits as it takes." Else the text of what is done.
 unfoldable pub printed : {A : Type 0} (textOf : A → List ℕ) (outcome : Outcome A) → List ℕ

@@ -40,15 +40,20 @@ tooShort n k counts relays scratch =
 
 -- "Route. Table check; 9; 10, `from` or `to` not below n; 11, both equal; 12, count list shorter than k, relay list shorter than
 -- n − 2 + 2k, or scratch shorter than k × n; 13, not in one tree of forest k. The answer is the count of relays written."
-unfoldable pub routeAnswer : (n : ℕ) (lows highs : List ℕ) (k from to : ℕ) (counts relays scratch : List ℕ) → Answer
-routeAnswer n lows highs k from to counts relays scratch =
+-- `short` says whether there is cause for 12.
+unfoldable pub routeUnless : (short : Bool) (n : ℕ) (lows highs : List ℕ) (k from to : ℕ) → Answer
+routeUnless short n lows highs k from to =
     andThen (tableCheck n lows highs) λ _.
     refuseIf (outside 1 32 k) 9 0
     (refuseIf (leb n from || leb n to) 10 0
     (refuseIf (eqb from to) 11 0
-    (refuseIf (tooShort n k counts relays scratch) 12 0
+    (refuseIf short 12 0
     (refuseIf (not (oneTreeOf n lows highs k from to)) 13 0
     (done (length (joinAll (routesOf n lows highs k from to)) ∷ []))))))
+
+unfoldable pub routeAnswer : (n : ℕ) (lows highs : List ℕ) (k from to : ℕ) (counts relays scratch : List ℕ) → Answer
+routeAnswer n lows highs k from to counts relays scratch =
+    routeUnless (tooShort n k counts relays scratch) n lows highs k from to
 
 -- The list of counts afterwards: "a second list holds how many relays each has".
 unfoldable pub countsAfter : (n : ℕ) (lows highs : List ℕ) (k from to : ℕ) (counts relays scratch : List ℕ) → List ℕ

@@ -11,6 +11,7 @@ use Rattle.definitions.specs.Lists.{count}
 use Rattle.definitions.specs.Network.{Accepted}
 use Rattle.definitions.specs.Forests.{marksOf, cutAnswer}
 use Rattle.definitions.specs.Route.{routeAnswer}
+use Rattle.definitions.specs.Over.{OverHolds}
 use Rattle.definitions.specs.Form.{departs, reads, scanForm, writeForm}
 use Rattle.definitions.specs.Text.{Network, readNetwork}
 use Rattle.definitions.specs.Plan.{wishForm, refusedForm, Sheet, room, sheetText, planText}
@@ -24,7 +25,8 @@ pub record Asked (input : List ℕ) (from to k : ℕ) (network : Network) : Type
   pub accepted : Accepted (network .relays) (network .lows) (network .highs)
 
 -- The routes of a sheet for a network, where `marks` are Cut's: k routes (1 to 32) from `from` to `to` along kept links, none
--- repeats a relay, no two share a link or a relay but the ends; and `kept` is the count of Cut's ones.
+-- repeats a relay, no two share a link or a relay but the ends; each has its links in turn, at each step the index of the one link
+-- that joins the two relays there; and `kept` is the count of Cut's ones.
 pub record SheetHolds (lows highs marks : List ℕ) (sheet : Sheet) : Type 0 where
   pub some : 1 ≤ sheet .k
   pub few : sheet .k ≤ 32
@@ -33,6 +35,8 @@ pub record SheetHolds (lows highs marks : List ℕ) (sheet : Sheet) : Type 0 whe
   pub each : (i : ℕ) → i < sheet .k → RouteHolds lows highs marks (sheet .from) (sheet .to) (getD (sheet .routes) i [])
   pub apart : (i j : ℕ) → i < sheet .k → j < sheet .k → i ≢ j
       → Apart lows highs (sheet .from) (sheet .to) (getD (sheet .routes) i []) (getD (sheet .routes) j [])
+  pub manyOvers : length (sheet .overs) ≡ sheet .k
+  pub over : (i : ℕ) → i < sheet .k → OverHolds lows highs (getD (sheet .routes) i []) (getD (sheet .overs) i [])
   pub kept : sheet .kept ≡ count (eqb 1) marks
 
 -- "It reads, cuts and routes, and the first refusal met is the one printed": which it is. Each case has the stages before it

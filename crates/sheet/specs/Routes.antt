@@ -12,8 +12,9 @@ use Rattle.definitions.specs.Lists.{joinAll}
 use Rattle.definitions.specs.Network.{Accepted}
 use Rattle.definitions.specs.Order.{orderOf, placeOf, relayAt}
 use Rattle.definitions.specs.Forests.{forestsOf, marksOf}
-use Rattle.definitions.specs.Sweep.{sweep, slotRoute, sweepRoutes}
+use Rattle.definitions.specs.Sweep.{slotRoute, sweepRoutes}
 use Rattle.definitions.specs.Route.{leftOf, routesBetween, routesOf}
+use Rattle.theory.specs.PlaceSweep.{sweep}
 use Rattle.theory.specs.Ordering.{order-length, order-at}
 use Rattle.theory.specs.ForestBound.{forests-at}
 use Rattle.theory.specs.Columns.{mark-entry}

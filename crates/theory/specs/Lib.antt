@@ -13,6 +13,7 @@ pub mod Arranged
 pub mod ForestBound
 pub mod ForestDepth
 pub mod Trees
+pub mod PlaceSweep
 pub mod SweepShift
 pub mod SweepPaths
 pub mod SweepSide

@@ -12,7 +12,7 @@ use lib.Seq.{take-all}
 use Rattle.definitions.specs.Outcome.{refused, done, refuseIf, andThen}
 use Rattle.definitions.specs.Lists.{overwrite, total, joinAll}
 use Rattle.definitions.specs.Network.{Accepted}
-use Rattle.definitions.specs.Route.{routesOf, oneTreeOf, tooShort, routeAnswer, countsAfter, routeRelaysAfter}
+use Rattle.definitions.specs.Route.{routeUnless, routesOf, oneTreeOf, tooShort, routeAnswer, countsAfter, routeRelaysAfter}
 use Rattle.definitions.specs.Demand.{OneTree, cutUp, RouteHolds, Apart, RoutesHold, RouteDelivers}
 use Rattle.lists.specs.Outcomes.{if-done}
 use Rattle.lists.specs.Overwritten.{take-overwrite}
@@ -29,7 +29,7 @@ module _ (n : ℕ) (lows highs : List ℕ) (ok : Accepted n lows highs) (k : ℕ
   answer-by-test : (b : Bool) → oneTreeOf n lows highs k from to ≡ b
       → routeAnswer n lows highs k from to counts relays scratch
       ≡ refuseIf (not b) 13 0 (done (length (joinAll (routesOf n lows highs k from to)) ∷ []))
-  unfolding routeAnswer andThen refuseIf
+  unfolding routeAnswer routeUnless andThen refuseIf
   answer-by-test b e =
       rw (ok, inside 1 32 k one most, lt-leb n from hf, lt-leb n to ht, ne-eqb from to differ, room, e)
 

@@ -5,9 +5,11 @@ use native.Mathlib.Omega.{arith}
 use mathlib.Core.List.{List, []}
 use mathlib.Core.Path.{_≡_, refl, _∙_, ap, subst}
 use Rattle.definitions.specs.Lists.{table}
-use Rattle.definitions.specs.Sweep.{Slot, slotAt, startSlot, slotAfter, slotsAfter, sweepFrom, sweep}
+use Rattle.definitions.specs.Sweep as Sweep
+use Rattle.definitions.specs.Sweep.{slotAt}
 use Rattle.lists.specs.Searches.{clash}
 use Rattle.lists.specs.Tables.{getD-table}
+use Rattle.theory.specs.PlaceSweep.{Slot, startSlot, slotAfter, slotsAfter, sweepFrom, sweep}
 use Rattle.theory.specs.LeftLaws.{LeftLaws}
 use Rattle.theory.specs.Trees.{Alive, alive-lower}
 use Rattle.theory.specs.SweepPaths.{open-longer}
@@ -23,7 +25,7 @@ slotAt-table f k (suc i) one le =
 
 module _ (left : ℕ → ℕ → ℕ) (laws : LeftLaws left) (k : ℕ) where
   starts : (v t : ℕ) → t < suc v → Alive left k t (suc v) → Sweeping left k (suc v) t v (startSlot left (suc v) t)
-  unfolding startSlot
+  unfolding Sweep.startSlot
   starts v t less alive =
       record {
         below = omega arith;
@@ -55,17 +57,17 @@ module _ (left : ℕ → ℕ → ℕ) (laws : LeftLaws left) (k : ℕ) where
     -- Before v, if before v + 1.
     pub sweep-step : (v : ℕ) (slots : List Slot) → Sweeping left k s t (suc v) (slotAt slots)
         → Sweeping left k s t v (slotAt (slotsAfter left k t (suc v) slots))
-    unfolding slotsAfter
+    unfolding Sweep.slotsAfter
     sweep-step v slots inv =
         sweeping-same (slotAt (table (slotAfter left k t (suc v) (slotAt slots)) 1 k)) (slotAt-table (slotAfter left k t (suc v) (slotAt slots)) k)
         (step-sweeping left laws k s t less alive v (slotAt slots) inv)
 
     pub sweepFrom-ends : (v : ℕ) (slots : List Slot) → Sweeping left k s t v (slotAt slots)
         → Sweeping left k s t 0 (slotAt (sweepFrom left k t v slots))
-    unfolding sweepFrom
+    unfolding Sweep.sweepFrom
     sweepFrom-ends zero slots inv = inv
     sweepFrom-ends (suc v) slots inv = sweepFrom-ends v (slotsAfter left k t (suc v) slots) (sweep-step v slots inv)
 
     pub sweep-ends : Sweeping left k s t 0 (slotAt (sweep left k s t))
-    unfolding sweep
+    unfolding Sweep.sweep
     sweep-ends = sweepFrom-ends (pred s) (table (startSlot left s t) 1 k) sweep-starts

@@ -7,7 +7,7 @@ use mathlib.Core.List.{List, [], _∷_}
 use mathlib.Core.Logic.{_≢_}
 use mathlib.Core.Path.{_≡_, sym, subst}
 use Rattle.definitions.specs.Lists.{has}
-use Rattle.definitions.specs.Sweep.{Slot, endOf}
+use Rattle.theory.specs.PlaceSweep.{Slot, endOf}
 use Rattle.theory.specs.LeftLaws.{LeftLaws}
 use Rattle.theory.specs.SweepPaths.{Trail, OpenPath, open-start}
 

@@ -8,8 +8,8 @@ use mathlib.Core.List.{List}
 use mathlib.Core.Logic.{_⊎_, inl, inr, _≢_, by-cases}
 use mathlib.Core.Path.{_≡_, sym, _∙_, ap, subst}
 use Rattle.definitions.specs.Lists.{has}
-use Rattle.definitions.specs.Sweep.{Slot, endOf, settle}
 use Rattle.lists.specs.Searches.{clash}
+use Rattle.theory.specs.PlaceSweep.{Slot, endOf, settle}
 use Rattle.theory.specs.LeftLaws.{LeftLaws}
 use Rattle.theory.specs.Trees.{Alive}
 use Rattle.theory.specs.SweepSide.{Shifted, Passed, passed-once}

@@ -8,9 +8,10 @@ use mathlib.Core.Path.{_≡_, refl, sym, subst}
 use lib.ListN.{length}
 use Rattle.definitions.specs.Lists.{has}
 use Rattle.definitions.specs.Demand.{NoRepeat}
-use Rattle.definitions.specs.Sweep.{endOf}
+use Rattle.definitions.specs.Sweep as Sweep
 use Rattle.lists.specs.Searches.{clash}
 use Rattle.lists.specs.Cases.{has-nil, has-cases, has-not}
+use Rattle.theory.specs.PlaceSweep.{endOf}
 use Rattle.theory.specs.LeftLaws.{LeftLaws}
 use Rattle.theory.specs.Trees.{Alive, alive-lower, alive-left, alive-join}
 
@@ -38,7 +39,7 @@ pub record OpenPath (left : ℕ → ℕ → ℕ) (k s c i v : ℕ) (path : List 
   pub trail : Trail left k c before rest
 
 pub open-end : {left : ℕ → ℕ → ℕ} {k s c i v : ℕ} {path : List ℕ} (o : OpenPath left k s c i v path) → endOf path ≡ o .end
-unfolding endOf
+unfolding Sweep.endOf
 open-end o = rw (o .shape)
 
 module _ (left : ℕ → ℕ → ℕ) (laws : LeftLaws left) (k : ℕ) where

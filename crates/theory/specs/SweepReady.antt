@@ -10,9 +10,10 @@ use mathlib.Core.Path.{_≡_, subst}
 use lib.Dec.{eqb, ltb}
 use borrow.Author.Tests.{eqb-true, eq-eqb, lt-ltb}
 use Rattle.definitions.specs.Lists.{has, largest}
-use Rattle.definitions.specs.Sweep.{Slot, endOf, endsA, endsB, highestAt}
+use Rattle.definitions.specs.Sweep as Sweep
 use Rattle.lists.specs.Tests.{and-both, or-either, or-false}
 use Rattle.lists.specs.Searches.{clash, largest-bound, largest-passes, largest-above, largest-none}
+use Rattle.theory.specs.PlaceSweep.{Slot, endOf, endsA, endsB, highestAt}
 use Rattle.theory.specs.LeftLaws.{LeftLaws}
 use Rattle.theory.specs.SweepPaths.{trail-from}
 use Rattle.theory.specs.SweepSide.{Standing, waits, stands, Ready, Highest, end-alone}
@@ -21,7 +22,7 @@ use Rattle.theory.specs.SweepInvariant.{ClosedSlot, Sweeping}
 module _ (left : ℕ → ℕ → ℕ) (laws : LeftLaws left) (k s t : ℕ) where
   module _ (v : ℕ) (slots : ℕ → Slot) (inv : Sweeping left k s t v slots) where
     pub readyA : Ready left k s s v (λ i. slots i .isOpen) (λ i. endsA v (slots i)) (λ i. slots i .pathA)
-    unfolding endsA
+    unfolding Sweep.endsA
     readyA =
         record {
           standing = λ i one le opn. stands (inv .opened i one le opn .sideA);
@@ -44,7 +45,7 @@ module _ (left : ℕ → ℕ → ℕ) (laws : LeftLaws left) (k s t : ℕ) where
           (λ after. waits (omega arith) (inv .opened i one le opn .alone (omega arith)))
 
       pub readyB : Ready left k s t v (λ i. slots i .isOpen) (λ i. endsB t v (slots i)) (λ i. slots i .pathB)
-      unfolding endsB
+      unfolding Sweep.endsB
       readyB =
           record {
             standing = standingB;
@@ -67,11 +68,11 @@ module _ (left : ℕ → ℕ → ℕ) (laws : LeftLaws left) (k s t : ℕ) where
 -- The highest index that ends at v is open, and at least each of them.
 module _ (k t v : ℕ) (slots : ℕ → Slot) where
   highest-within : highestAt k t v slots ≤ k
-  unfolding highestAt
+  unfolding Sweep.highestAt
   highest-within = largest-bound (λ i. endsA v (slots i) || endsB t v (slots i)) k
 
   highest-open : 0 < highestAt k t v slots → slots (highestAt k t v slots) .isOpen ≡ true
-  unfolding highestAt endsA endsB
+  unfolding Sweep.highestAt Sweep.endsA Sweep.endsB
   highest-open some =
       let j : ℕ = largest (λ i. endsA v (slots i) || endsB t v (slots i)) k in
       go j (or-either (endsA v (slots j)) (endsB t v (slots j)) (largest-passes (λ i. endsA v (slots i) || endsB t v (slots i)) k some))
@@ -81,7 +82,7 @@ module _ (k t v : ℕ) (slots : ℕ → Slot) where
       go j (inr e) = and-both (slots j .isOpen) (ltb v t && eqb (endOf (slots j .pathB)) v) e .0
 
   pub highestA : 0 < highestAt k t v slots → Highest k (highestAt k t v slots) (λ i. slots i .isOpen) (λ i. endsA v (slots i))
-  unfolding highestAt
+  unfolding Sweep.highestAt
   highestA some =
       record {
         one = some;
@@ -91,7 +92,7 @@ module _ (k t v : ℕ) (slots : ℕ → Slot) where
       }
 
   pub highestB : 0 < highestAt k t v slots → Highest k (highestAt k t v slots) (λ i. slots i .isOpen) (λ i. endsB t v (slots i))
-  unfolding highestAt
+  unfolding Sweep.highestAt
   highestB some =
       record {
         one = some;
@@ -102,6 +103,6 @@ module _ (k t v : ℕ) (slots : ℕ → Slot) where
 
   -- Where there is none, no path ends at v.
   pub highest-none : highestAt k t v slots ≡ 0 → (i : ℕ) → 1 ≤ i → i ≤ k → (endsA v (slots i) ≡ false) × (endsB t v (slots i) ≡ false)
-  unfolding highestAt
+  unfolding Sweep.highestAt
   highest-none none i one le =
       or-false (endsA v (slots i)) (endsB t v (slots i)) (largest-none (λ i. endsA v (slots i) || endsB t v (slots i)) k none i one le)

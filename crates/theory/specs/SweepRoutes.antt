@@ -13,11 +13,13 @@ use lib.ListN.{length, getD, length-map, length-reverseAux, List·getD-map}
 use Rattle.definitions.specs.Outcome.{pick}
 use Rattle.definitions.specs.Lists.{has, table}
 use Rattle.definitions.specs.Demand.{AlongFrom}
-use Rattle.definitions.specs.Sweep.{Slot, endOf, slotAt, startSlot, slotAfter, slotsAfter, sweepFrom, sweep, slotRoute, sweepRoutes}
+use Rattle.definitions.specs.Sweep as Sweep
+use Rattle.definitions.specs.Sweep.{slotAt, slotRoute, sweepRoutes}
 use Rattle.definitions.specs.Route.{routesBetween}
 use Rattle.lists.specs.Tables.{length-table}
 use Rattle.lists.specs.Cases.{has-there, has-reverseAux, Disjoint, noRepeat-reverseAux}
 use Rattle.lists.specs.Reversed.{first-reverseAux, last-reverseAux, along-reverseAux}
+use Rattle.theory.specs.PlaceSweep.{Slot, endOf, startSlot, slotAfter, slotsAfter, sweepFrom, sweep}
 use Rattle.theory.specs.LeftLaws.{LeftLaws}
 use Rattle.theory.specs.Trees.{Alive}
 use Rattle.theory.specs.PlaceRoutes.{LeftLink, leftLink-sym, RoutesWithin, PlaceRoute, PlaceRoutes, written-within, routes-reverse}
@@ -36,13 +38,13 @@ trail-last left k c x (y ∷ rest) t = trail-last left k c y rest (t .1)
 
 -- There are as many slots as indices.
 sweepFrom-length : (left : ℕ → ℕ → ℕ) (k t v : ℕ) (slots : List Slot) → length slots ≡ k → length (sweepFrom left k t v slots) ≡ k
-unfolding sweepFrom slotsAfter
+unfolding Sweep.sweepFrom Sweep.slotsAfter
 sweepFrom-length left k t zero slots size = size
 sweepFrom-length left k t (suc v) slots size =
     sweepFrom-length left k t v (slotsAfter left k t (suc v) slots) (length-table (slotAfter left k t (suc v) (slotAt slots)) 1 k)
 
 pub sweep-length : (left : ℕ → ℕ → ℕ) (k s t : ℕ) → length (sweep left k s t) ≡ k
-unfolding sweep
+unfolding Sweep.sweep
 sweep-length left k s t = sweepFrom-length left k t (pred s) (table (startSlot left s t) 1 k) (length-table (startSlot left s t) 1 k)
 
 -- Route i is made of slot i + 1, since indices count from 1.
@@ -91,7 +93,7 @@ module _ (left : ℕ → ℕ → ℕ) (laws : LeftLaws left) (k s t : ℕ) (less
     )
 
     met : endOf (slots i .pathA) ≡ c .meet
-    unfolding endOf
+    unfolding Sweep.endOf
     met = rw (c .shapeA)
 
     route-disjoint : Disjoint (c .meet ∷ c .before ∷ c .restA) (c .restB)

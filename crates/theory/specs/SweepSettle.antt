@@ -10,9 +10,10 @@ use lib.Dec.{eqb}
 use borrow.Author.Tests.{eqb-true, eqb-false, eq-eqb, ne-eqb}
 use Rattle.definitions.specs.Outcome.{pick}
 use Rattle.definitions.specs.Lists.{has}
-use Rattle.definitions.specs.Sweep.{Slot, endOf, extend, settle}
+use Rattle.definitions.specs.Sweep as Sweep
 use Rattle.lists.specs.Searches.{clash}
 use Rattle.lists.specs.Cases.{has-cases}
+use Rattle.theory.specs.PlaceSweep.{Slot, endOf, extend, settle}
 use Rattle.theory.specs.LeftLaws.{LeftLaws}
 use Rattle.theory.specs.Trees.{Alive, alive-lower}
 use Rattle.theory.specs.SweepPaths.{Trail, OpenPath, open-end, open-longer, trail-start, down-less}
@@ -32,19 +33,19 @@ pub record SlotState (left : ℕ → ℕ → ℕ) (k s t v i : ℕ) (slot : Slot
   pub closed : slot .isOpen ≡ false → ClosedSlot left k s t v i slot
 
 pub extend-some : (x : ℕ) (path : List ℕ) → 0 < x → extend x path ≡ x ∷ path
-unfolding extend
+unfolding Sweep.extend
 extend-some x path some = rw (ne-eqb x 0 (omega arith))
 
 -- Where both end at v, both are closed.
 pub settle-both : (left : ℕ → ℕ → ℕ) (v j : ℕ) (slot : Slot) → endOf (slot .pathA) ≡ v → endOf (slot .pathB) ≡ v
     → settle left v j slot ≡ record { isOpen = false; pathA = slot .pathA; pathB = slot .pathB }
-unfolding settle
+unfolding Sweep.settle
 settle-both left v j slot a b = rw (eq-eqb (endOf (slot .pathA)) v a, eq-eqb (endOf (slot .pathB)) v b)
 
 module _ (left : ℕ → ℕ → ℕ) (laws : LeftLaws left) where
   -- The relays from v on are as before.
   pub extend-has : (v j w : ℕ) (path : List ℕ) → v ≤ w → has (extend (left j v) path) w ≡ true → has path w ≡ true
-  unfolding extend
+  unfolding Sweep.extend
   extend-has v j w path le = go (eqb (left j v) 0) refl
     where
       cases : left j v ≢ 0 → (left j v ≡ w) ⊎ (has path w ≡ true) → has path w ≡ true
@@ -61,7 +62,7 @@ module _ (left : ℕ → ℕ → ℕ) (laws : LeftLaws left) where
   either-has v j w path le false h = h
 
   pub settle-hasA : (v j w : ℕ) (slot : Slot) → v ≤ w → has (settle left v j slot .pathA) w ≡ true → has (slot .pathA) w ≡ true
-  unfolding settle
+  unfolding Sweep.settle
   settle-hasA v j w slot le = go (eqb (endOf (slot .pathA)) v) (eqb (endOf (slot .pathA)) v && eqb (endOf (slot .pathB)) v)
     where
       go : (a b : Bool) → has ((pick {A = Slot} b
@@ -75,7 +76,7 @@ module _ (left : ℕ → ℕ → ℕ) (laws : LeftLaws left) where
       go a false h = either-has v j w (slot .pathA) le a h
 
   pub settle-hasB : (v j w : ℕ) (slot : Slot) → v ≤ w → has (settle left v j slot .pathB) w ≡ true → has (slot .pathB) w ≡ true
-  unfolding settle
+  unfolding Sweep.settle
   settle-hasB v j w slot le = go (eqb (endOf (slot .pathB)) v) (eqb (endOf (slot .pathA)) v && eqb (endOf (slot .pathB)) v)
     where
       go : (a b : Bool) → has ((pick {A = Slot} b
@@ -95,7 +96,7 @@ module _ (left : ℕ → ℕ → ℕ) (laws : LeftLaws left) where
     ended (arrived top u rest e trail) at = record { before = u; rest = rest; shape = e; trail = trail }
 
     pub unended : Shifted left k s c j v i path → endOf path ≢ suc v → Unended left k s c i v path
-    unfolding endOf
+    unfolding Sweep.endOf
     unended (waiting le e) off = alone le e
     unended (below o) off = goes o
     unended (arrived top u rest e trail) off = absurd (off (rw e))
@@ -129,7 +130,7 @@ module _ (left : ℕ → ℕ → ℕ) (laws : LeftLaws left) where
     pub settled : (slot : Slot) → slot .isOpen ≡ true
         → Shifted left k s s j v j (slot .pathA) → Shifted left k s t j v j (slot .pathB)
         → (v < t → has (slot .pathA) t ≡ true → ⊥) → SlotState left k s t v j (settle left (suc v) j slot)
-    unfolding settle
+    unfolding Sweep.settle
     settled slot opn a b without = go (eqb (endOf (slot .pathA)) (suc v)) (eqb (endOf (slot .pathB)) (suc v)) refl refl
       where
         go : (atA atB : Bool) → eqb (endOf (slot .pathA)) (suc v) ≡ atA → eqb (endOf (slot .pathB)) (suc v) ≡ atB

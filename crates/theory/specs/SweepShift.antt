@@ -11,8 +11,10 @@ use lib.Dec.{eqb}
 use borrow.Author.Tests.{eqb-true, eqb-false, eq-eqb, ne-eqb, lt-ltb}
 use Rattle.definitions.specs.Outcome.{pick}
 use Rattle.definitions.specs.Lists.{largest, firstFrom}
-use Rattle.definitions.specs.Sweep.{beforeEnd, together, previousIn, replaceEnds, exchange, downshift}
+use Rattle.definitions.specs.Sweep as Sweep
+use Rattle.definitions.specs.Sweep.{together, previousIn, exchange}
 use Rattle.lists.specs.Searches.{clash, largest-bound, largest-passes, largest-above, First, first-holds}
+use Rattle.theory.specs.PlaceSweep.{beforeEnd, replaceEnds, downshift}
 
 -- In a set of indices whose highest is j: the next higher one of i, of j the lowest; and back.
 abbrev stepUp : (set : ℕ → Bool) (k j i : ℕ) → ℕ
@@ -56,7 +58,7 @@ together-high ends j = rw (eq-eqb j j refl) (or-true (ends j))
 
 -- The first index keeps its end, and so does one outside the set.
 replace-first : (left : ℕ → ℕ → ℕ) (set : ℕ → Bool) (paths : ℕ → List ℕ) (n : ℕ) → previousIn set n ≡ 0 → replaceEnds left set paths n ≡ paths n
-unfolding replaceEnds
+unfolding Sweep.replaceEnds
 replace-first left set paths n none = rw none (go (set n))
   where
     go : (b : Bool) → pick (b && false) (left 0 (beforeEnd (paths n)) ∷ tail (paths n)) (paths n) ≡ paths n
@@ -64,12 +66,12 @@ replace-first left set paths n none = rw none (go (set n))
     go false = refl
 
 replace-outside : (left : ℕ → ℕ → ℕ) (set : ℕ → Bool) (paths : ℕ → List ℕ) (n : ℕ) → set n ≡ false → replaceEnds left set paths n ≡ paths n
-unfolding replaceEnds
+unfolding Sweep.replaceEnds
 replace-outside left set paths n out = rw out
 
 replace-later : (left : ℕ → ℕ → ℕ) (set : ℕ → Bool) (paths : ℕ → List ℕ) (n h : ℕ) → set n ≡ true → previousIn set n ≡ h → 0 < h
     → replaceEnds left set paths n ≡ left h (beforeEnd (paths n)) ∷ tail (paths n)
-unfolding replaceEnds
+unfolding Sweep.replaceEnds
 replace-later left set paths n h into at some = rw (at, into, lt-ltb 0 h some)
 
 -- Before the first of a set there is none.
@@ -149,7 +151,7 @@ module _ (left : ℕ → ℕ → ℕ) (k j : ℕ) (ends : ℕ → Bool) (paths :
       go false out = stays (outside (ends i) refl out) refl (replace-outside left set paths i out)
 
   pub came : (i : ℕ) → 1 ≤ i → i ≤ k → Came left j ends paths i (source k j ends i) (downshift left k j ends paths i)
-  unfolding source downshift
+  unfolding source Sweep.downshift
   came i positive within = go (eqb (largest ends k) 0) refl
     where
       none : largest ends k ≡ 0 → (b : Bool) → ends i ≡ b → b ≡ false

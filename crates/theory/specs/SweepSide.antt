@@ -7,9 +7,10 @@ use mathlib.Core.List.{List, [], _∷_, tail}
 use mathlib.Core.Logic.{_⊎_, inl, inr}
 use mathlib.Core.Path.{_≡_, refl, sym, _∙_, ap, subst}
 use Rattle.definitions.specs.Lists.{has}
-use Rattle.definitions.specs.Sweep.{endOf, beforeEnd, downshift}
+use Rattle.definitions.specs.Sweep as Sweep
 use Rattle.lists.specs.Searches.{clash}
 use Rattle.lists.specs.Cases.{has-nil, has-cases, has-there}
+use Rattle.theory.specs.PlaceSweep.{endOf, beforeEnd, downshift}
 use Rattle.theory.specs.LeftLaws.{LeftLaws}
 use Rattle.theory.specs.SweepShift.{source, Came, stays, moves, takes, came, source-one}
 use Rattle.theory.specs.SweepPaths.{Trail, OpenPath, open-end, open-above, open-start, open-past, open-lower, trail-from}
@@ -57,11 +58,11 @@ pub record Passed (left : ℕ → ℕ → ℕ) (k s c j v : ℕ) (opens : ℕ �
 -- The path of another index with an earlier neighbour of its last but one as its end.
 moved-shape : {left : ℕ → ℕ → ℕ} {k s c n v : ℕ} {path : List ℕ} (o : OpenPath left k s c n v path) (i : ℕ)
     → left i (beforeEnd path) ∷ tail path ≡ left i (o .before) ∷ o .before ∷ o .rest
-unfolding beforeEnd
+unfolding Sweep.beforeEnd Sweep.endOf
 moved-shape {left} o i = ap (λ (p : List ℕ). left i (beforeEnd p) ∷ tail p) (o .shape)
 
 pub end-alone : (c : ℕ) (path : List ℕ) → path ≡ c ∷ [] → endOf path ≡ c
-unfolding endOf
+unfolding Sweep.endOf
 end-alone c path e = rw e
 
 module _ (left : ℕ → ℕ → ℕ) (laws : LeftLaws left) (k s c j v : ℕ) (opens ends : ℕ → Bool) (paths : ℕ → List ℕ)

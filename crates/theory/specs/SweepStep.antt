@@ -11,9 +11,10 @@ use lib.Dec.{eqb}
 use borrow.Author.Tests.{eqb-true, eqb-false, eq-eqb, ne-eqb}
 use Rattle.definitions.specs.Outcome.{pick}
 use Rattle.definitions.specs.Lists.{has}
-use Rattle.definitions.specs.Sweep.{Slot, endOf, extend, slotAtT, endsA, endsB, downshift, settle, highestAt, shiftedSlot, slotElsewhere, slotAfter}
+use Rattle.definitions.specs.Sweep as Sweep
 use Rattle.lists.specs.Searches.{clash}
 use Rattle.lists.specs.Cases.{has-nil, has-cases}
+use Rattle.theory.specs.PlaceSweep.{Slot, endOf, extend, slotAtT, endsA, endsB, downshift, settle, highestAt, shiftedSlot, slotElsewhere, slotAfter}
 use Rattle.theory.specs.LeftLaws.{LeftLaws}
 use Rattle.theory.specs.Trees.{Alive}
 use Rattle.theory.specs.SweepPaths.{OpenPath, open-end, open-above, open-past, open-longer, trail-start}
@@ -48,7 +49,7 @@ module _ (left : ℕ → ℕ → ℕ) (laws : LeftLaws left) (k s t : ℕ) (less
           (readyB left laws k s t (suc v) slots inv other) (highestB k t (suc v) slots some)
 
       elsewhere-sweeping : Sweeping left k s t v (slotElsewhere left k t (suc v) slots)
-      unfolding slotElsewhere shiftedSlot
+      unfolding Sweep.slotElsewhere Sweep.shiftedSlot
       elsewhere-sweeping =
           by-cases (decLt 0 j)
           (λ some.
@@ -72,7 +73,7 @@ module _ (left : ℕ → ℕ → ℕ) (laws : LeftLaws left) (k s t : ℕ) (less
       pub never-rests : 0 < j
           → (endOf (shiftedSlot left k t (suc v) j slots j .pathA) ≢ suc v) ⊎ (endOf (shiftedSlot left k t (suc v) j slots j .pathB) ≢ suc v)
           → 0 < left j (suc v)
-      unfolding shiftedSlot
+      unfolding Sweep.shiftedSlot
       never-rests some (inl off) =
           let opn : slots j .isOpen ≡ true = highestA k t (suc v) slots some .isOpen in
           let le : j ≤ k = highestA k t (suc v) slots some .bound in
@@ -101,7 +102,7 @@ module _ (left : ℕ → ℕ → ℕ) (laws : LeftLaws left) (k s t : ℕ) (less
         never-rests-at off = state .sideA .alive t (omega (arith, open-end (state .sideA), state .sideA .low)) (omega arith)
 
         at-t-state : SlotState left k s t v i (slotAtT left t (slots i) i)
-        unfolding slotAtT
+        unfolding Sweep.slotAtT
         at-t-state = go (eqb (endOf (slots i .pathA)) t) refl
           where
             o : OpenPath left k s s i (suc v) (slots i .pathA)
@@ -159,7 +160,7 @@ module _ (left : ℕ → ℕ → ℕ) (laws : LeftLaws left) (k s t : ℕ) (less
                 missing (inr p) low = omega arith
 
         at-t-hasA : (w : ℕ) → has (slotAtT left t (slots i) i .pathA) w ≡ true → has (slots i .pathA) w ≡ true
-        unfolding slotAtT
+        unfolding Sweep.slotAtT
         at-t-hasA w = go (eqb (endOf (slots i .pathA)) t)
           where
             go : (b : Bool)
@@ -172,7 +173,7 @@ module _ (left : ℕ → ℕ → ℕ) (laws : LeftLaws left) (k s t : ℕ) (less
 
         -- B(i) has no relay above t.
         at-t-hasB : (w : ℕ) → t < w → has (slotAtT left t (slots i) i .pathB) w ≡ true → ⊥
-        unfolding slotAtT
+        unfolding Sweep.slotAtT
         at-t-hasB w above = go (eqb (endOf (slots i .pathA)) t)
           where
             only : (t ≡ w) ⊎ (has [] w ≡ true) → ⊥
@@ -203,7 +204,7 @@ module _ (left : ℕ → ℕ → ℕ) (laws : LeftLaws left) (k s t : ℕ) (less
           }
 
     pub step-sweeping : Sweeping left k s t v (slotAfter left k t (suc v) slots)
-    unfolding slotAfter
+    unfolding Sweep.slotAfter
     step-sweeping = go (eqb (suc v) t) refl
       where
         go : (b : Bool) → eqb (suc v) t ≡ b

@@ -12,8 +12,9 @@ use lib.Dec.{eqb}
 use borrow.Author.Tests.{eqb-true, eq-eqb, ne-eqb}
 use Rattle.definitions.specs.Outcome.{pick}
 use Rattle.definitions.specs.Lists.{largest, firstFrom}
-use Rattle.definitions.specs.Sweep.{beforeEnd, together, downshift}
+use Rattle.definitions.specs.Sweep.{together}
 use Rattle.lists.specs.Searches.{clash, largest-none, First, first-holds, first-same}
+use Rattle.theory.specs.PlaceSweep.{beforeEnd, downshift}
 use Rattle.theory.specs.SweepShift.{source, Came, stays, moves, takes, came, together-cases, together-ends, together-high}
 
 -- The path of another index with left(i, its last but one) as its end.

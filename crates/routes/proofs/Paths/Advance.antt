@@ -13,10 +13,10 @@ use lib.ListN.{length}
 use borrow.Author.Tests.{eqb-true, eqb-false}
 use Rattle.definitions.specs.Outcome.{pick}
 use Rattle.definitions.specs.Lists.{has}
-use Rattle.definitions.specs.Sweep.{endOf}
 use Rattle.routes.specs.Side.{priorStart, endIn, secondIn, priorIn, setPrior, extendPath, advance}
 use Rattle.routes.proofs.Paths.Side.{Chain, HoldsPath, SideHolds, held-end, held-chain, chain-same, held-same, length-setPath, prior-setPath, held-setPath-other, held-setPath, length-setPrior, end-setPrior, second-setPrior, prior-setPrior, prior-setPrior-other}
 use Rattle.routes.proofs.Paths.Trade.{held-whole}
+use Rattle.theory.specs.PlaceSweep.{endOf}
 
 module _ (look : ℕ → ℕ → ℕ) (reach k c v j : ℕ) (side : List ℕ) (paths : ℕ → List ℕ) (small : k ≤ 32) (some : 0 < v) (high : v ≤ reach)
     (off : v ≢ c) (one : 1 ≤ j) (bound : j ≤ k) (held : SideHolds reach k c side paths)

@@ -8,7 +8,7 @@ use native.Mathlib.Omega.{arith}
 use lib.Dec.{eqb}
 use borrow.Author.Tests.{ne-eqb}
 use Rattle.definitions.specs.Outcome.{pick}
-use Rattle.definitions.specs.Sweep.{endOf, downshift}
+use Rattle.theory.specs.PlaceSweep.{endOf, downshift}
 use Rattle.theory.specs.SweepTrades.{tradePaths, tradesFrom, trades-downshift}
 use Rattle.routes.specs.Side.{endIn, trade, tradeAt, tradeFrom}
 use Rattle.routes.proofs.Paths.Side.{SideHolds, held-end, side-same}

@@ -8,9 +8,10 @@ use native.Mathlib.Omega.{arith}
 use lib.Dec.{eqb}
 use borrow.Author.Tests.{eq-eqb, ne-eqb}
 use Rattle.definitions.specs.Lists.{has}
-use Rattle.definitions.specs.Sweep.{endOf, downshift}
+use Rattle.definitions.specs.Sweep as Sweep
 use Rattle.lists.specs.Searches.{clash}
 use Rattle.lists.specs.Cases.{has-here, has-there, has-nil}
+use Rattle.theory.specs.PlaceSweep.{endOf, downshift}
 use Rattle.theory.specs.LeftLaws.{LeftLaws}
 use Rattle.theory.specs.SweepPaths.{trail-from}
 use Rattle.theory.specs.SweepSide.{Standing, waits, stands, Ready, Highest}
@@ -23,7 +24,7 @@ has-tail (x ∷ rest) w h = has-there x rest w h
 module _ (left : ℕ → ℕ → ℕ) (laws : LeftLaws left) (k s c v : ℕ) (opens ends : ℕ → Bool) (paths : ℕ → List ℕ)
     (ready : Ready left k s c v opens ends paths) where
   pub ready-ends : 0 < v → (i : ℕ) → 1 ≤ i → i ≤ k → ends i ≡ eqb (endOf (paths i)) v
-  unfolding endOf
+  unfolding Sweep.endOf
   ready-ends some i one le = go (ends i) refl
     where
       above : (path : List ℕ) → ((w : ℕ) → has path w ≡ true → v < w) → endOf path ≡ v → ⊥

@@ -10,9 +10,10 @@ use native.Mathlib.Omega.{arith}
 use lib.ListN.{length, getD, set, length-set}
 use lib.Seq.{getD-set-same, getD-set-other}
 use Rattle.definitions.specs.Lists.{has}
-use Rattle.definitions.specs.Sweep.{endOf, beforeEnd}
+use Rattle.definitions.specs.Sweep as Sweep
 use Rattle.lists.specs.Cases.{has-here, has-there}
 use Rattle.routes.specs.Side.{secondStart, priorStart, endIn, secondIn, priorIn, setPath, setPrior}
+use Rattle.theory.specs.PlaceSweep.{endOf, beforeEnd}
 
 -- From x back to the start of its path stand these relays.
 abbrev pub Chain : List ℕ → ℕ → List ℕ → Type 0
@@ -42,7 +43,7 @@ side-same reach k c side old new same held =
     }
 
 pub held-end : (side : List ℕ) (i : ℕ) (path : List ℕ) → HoldsPath side i path → endIn side i ≡ endOf path
-unfolding endOf
+unfolding Sweep.endOf
 held-end side i [] h = absurd h
 held-end side i (x ∷ rest) h = h .0
 
@@ -51,7 +52,7 @@ chain-head side x [] e = e
 chain-head side x (y ∷ rest) h = h .0
 
 pub held-before : (side : List ℕ) (i : ℕ) (path : List ℕ) → HoldsPath side i path → secondIn side i ≡ beforeEnd path
-unfolding beforeEnd
+unfolding Sweep.beforeEnd
 held-before side i [] h = absurd h
 held-before side i (x ∷ rest) h = chain-head side (secondIn side i) rest (h .1)
 

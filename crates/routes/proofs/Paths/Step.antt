@@ -9,8 +9,9 @@ use native.Mathlib.Decide.{ℕ-discrete, decLt}
 use native.Mathlib.Omega.{arith}
 use lib.Dec.{eqb}
 use borrow.Author.Tests.{eq-eqb, ne-eqb}
-use Rattle.definitions.specs.Sweep.{Slot, endOf, endsA, endsB, highestAt, downshift, shiftedSlot, settle, slotAfter}
+use Rattle.definitions.specs.Sweep as Sweep
 use Rattle.lists.specs.Searches.{largest-same}
+use Rattle.theory.specs.PlaceSweep.{Slot, endOf, endsA, endsB, highestAt, downshift, shiftedSlot, settle, slotAfter}
 use Rattle.theory.specs.LeftLaws.{LeftLaws}
 use Rattle.theory.specs.Trees.{Alive}
 use Rattle.theory.specs.SweepInvariant.{Sweeping, ClosedSlot}
@@ -89,7 +90,7 @@ module _ (left look : ℕ → ℕ → ℕ) (laws : LeftLaws left) (k s t : ℕ) 
           (readyB left laws k s t (suc v) slots inv other) (omega arith)
 
       found : highestIn k (suc v) a b ≡ j
-      unfolding highestIn highestAt
+      unfolding highestIn Sweep.highestAt
       found =
           largest-same (λ i. eqb (endIn a i) (suc v) || eqb (endIn b i) (suc v)) (λ i. endsA (suc v) (slots i) || endsB t (suc v) (slots i)) k
           (λ i one le. ap₂ _||_
@@ -145,7 +146,7 @@ module _ (left look : ℕ → ℕ → ℕ) (laws : LeftLaws left) (k s t : ℕ) 
         otherPath f i apart = ap f (after-other left k t (suc v) slots other some i apart)
 
         sideA : SideHolds s k s (advance look (suc v) j (endIn b′ j) a′) (λ i. new i .pathA)
-        unfolding shiftedSlot
+        unfolding Sweep.shiftedSlot
         sideA =
             advance-holds look s k s (suc v) j a′ shiftA small (omega arith) (omega (arith, inv .below)) (λ e. omega (arith, inv .below)) some bound heldA′
             (shifted-tails left laws k s s (suc v) (λ i. slots i .isOpen) (λ i. endsA (suc v) (slots i)) (λ i. slots i .pathA)
@@ -160,7 +161,7 @@ module _ (left look : ℕ → ℕ → ℕ) (laws : LeftLaws left) (k s t : ℕ) 
             (λ off. highestPath (λ x. x .pathA) ∙ settled-waitsA left (suc v) j shifted off)
 
         sideB : SideHolds s k t (advance look (suc v) j (endIn a′ j) b′) (λ i. new i .pathB)
-        unfolding shiftedSlot
+        unfolding Sweep.shiftedSlot
         sideB =
             advance-holds look s k t (suc v) j b′ shiftB small (omega arith) (omega (arith, inv .below)) other some bound heldB′
             (shifted-tails left laws k s t (suc v) (λ i. slots i .isOpen) (λ i. endsB t (suc v) (slots i)) (λ i. slots i .pathB)

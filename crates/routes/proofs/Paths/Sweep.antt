@@ -5,7 +5,9 @@ use mathlib.Core.List.{List}
 use mathlib.Core.Path.{_≡_, ap}
 use native.Mathlib.Omega.{arith}
 use Rattle.definitions.specs.Lists.{table}
-use Rattle.definitions.specs.Sweep.{Slot, slotAt, startSlot, slotAfter, slotsAfter, sweepFrom, sweep}
+use Rattle.definitions.specs.Sweep as Sweep
+use Rattle.definitions.specs.Sweep.{slotAt}
+use Rattle.theory.specs.PlaceSweep.{Slot, startSlot, slotAfter, slotsAfter, sweepFrom, sweep}
 use Rattle.theory.specs.LeftLaws.{LeftLaws}
 use Rattle.theory.specs.Trees.{Alive}
 use Rattle.theory.specs.SweepInvariant.{Sweeping}
@@ -32,7 +34,7 @@ module _ (left look : ℕ → ℕ → ℕ) (laws : LeftLaws left) (k s t : ℕ) 
     (small : k ≤ 32) (agree : (i x : ℕ) → 1 ≤ i → i ≤ k → look i x ≡ left i x) where
   steps-hold : (v : ℕ) (slots : List Slot) → Sweeping left k s t v (slotAt slots) → (a b : List ℕ) → SidesHold k s t (sides a b) (slotAt slots)
       → SidesHold k s t (sweepIn look k t v a b) (slotAt (sweepFrom left k t v slots))
-  unfolding sweepIn sweepFrom slotsAfter
+  unfolding sweepIn Sweep.sweepFrom Sweep.slotsAfter
   steps-hold zero slots inv a b now = now
   steps-hold (suc v) slots inv a b now =
       let after : Sides = stepIn look k t (suc v) a b in
@@ -43,7 +45,7 @@ module _ (left look : ℕ → ℕ → ℕ) (laws : LeftLaws left) (k s t : ℕ) 
 
   module _ (n : ℕ) (high : s ≤ n) (a b : List ℕ) (noA : NoPaths n a) (noB : NoPaths n b) where
     start-holds : SidesHold k s t (sides (startA look s k a) (startB t k b)) (slotAt (table (startSlot left s t) 1 k))
-    unfolding startSlot
+    unfolding Sweep.startSlot
     start-holds =
         holds-same k s t (sides (startA look s k a) (startB t k b))
         (startSlot left s t) (slotAt (table (startSlot left s t) 1 k)) (slotAt-table (startSlot left s t) k)
@@ -53,7 +55,7 @@ module _ (left look : ℕ → ℕ → ℕ) (laws : LeftLaws left) (k s t : ℕ) 
         })
 
     pub swept-holds : SidesHold k s t (sweptIn look k s t a b) (slotAt (sweep left k s t))
-    unfolding sweptIn sweep
+    unfolding sweptIn Sweep.sweep
     swept-holds =
         steps-hold (pred s) (table (startSlot left s t) 1 k) (sweep-starts left laws k s t less alive)
         (startA look s k a) (startB t k b) start-holds

@@ -10,7 +10,7 @@ use lib.Dec.{eqb}
 use borrow.Author.Tests.{eq-eqb, ne-eqb}
 use lib.ListN.{length}
 use Rattle.definitions.specs.Outcome.{pick}
-use Rattle.definitions.specs.Sweep.{beforeEnd}
+use Rattle.theory.specs.PlaceSweep.{beforeEnd}
 use Rattle.theory.specs.SweepTrades.{tradePaths}
 use Rattle.routes.specs.Side.{priorStart, endIn, secondIn, priorIn, setPath, trade}
 use Rattle.routes.proofs.Paths.Side.{HoldsPath, SideHolds, held-before, held-chain, chain-same, length-setPath, prior-setPath, held-setPath-other, held-setPath}

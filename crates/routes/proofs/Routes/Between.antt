@@ -10,9 +10,10 @@ use lib.Seq.{sets}
 use borrow.Author.Tests.{lt-ltb, le-ltb}
 use Rattle.definitions.specs.Lists.{joinAll}
 use Rattle.definitions.specs.Order.{relayAt}
-use Rattle.definitions.specs.Sweep.{Slot, slotAt, slotRoute, sweep, sweepRoutes}
+use Rattle.definitions.specs.Sweep.{slotAt, slotRoute, sweepRoutes}
 use Rattle.definitions.specs.Route.{routesBetween}
 use Rattle.lists.specs.Maps.{getD-map}
+use Rattle.theory.specs.PlaceSweep.{Slot, sweep}
 use Rattle.theory.specs.LeftLaws.{LeftLaws}
 use Rattle.theory.specs.Trees.{Alive}
 use Rattle.theory.specs.SweepPaths.{trail-length}
