@@ -1,19 +1,23 @@
--- What the left table holds. Assumes nothing.
-use Prim.Native.Nat.{ℕ, _+_, _-_, _*_, _≤_, _<_, min, max}
+-- What the left table holds, and what stands beside it. Assumes nothing.
+use Prim.Native.Nat.{ℕ, suc, _+_, _-_, _*_, _≤_, _<_, min, max}
 use mathlib.Core.List.{List}
 use mathlib.Core.Path.{_≡_}
-use lib.Dec.{leb}
+use lib.Dec.{eqb, leb}
 use lib.ListN.{length, getD, set}
 use Rattle.definitions.specs.Outcome.{pick}
 use Rattle.definitions.specs.Network.{linked, Accepted}
 use Rattle.definitions.specs.Order.{orderOf, placeOf}
-use Rattle.definitions.specs.Forests.{forestOf}
-use Rattle.definitions.specs.Route.{leftOf}
+use Rattle.definitions.specs.Forests.{forestOf, Entry}
+use Rattle.definitions.specs.Over.{entryOf}
 use Rattle.forests.specs.Fronts.{SameBeyond}
 
 -- Where the entry of forest i and place v stands, both from 1.
 abbrev pub leftIndex : (n i v : ℕ) → ℕ
 leftIndex n i v = (i - 1) * n + (v - 1)
+
+-- What stands there: 0 for no neighbour, else one more than the index of the link to it.
+unfoldable pub leftCode : (entry : Entry) → ℕ
+leftCode entry = pick (eqb (entry .place) 0) 0 (suc (entry .link))
 
 -- The places of the ends of link i, the later and the earlier.
 abbrev pub laterAt : (lows highs places : List ℕ) (i : ℕ) → ℕ
@@ -33,11 +37,11 @@ pub record Enterable (n k i : ℕ) (lows highs places forests table : List ℕ) 
   pub forest : 0 < getD forests i 0
   pub index : getD forests i 0 ≤ k → leftIndex n (getD forests i 0) (laterAt lows highs places i) < length table
 
--- The table with link i entered.
+-- The table with link i entered, by its index.
 unfoldable pub entered : (n k i : ℕ) (lows highs places forests table : List ℕ) → List ℕ
 entered n k i lows highs places forests table =
     pick (leb (getD forests i 0) k)
-    (set table (leftIndex n (getD forests i 0) (laterAt lows highs places i)) (earlierAt lows highs places i))
+    (set table (leftIndex n (getD forests i 0) (laterAt lows highs places i)) (suc i))
     table
 
 -- What the left table is made from: places and forest numbers of an accepted table, and zeros for the first k × n entries.
@@ -51,7 +55,9 @@ pub record LeftInput (n k : ℕ) (lows highs places forests table : List ℕ) : 
       → getD forests i 0 ≡ forestOf (linked lows highs) (orderOf n lows highs) lows highs i
   pub zeros : (j : ℕ) → j < k * n → getD table j 0 ≡ 0
 
--- The left table, and nothing else has changed.
-pub record LeftTable (n k : ℕ) (lows highs table table′ : List ℕ) : Type 0 where
-  pub entry : (i v : ℕ) → 1 ≤ i → i ≤ k → 1 ≤ v → v ≤ n → getD table′ (leftIndex n i v) 0 ≡ leftOf n lows highs i v
+-- The left table, and nothing else has changed; `ends` has the earlier end of each link, as a place.
+pub record LeftTable (n k : ℕ) (lows highs table table′ ends : List ℕ) : Type 0 where
+  pub entry : (i v : ℕ) → 1 ≤ i → i ≤ k → 1 ≤ v → v ≤ n → getD table′ (leftIndex n i v) 0 ≡ leftCode (entryOf n lows highs i v)
+  pub earlierEnd : (l : ℕ) → l < length lows
+      → getD ends l 0 ≡ min (placeOf (orderOf n lows highs) (getD lows l 0)) (placeOf (orderOf n lows highs) (getD highs l 0))
   pub beyond : SameBeyond (k * n) table table′

@@ -1,11 +1,12 @@
-// The left table: entry (i − 1) × n + (v − 1) is left(i, v), 0 for none, for the forests 1 to k and the places 1 to n.
+// The left table: entry (i − 1) × n + (v − 1) is one more than the index of v's link to left(i, v), 0 for none, for the forests
+// 1 to k and the places 1 to n. Beside it the earlier end of each link: left(i, v) itself.
 use crate::scan::place_of;
 use network::Place;
 use network::Relay;
-ghost use Prim.Native.Nat.{min, max, _<_};
+ghost use Prim.Native.Nat.{suc, min, max, _<_};
 ghost use mathlib.Core.Path.{_≡_};
 ghost use lib.ListN.{length, set};
-ghost use Rattle.forests.specs.Left.{leftIndex, Enterable, entered, LeftInput, LeftTable};
+ghost use Rattle.forests.specs.Left.{leftIndex, earlierAt, Enterable, entered, LeftInput, LeftTable};
 
 fn earlier(p: Place, q: Place) -> Place
     ensures { λ r. ⌜ r .0 ≡ min (p .0) (q .0) ⌝ }
@@ -19,17 +20,17 @@ fn later(p: Place, q: Place) -> Place
     if p.0 < q.0 { q } else { p }
 }
 
-// left(forest, v) is u: the one place that writes entries.
-fn put_left(table: &mut [u16], n: u16, forest: u16, v: Place, u: Place)
-    requires { ⌜ (0 < forest) × (0 < v .0) × (leftIndex n forest (v .0) < length (now table)) ⌝ }
-    ensures { λ _. ⌜ now (table .exit) ≡ set (now (table .entry)) (leftIndex n forest (v .0)) (u .0) ⌝ }
+// Link `link` leads from v to left(forest, v): the one place that writes entries.
+fn put_left(table: &mut [u16], n: u16, forest: u16, v: Place, link: usize)
+    requires { ⌜ (0 < forest) × (0 < v .0) × (leftIndex n forest (v .0) < length (now table)) × (link < 3000) ⌝ }
+    ensures { λ _. ⌜ now (table .exit) ≡ set (now (table .entry)) (leftIndex n forest (v .0)) (suc link) ⌝ }
 {
     let row = (forest as usize - 1) * (n as usize);
     let at = row + (v.0 as usize - 1);
-    table[at] = u.0;
+    table[at] = (link + 1) as u16;
 }
 
-// Link i is entered if its forest is one of the first k.
+// Link i is entered if its forest is one of the first k; its forest number gives way to the place of its earlier end.
 fn enter_link(
     table: &mut [u16],
     n: u16,
@@ -38,17 +39,21 @@ fn enter_link(
     lows: &[u16],
     highs: &[u16],
     places: &[u16],
-    forests: &[u16],
+    forests: &mut [u16],
 )
     requires { ⌜ Enterable n k i (now lows) (now highs) (now places) (now forests) (now table) ⌝ }
     ensures { λ _. ⌜ now (table .exit)
         ≡ entered n k i (now (lows .entry)) (now (highs .entry)) (now (places .entry)) (now (forests .entry)) (now (table .entry)) ⌝ }
+    ensures { λ _. ⌜ now (forests .exit)
+        ≡ set (now (forests .entry)) i (earlierAt (now (lows .entry)) (now (highs .entry)) (now (places .entry)) i) ⌝ }
 {
     let p = place_of(places, Relay(lows[i]));
     let q = place_of(places, Relay(highs[i]));
     let forest = forests[i];
+    let near = earlier(p, q);
+    forests[i] = near.0;
     if forest <= k {
-        put_left(table, n, forest, later(p, q), earlier(p, q));
+        put_left(table, n, forest, later(p, q), i);
     }
 }
 
@@ -60,10 +65,11 @@ pub fn left_table(
     lows: &[u16],
     highs: &[u16],
     places: &[u16],
-    forests: &[u16],
+    forests: &mut [u16],
 )
     requires { ⌜ LeftInput n k (now lows) (now highs) (now places) (now forests) (now table) ⌝ }
-    ensures { λ _. ⌜ LeftTable n k (now (lows .entry)) (now (highs .entry)) (now (table .entry)) (now (table .exit)) ⌝ }
+    ensures { λ _. ⌜ LeftTable n k (now (lows .entry)) (now (highs .entry)) (now (table .entry)) (now (table .exit))
+        (now (forests .exit)) ⌝ }
 {
     let mut i = 0;
     while i < lows.len() {

@@ -1,60 +1,93 @@
 -- What the answer of Route stands for, what its inner functions answer, and how its refusals are split among them.
 -- Assumes nothing.
 use Prim.Native.Nat.{ℕ, _+_, _-_, _*_, _≤_, _<_}
-use mathlib.Core.Bool.{_||_}
+use mathlib.Core.Bool.{Bool, _&&_, _||_}
 use mathlib.Core.List.{List, [], _∷_, map}
 use mathlib.Core.Logic.{_≢_}
 use mathlib.Core.Path.{_≡_}
 use lib.Dec.{eqb, ltb, leb}
 use lib.ListN.{length, getD}
-use Rattle.definitions.specs.Outcome.{pick, refused, done, Answer, refuseIf}
-use Rattle.definitions.specs.Lists.{overwrite, outside, joinAll}
+use lib.Seq.{sets}
+use Rattle.definitions.specs.Outcome.{pick, refused, done, Answer, refuseIf, ifDone}
+use Rattle.definitions.specs.Lists.{overwrite, zeroed, outside, joinAll}
 use Rattle.definitions.specs.Network.{Accepted}
-use Rattle.definitions.specs.Route.{routesOf, oneTreeOf}
+use Rattle.definitions.specs.Order.{orderOf, placesOf}
+use Rattle.definitions.specs.Forests.{Entry}
+use Rattle.definitions.specs.Route.{routesOf, oneTreeOf, tooShort, routeUnless, scratchUsed}
+use Rattle.definitions.specs.Over.{oversOf}
 use Rattle.network.specs.Answers.{refusalOf}
-use Rattle.forests.specs.Scan.{Scanned}
 use Rattle.forests.specs.Left.{LeftTable}
 use Rattle.routes.specs.declared.RouteAnswer.{RouteAnswer}
 use Rattle.routes.specs.declared.RouteAnswer.the-variants.{Written}
 use Rattle.routes.specs.Side.{NoPaths}
-use Rattle.routes.specs.Between.{oneTreeIn, betweenIn}
+use Rattle.routes.specs.Between.{oneTreeIn, betweenIn, linksBetween}
 
 -- The count of relays written, or a refusal.
 abbrev pub routeOutcome : RouteAnswer → Answer
 routeOutcome (Written count) = done (count ∷ [])
 routeOutcome (RouteAnswer.Refused refusal) = refusalOf refusal
 
--- 9 to 12, from the lengths of the three lists.
-unfoldable pub wishCheck : (n k from to countsLength relaysLength scratchLength : ℕ) → Answer
-wishCheck n k from to countsLength relaysLength scratchLength =
+-- 9 to 12, from the lengths of the lists; `asked` says whether a list of links is asked for.
+unfoldable pub wishCheck : (n k from to : ℕ) (asked : Bool) (countsLength relaysLength linksLength scratchLength : ℕ) → Answer
+wishCheck n k from to asked countsLength relaysLength linksLength scratchLength =
     refuseIf (outside 1 32 k) 9 0
     (refuseIf (leb n from || leb n to) 10 0
     (refuseIf (eqb from to) 11 0
-    (refuseIf (ltb countsLength k || (ltb relaysLength (n - 2 + 2 * k) || ltb scratchLength (k * n))) 12 0
+    (refuseIf
+    ((ltb countsLength k || (ltb relaysLength (n - 2 + 2 * k) || ltb scratchLength (k * n)))
+    || (asked && ltb linksLength (n - 2 + k)))
+    12 0
     (done []))))
 
--- The two lists afterwards, and the answer.
+-- The three lists afterwards, and the answer.
 pub record Answered : Type 0 where
   pub countList : List ℕ
   pub relayList : List ℕ
+  pub linkList : List ℕ
   pub answer : Answer
 
-abbrev pub answered : List ℕ → List ℕ → Answer → Answered
-answered counts relays answer = record { countList = counts; relayList = relays; answer = answer }
+abbrev pub answered : (counts relays links : List ℕ) (answer : Answer) → Answered
+answered counts relays links answer = record { countList = counts; relayList = relays; linkList = links; answer = answer }
 
 -- Between two places over a left table: the routes, or 13.
-unfoldable pub answerIn : (a b : List ℕ) (left : ℕ → ℕ → ℕ) (k p q : ℕ) (order counts relays : List ℕ) → Answered
-answerIn a b left k p q order counts relays =
-    let all = betweenIn a b left k p q order counts relays in
-    pick (oneTreeIn left k p q) (answered (all .countList) (all .relayList) (done (all .upto ∷ []))) (answered counts relays (refused 13 0))
+unfoldable pub answerIn : (a b : List ℕ) (look : ℕ → ℕ → Entry) (k p q : ℕ) (order counts relays links : List ℕ) → Answered
+answerIn a b look k p q order counts relays links =
+    let all = betweenIn a b look k p q order counts relays in
+    pick (oneTreeIn look k p q)
+    (answered (all .countList) (all .relayList) (linksBetween a b look k p q links) (done (all .upto ∷ [])))
+    (answered counts relays links (refused 13 0))
 
--- The same as the definition has it.
-unfoldable pub treeAnswer : (n : ℕ) (lows highs : List ℕ) (k from to : ℕ) (counts relays : List ℕ) → Answered
-treeAnswer n lows highs k from to counts relays =
+-- The same as the definition has it. Of the links what is not lent is not written.
+unfoldable pub treeAnswer : (n : ℕ) (lows highs : List ℕ) (k from to : ℕ) (counts relays links : List ℕ) → Answered
+treeAnswer n lows highs k from to counts relays links =
     let routes = routesOf n lows highs k from to in
     pick (oneTreeOf n lows highs k from to)
-    (answered (overwrite (map length routes) counts) (overwrite (joinAll routes) relays) (done (length (joinAll routes) ∷ [])))
-    (answered counts relays (refused 13 0))
+    (answered (overwrite (map length routes) counts) (overwrite (joinAll routes) relays)
+    (sets links 0 (joinAll (oversOf n lows highs k from to)))
+    (done (length (joinAll routes) ∷ [])))
+    (answered counts relays links (refused 13 0))
+
+-- Cause for 12.
+unfoldable pub shortFor : (asked : Bool) (n k : ℕ) (counts relays links scratch : List ℕ) → Bool
+shortFor asked n k counts relays links scratch =
+    tooShort n k counts relays scratch || (asked && ltb (length links) (n - 2 + k))
+
+-- Route's answer and its lists afterwards, where `asked` says whether a list of links is asked for.
+module _ (asked : Bool) (n : ℕ) (lows highs : List ℕ) (k from to : ℕ) (counts relays links scratch : List ℕ) where
+  unfoldable pub coreAnswer : Answer
+  coreAnswer = routeUnless (shortFor asked n k counts relays links scratch) n lows highs k from to
+
+  unfoldable pub coreCounts : List ℕ
+  coreCounts = ifDone coreAnswer (overwrite (map length (routesOf n lows highs k from to)) counts) counts
+
+  unfoldable pub coreRelays : List ℕ
+  coreRelays = ifDone coreAnswer (overwrite (joinAll (routesOf n lows highs k from to)) relays) relays
+
+  unfoldable pub coreLinks : List ℕ
+  coreLinks = ifDone coreAnswer (sets links 0 (joinAll (oversOf n lows highs k from to))) links
+
+  unfoldable pub coreScratch : List ℕ
+  coreScratch = pick (scratchUsed coreAnswer) (zeroed scratch) scratch
 
 -- What Route asks once 3 to 12 are passed.
 pub record Routable (n : ℕ) (lows highs : List ℕ) (k from to : ℕ) (counts relays scratch : List ℕ) : Type 0 where
@@ -77,7 +110,8 @@ pub record RouteArrays (n : ℕ) (lows order places numbers a b : List ℕ) : Ty
   pub noA : NoPaths n a
   pub noB : NoPaths n b
 
--- What the scan gives, and the left table made from it.
-pub record Prepared (n k : ℕ) (lows highs order order′ places places′ numbers numbers′ table table′ : List ℕ) : Type 0 where
-  pub scanned : Scanned n lows highs order order′ places places′ numbers numbers′
-  pub theTable : LeftTable n k lows highs table table′
+-- The order and the places of a network, the left table, and the earlier end of each link.
+pub record Prepared (n k : ℕ) (lows highs order order′ places places′ ends table table′ : List ℕ) : Type 0 where
+  pub theOrder : order′ ≡ overwrite (orderOf n lows highs) order
+  pub thePlaces : places′ ≡ overwrite (placesOf n (orderOf n lows highs)) places
+  pub theTable : LeftTable n k lows highs table table′ ends

@@ -3,5 +3,6 @@
 pub mod Side
 pub mod Sides
 pub mod Writing
+pub mod WrittenLinks
 pub mod Between
 pub mod Answers

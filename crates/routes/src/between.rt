@@ -1,9 +1,10 @@
 // The routes between two places, over a left table.
 ghost use mathlib.Core.Path.{_≡_};
 ghost use Prim.Native.Nat.{_-_, _<_, _≤_};
-ghost use Rattle.routes.specs.Side.{tableLeft};
+ghost use Rattle.routes.specs.Side.{tableEntry};
 ghost use Rattle.routes.specs.Writing.{written};
-ghost use Rattle.routes.specs.Between.{aliveIn, oneTreeIn, betweenIn};
+ghost use Rattle.routes.specs.Between.{aliveIn, oneTreeIn, betweenIn, linksBetween};
+use crate::links::write_links;
 use crate::side::left;
 use crate::side::one_before;
 use crate::sweep::sweep;
@@ -11,13 +12,15 @@ use crate::write::write_routes;
 use network::Place;
 
 // Each place after t up to s has a left entry of index k.
-fn alive(table: &[u16], n: u16, k: u16, t: Place, s: Place) -> bool
+fn alive(table: &[u16], ends: &[u16], n: u16, k: u16, t: Place, s: Place) -> bool
     requires { ⌜ t .0 ≤ s .0 ⌝ }
-    ensures { λ r. ⌜ r ≡ aliveIn (tableLeft (now (table .entry)) n) k (t .0) (s .0 - t .0) ⌝ }
+    ensures { λ r. ⌜ r ≡ aliveIn (tableEntry (now (table .entry)) (now (ends .entry)) n) k (t .0) (s .0 - t .0) ⌝ }
 {
     let mut v = s;
     while t.0 < v.0 {
-        if left(table, n, k, v).0 == 0 {
+        let found = left(table, ends, n, k, v);
+        let place = found.place;
+        if place.0 == 0 {
             return false;
         }
         v = one_before(v);
@@ -26,21 +29,23 @@ fn alive(table: &[u16], n: u16, k: u16, t: Place, s: Place) -> bool
 }
 
 // p and q are in one tree of forest k.
-pub(crate) fn one_tree(table: &[u16], n: u16, k: u16, p: Place, q: Place) -> bool
-    ensures { λ r. ⌜ r ≡ oneTreeIn (tableLeft (now (table .entry)) n) k (p .0) (q .0) ⌝ }
+pub(crate) fn one_tree(table: &[u16], ends: &[u16], n: u16, k: u16, p: Place, q: Place) -> bool
+    ensures { λ r. ⌜ r ≡ oneTreeIn (tableEntry (now (table .entry)) (now (ends .entry)) n) k (p .0) (q .0) ⌝ }
 {
     if q.0 < p.0 {
-        alive(table, n, k, q, p)
+        alive(table, ends, n, k, q, p)
     } else {
-        alive(table, n, k, p, q)
+        alive(table, ends, n, k, p, q)
     }
 }
 
-// The routes from p to q: swept from the later of the two, written from p on. Gives the number of relays written.
+// The routes from p to q: swept from the later of the two, written from p on, and their links. Gives the number of relays
+// written.
 pub(crate) fn between(
     a: &mut [u16],
     b: &mut [u16],
     table: &[u16],
+    ends: &[u16],
     n: u16,
     k: u16,
     p: Place,
@@ -48,17 +53,23 @@ pub(crate) fn between(
     order: &[u16],
     counts: &mut [u16],
     relays: &mut [u16],
+    links: &mut [u16],
 ) -> usize
     requires { ⌜ (0 < p .0) × (0 < q .0) × (k ≤ 32) ⌝ }
     ensures { λ r. ⌜ written (now (counts .exit)) (now (relays .exit)) r
-        ≡ betweenIn (now (a .entry)) (now (b .entry)) (tableLeft (now (table .entry)) n) k (p .0) (q .0) (now (order .entry))
+        ≡ betweenIn (now (a .entry)) (now (b .entry)) (tableEntry (now (table .entry)) (now (ends .entry)) n) k (p .0) (q .0) (now (order .entry))
         (now (counts .entry)) (now (relays .entry)) ⌝ }
+    ensures { λ _. ⌜ now (links .exit)
+        ≡ linksBetween (now (a .entry)) (now (b .entry)) (tableEntry (now (table .entry)) (now (ends .entry)) n) k (p .0) (q .0)
+        (now (links .entry)) ⌝ }
 {
     if q.0 < p.0 {
-        sweep(a, b, table, n, k, p, q);
+        sweep(a, b, table, ends, n, k, p, q);
+        write_links(links, a, b, k);
         write_routes(counts, relays, a, b, order, k)
     } else {
-        sweep(a, b, table, n, k, q, p);
+        sweep(a, b, table, ends, n, k, q, p);
+        write_links(links, b, a, k);
         write_routes(counts, relays, b, a, order, k)
     }
 }

@@ -1,34 +1,18 @@
-// Route of document 01: the sweep over the left table of a network, and the routes written out. What its answer stands for
-// is said in specs/Answers.antt.
-use between::between;
-use between::one_tree;
-use forests::arrays::few_link_zeros;
-use forests::arrays::few_relay_copies;
-use forests::arrays::link_zeros;
-use forests::arrays::relay_copies;
-use forests::clear::clear;
-use forests::left::left_table;
-use forests::scan::is_small;
-use forests::scan::place_of;
-use forests::scan::scan;
+// Route of document 01, alone and with the links of its routes (document 02, #101): the sweep over the left table of a network,
+// and the routes written out. What its answer stands for is said in specs/Answers.antt.
+use accepted::route_accepted;
 use network::Check;
-use network::Place;
 use network::Refusal;
-use network::Relay;
 use network::table_check;
-use sides::side_for_128_relays;
-use sides::side_for_1000_relays;
 use wish::wish_check;
 ghost use mathlib.Core.Path.{_≡_};
-ghost use Prim.Native.Nat.{ℕ, _*_, _≤_, _<_};
-ghost use lib.ListN.{length, getD};
-ghost use Rattle.definitions.specs.Lists.{zeroed};
 ghost use Rattle.definitions.specs.Route.{routeAnswer, countsAfter, routeRelaysAfter, scratchAfter};
-ghost use Rattle.forests.specs.Scan.{Scannable};
-ghost use Rattle.routes.specs.Side.{tableLeft};
-ghost use Rattle.routes.specs.Answers.{routeOutcome, answered, answerIn, treeAnswer, Routable, RouteArrays, Prepared};
+ghost use Rattle.definitions.specs.Over.{routeLinksAnswer, routeLinksCounts, routeLinksRelays, routeLinksLinks, routeLinksScratch};
+ghost use Rattle.routes.specs.Answers.{routeOutcome, coreAnswer, coreCounts, coreRelays, coreLinks, coreScratch};
 
+mod accepted;
 mod between;
+mod links;
 mod side;
 mod sides;
 mod sweep;
@@ -41,187 +25,55 @@ pub enum RouteAnswer {
     Refused(Refusal),
 }
 
-// The order, the places and the left table of an accepted table.
-fn prepare(
-    n: u16,
-    lows: &[u16],
-    highs: &[u16],
-    k: u16,
-    order: &mut [u16],
-    places: &mut [u16],
-    numbers: &mut [u16],
-    table: &mut [u16],
-)
-    requires { ⌜ Scannable n (now lows) (now highs) (now order) (now places) (now numbers) ⌝ }
-    requires { ⌜ (k * n ≤ length (now table)) × ((j : ℕ) → j < k * n → getD (now table) j 0 ≡ 0) ⌝ }
-    ensures { λ _. ⌜ Prepared n k (now (lows .entry)) (now (highs .entry)) (now (order .entry)) (now (order .exit))
-        (now (places .entry)) (now (places .exit)) (now (numbers .entry)) (now (numbers .exit)) (now (table .entry))
-        (now (table .exit)) ⌝ }
-{
-    scan(n, lows, highs, order, places, numbers);
-    left_table(table, n, k, lows, highs, places, numbers);
-}
-
-// The routes from p to q, or 13.
-fn answer(
-    a: &mut [u16],
-    b: &mut [u16],
-    table: &[u16],
-    n: u16,
-    k: u16,
-    p: Place,
-    q: Place,
-    order: &[u16],
-    counts: &mut [u16],
-    relays: &mut [u16],
-) -> RouteAnswer
-    requires { ⌜ (0 < p .0) × (0 < q .0) × (k ≤ 32) ⌝ }
-    ensures { λ r. ⌜ answered (now (counts .exit)) (now (relays .exit)) (routeOutcome r)
-        ≡ answerIn (now (a .entry)) (now (b .entry)) (tableLeft (now (table .entry)) n) k (p .0) (q .0) (now (order .entry))
-        (now (counts .entry)) (now (relays .entry)) ⌝ }
-{
-    if one_tree(table, n, k, p, q) {
-        return RouteAnswer::Written(between(a, b, table, n, k, p, q, order, counts, relays));
-    }
-    RouteAnswer::Refused(Refusal::NotOneTree)
-}
-
-// Route where 3 to 12 are passed, in arrays that are lent to it.
-fn route_in(
+// Route, with the list of links where it is asked for; of a shorter list what is lent is written.
+fn route_core(
     n: u16,
     lows: &[u16],
     highs: &[u16],
     k: u16,
     from: u16,
     to: u16,
-    order: &mut [u16],
-    places: &mut [u16],
-    numbers: &mut [u16],
-    a: &mut [u16],
-    b: &mut [u16],
+    asked: bool,
     counts: &mut [u16],
     relays: &mut [u16],
+    links: &mut [u16],
     scratch: &mut [u16],
 ) -> RouteAnswer
-    requires { ⌜ Routable n (now lows) (now highs) k from to (now counts) (now relays) (now scratch)
-        × RouteArrays n (now lows) (now order) (now places) (now numbers) (now a) (now b) ⌝ }
-    ensures { λ r. ⌜ answered (now (counts .exit)) (now (relays .exit)) (routeOutcome r)
-        ≡ treeAnswer n (now (lows .entry)) (now (highs .entry)) k from to (now (counts .entry)) (now (relays .entry)) ⌝ }
-    ensures { λ _. ⌜ now (scratch .exit) ≡ zeroed (now (scratch .entry)) ⌝ }
+    ensures { λ r. ⌜ routeOutcome r ≡ coreAnswer asked n (now (lows .entry)) (now (highs .entry)) k from to (now (counts .entry))
+        (now (relays .entry)) (now (links .entry)) (now (scratch .entry)) ⌝ }
+    ensures { λ _. ⌜ now (counts .exit)
+        ≡ coreCounts asked n (now (lows .entry)) (now (highs .entry)) k from to (now (counts .entry)) (now (relays .entry))
+        (now (links .entry)) (now (scratch .entry)) ⌝ }
+    ensures { λ _. ⌜ now (relays .exit)
+        ≡ coreRelays asked n (now (lows .entry)) (now (highs .entry)) k from to (now (counts .entry)) (now (relays .entry))
+        (now (links .entry)) (now (scratch .entry)) ⌝ }
+    ensures { λ _. ⌜ now (links .exit)
+        ≡ coreLinks asked n (now (lows .entry)) (now (highs .entry)) k from to (now (counts .entry)) (now (relays .entry))
+        (now (links .entry)) (now (scratch .entry)) ⌝ }
+    ensures { λ _. ⌜ now (scratch .exit)
+        ≡ coreScratch asked n (now (lows .entry)) (now (highs .entry)) k from to (now (counts .entry)) (now (relays .entry))
+        (now (links .entry)) (now (scratch .entry)) ⌝ }
 {
-    let entries = k as usize * n as usize;
-    clear(scratch, entries);
-    prepare(n, lows, highs, k, order, places, numbers, scratch);
-    let p = place_of(places, Relay(from));
-    let q = place_of(places, Relay(to));
-    let result = answer(a, b, scratch, n, k, p, q, order, counts, relays);
-    let whole = scratch.len();
-    clear(scratch, whole);
-    result
-}
-
-// Route in small arrays.
-fn route_small(
-    n: u16,
-    lows: &[u16],
-    highs: &[u16],
-    k: u16,
-    from: u16,
-    to: u16,
-    counts: &mut [u16],
-    relays: &mut [u16],
-    scratch: &mut [u16],
-) -> RouteAnswer
-    requires { ⌜ Routable n (now lows) (now highs) k from to (now counts) (now relays) (now scratch)
-        × (n ≤ 128) × (length (now lows) ≤ 384) ⌝ }
-    ensures { λ r. ⌜ answered (now (counts .exit)) (now (relays .exit)) (routeOutcome r)
-        ≡ treeAnswer n (now (lows .entry)) (now (highs .entry)) k from to (now (counts .entry)) (now (relays .entry)) ⌝ }
-    ensures { λ _. ⌜ now (scratch .exit) ≡ zeroed (now (scratch .entry)) ⌝ }
-{
-    let mut order = few_relay_copies(0);
-    let mut places = few_relay_copies(0);
-    let mut numbers = few_link_zeros();
-    let mut a = side_for_128_relays();
-    let mut b = side_for_128_relays();
-    route_in(
-        n,
-        lows,
-        highs,
-        k,
-        from,
-        to,
-        &mut order,
-        &mut places,
-        &mut numbers,
-        &mut a,
-        &mut b,
-        counts,
-        relays,
-        scratch,
-    )
-}
-
-// Route in large arrays.
-fn route_large(
-    n: u16,
-    lows: &[u16],
-    highs: &[u16],
-    k: u16,
-    from: u16,
-    to: u16,
-    counts: &mut [u16],
-    relays: &mut [u16],
-    scratch: &mut [u16],
-) -> RouteAnswer
-    requires { ⌜ Routable n (now lows) (now highs) k from to (now counts) (now relays) (now scratch) ⌝ }
-    ensures { λ r. ⌜ answered (now (counts .exit)) (now (relays .exit)) (routeOutcome r)
-        ≡ treeAnswer n (now (lows .entry)) (now (highs .entry)) k from to (now (counts .entry)) (now (relays .entry)) ⌝ }
-    ensures { λ _. ⌜ now (scratch .exit) ≡ zeroed (now (scratch .entry)) ⌝ }
-{
-    let mut order = relay_copies(0);
-    let mut places = relay_copies(0);
-    let mut numbers = link_zeros();
-    let mut a = side_for_1000_relays();
-    let mut b = side_for_1000_relays();
-    route_in(
-        n,
-        lows,
-        highs,
-        k,
-        from,
-        to,
-        &mut order,
-        &mut places,
-        &mut numbers,
-        &mut a,
-        &mut b,
-        counts,
-        relays,
-        scratch,
-    )
-}
-
-// Route where 3 to 12 are passed.
-fn route_accepted(
-    n: u16,
-    lows: &[u16],
-    highs: &[u16],
-    k: u16,
-    from: u16,
-    to: u16,
-    counts: &mut [u16],
-    relays: &mut [u16],
-    scratch: &mut [u16],
-) -> RouteAnswer
-    requires { ⌜ Routable n (now lows) (now highs) k from to (now counts) (now relays) (now scratch) ⌝ }
-    ensures { λ r. ⌜ answered (now (counts .exit)) (now (relays .exit)) (routeOutcome r)
-        ≡ treeAnswer n (now (lows .entry)) (now (highs .entry)) k from to (now (counts .entry)) (now (relays .entry)) ⌝ }
-    ensures { λ _. ⌜ now (scratch .exit) ≡ zeroed (now (scratch .entry)) ⌝ }
-{
-    if is_small(n, lows.len()) {
-        route_small(n, lows, highs, k, from, to, counts, relays, scratch)
-    } else {
-        route_large(n, lows, highs, k, from, to, counts, relays, scratch)
+    match table_check(n, lows, highs) {
+        Check::Refused(refusal) => RouteAnswer::Refused(refusal),
+        Check::Accepted => {
+            match wish_check(
+                n,
+                k,
+                from,
+                to,
+                asked,
+                counts.len(),
+                relays.len(),
+                links.len(),
+                scratch.len(),
+            ) {
+                Check::Refused(refusal) => RouteAnswer::Refused(refusal),
+                Check::Accepted => {
+                    route_accepted(n, lows, highs, k, from, to, counts, relays, links, scratch)
+                }
+            }
+        }
     }
 }
 
@@ -249,15 +101,61 @@ pub fn route(
         ≡ scratchAfter n (now (lows .entry)) (now (highs .entry)) k from to (now (counts .entry)) (now (relays .entry))
         (now (scratch .entry)) ⌝ }
 {
-    match table_check(n, lows, highs) {
-        Check::Refused(refusal) => RouteAnswer::Refused(refusal),
-        Check::Accepted => {
-            match wish_check(n, k, from, to, counts.len(), relays.len(), scratch.len()) {
-                Check::Refused(refusal) => RouteAnswer::Refused(refusal),
-                Check::Accepted => {
-                    route_accepted(n, lows, highs, k, from, to, counts, relays, scratch)
-                }
-            }
-        }
-    }
+    let mut none = [0u16; 0];
+    route_core(
+        n,
+        lows,
+        highs,
+        k,
+        from,
+        to,
+        false,
+        counts,
+        relays,
+        &mut none,
+        scratch,
+    )
+}
+
+// The same, and the indices of the links of each route in turn, one route after another.
+pub fn route_links(
+    n: u16,
+    lows: &[u16],
+    highs: &[u16],
+    k: u16,
+    from: u16,
+    to: u16,
+    counts: &mut [u16],
+    relays: &mut [u16],
+    links: &mut [u16],
+    scratch: &mut [u16],
+) -> RouteAnswer
+    ensures answer { λ r. ⌜ routeOutcome r ≡ routeLinksAnswer n (now (lows .entry)) (now (highs .entry)) k from to (now (counts .entry))
+        (now (relays .entry)) (now (links .entry)) (now (scratch .entry)) ⌝ }
+    ensures counts { λ _. ⌜ now (counts .exit)
+        ≡ routeLinksCounts n (now (lows .entry)) (now (highs .entry)) k from to (now (counts .entry)) (now (relays .entry))
+        (now (links .entry)) (now (scratch .entry)) ⌝ }
+    ensures relays { λ _. ⌜ now (relays .exit)
+        ≡ routeLinksRelays n (now (lows .entry)) (now (highs .entry)) k from to (now (counts .entry)) (now (relays .entry))
+        (now (links .entry)) (now (scratch .entry)) ⌝ }
+    ensures links { λ _. ⌜ now (links .exit)
+        ≡ routeLinksLinks n (now (lows .entry)) (now (highs .entry)) k from to (now (counts .entry)) (now (relays .entry))
+        (now (links .entry)) (now (scratch .entry)) ⌝ }
+    ensures scratch { λ _. ⌜ now (scratch .exit)
+        ≡ routeLinksScratch n (now (lows .entry)) (now (highs .entry)) k from to (now (counts .entry)) (now (relays .entry))
+        (now (links .entry)) (now (scratch .entry)) ⌝ }
+{
+    route_core(
+        n,
+        lows,
+        highs,
+        k,
+        from,
+        to,
+        true,
+        counts,
+        relays,
+        links,
+        scratch,
+    )
 }

@@ -1,16 +1,26 @@
-// The paths of one side of the sweep in one list of places: entry i is the end of path i, entry SECONDS + i its last but
-// one, and entry PRIORS + x the place before x on its path. Look-ups out of range give 0, and stores out of range do nothing.
+// The paths of one side of the sweep in one list: entry i is the end of path i as a place, entry SECONDS + i its last but one,
+// entry LINKS + i the link between them; entry PRIORS + 2 x is the place before x on its path, and the entry behind it the link
+// from there to x. Look-ups out of range give 0, and stores out of range do nothing.
 use network::Place;
 ghost use mathlib.Core.Path.{_≡_};
 ghost use Prim.Native.Nat.{_-_, _<_, pred};
 ghost use lib.ListN.{getD, set};
-ghost use Rattle.routes.specs.Side.{tableLeft, endIn, secondIn, priorIn, setPath, setPrior, extendPath, advance, trade, tradeAt, tradeFrom};
+ghost use Rattle.routes.specs.Side.{entryOf, linkEntry, tableEntry, endIn, secondIn, linkIn, priorIn, priorLinkIn, setPath, setPrior, extendPath, advance, trade, tradeAt, tradeFrom};
 
 // Where the last but ones start, behind the ends of the indices 0 to 32.
 const SECONDS: usize = 33;
 
+// Where the links between the last but ones and the ends start.
+const LINKS: usize = 66;
+
 // Where the places before each place start.
-pub(crate) const PRIORS: usize = 66;
+pub(crate) const PRIORS: usize = 99;
+
+// What looking up left(i, v) gives: the neighbour's place, 0 for none, and the index of the link to it.
+pub(crate) struct Left {
+    pub place: Place,
+    pub link: u16,
+}
 
 pub(crate) fn get(list: &[u16], at: usize) -> u16
     ensures { λ r. ⌜ r ≡ getD (now (list .entry)) at 0 ⌝ }
@@ -34,21 +44,39 @@ pub(crate) fn one_before(v: Place) -> Place
     Place(v.0 - 1)
 }
 
-// left(i, v) of a left table of n entries for each index.
-pub(crate) fn left(table: &[u16], n: u16, i: u16, v: Place) -> Place
-    ensures { λ r. ⌜ r .0 ≡ tableLeft (now (table .entry)) n i (v .0) ⌝ }
+// What an entry of the left table stands for: 0 for no neighbour, else one more than the index of the link; `ends` has the place of
+// each link's earlier end.
+fn link_entry(ends: &[u16], code: u16) -> Left
+    ensures { λ r. ⌜ entryOf r ≡ linkEntry (now (ends .entry)) code ⌝ }
+{
+    if code == 0 {
+        return Left {
+            place: Place(0),
+            link: 0,
+        };
+    }
+    let link = code - 1;
+    Left {
+        place: Place(get(ends, link as usize)),
+        link: link,
+    }
+}
+
+// left(i, v) of a left table of n entries for each index, with its link.
+pub(crate) fn left(table: &[u16], ends: &[u16], n: u16, i: u16, v: Place) -> Left
+    ensures { λ r. ⌜ entryOf r ≡ tableEntry (now (table .entry)) (now (ends .entry)) n i (v .0) ⌝ }
 {
     if i == 0 {
-        return Place(0);
+        return link_entry(ends, 0);
     }
     if v.0 == 0 {
-        return Place(0);
+        return link_entry(ends, 0);
     }
     if n < v.0 {
-        return Place(0);
+        return link_entry(ends, 0);
     }
     let row = (i as usize - 1) * (n as usize);
-    Place(get(table, row + (v.0 as usize - 1)))
+    link_entry(ends, get(table, row + (v.0 as usize - 1)))
 }
 
 pub(crate) fn end_of(side: &[u16], i: u16) -> Place
@@ -63,38 +91,65 @@ pub(crate) fn second_of(side: &[u16], i: u16) -> Place
     Place(get(side, SECONDS + (i as usize)))
 }
 
+pub(crate) fn link_of(side: &[u16], i: u16) -> u16
+    ensures { λ r. ⌜ r ≡ linkIn (now (side .entry)) i ⌝ }
+{
+    get(side, LINKS + (i as usize))
+}
+
 pub(crate) fn prior_of(side: &[u16], x: Place) -> Place
     ensures { λ r. ⌜ r .0 ≡ priorIn (now (side .entry)) (x .0) ⌝ }
 {
-    Place(get(side, PRIORS + (x.0 as usize)))
+    Place(get(side, PRIORS + 2 * (x.0 as usize)))
 }
 
-pub(crate) fn set_path(side: &mut [u16], i: u16, end: Place, second: Place)
-    ensures { λ _. ⌜ now (side .exit) ≡ setPath (now (side .entry)) i (end .0) (second .0) ⌝ }
+pub(crate) fn prior_link_of(side: &[u16], x: Place) -> u16
+    ensures { λ r. ⌜ r ≡ priorLinkIn (now (side .entry)) (x .0) ⌝ }
 {
-    put(side, i as usize, end.0);
+    get(side, PRIORS + (2 * (x.0 as usize) + 1))
+}
+
+// A new end, with the link to it, and a new last but one for path i.
+pub(crate) fn set_path(side: &mut [u16], i: u16, end: Left, second: Place)
+    ensures { λ _. ⌜ now (side .exit) ≡ setPath (now (side .entry)) i (entryOf end) (second .0) ⌝ }
+{
+    let place = end.place;
+    put(side, i as usize, place.0);
     put(side, SECONDS + (i as usize), second.0);
+    put(side, LINKS + (i as usize), end.link);
 }
 
-fn set_prior(side: &mut [u16], x: Place, prior: Place)
-    ensures { λ _. ⌜ now (side .exit) ≡ setPrior (now (side .entry)) (x .0) (prior .0) ⌝ }
+fn set_prior(side: &mut [u16], x: Place, prior: Place, link: u16)
+    ensures { λ _. ⌜ now (side .exit) ≡ setPrior (now (side .entry)) (x .0) (prior .0) link ⌝ }
 {
-    put(side, PRIORS + (x.0 as usize), prior.0);
+    put(side, PRIORS + 2 * (x.0 as usize), prior.0);
+    put(side, PRIORS + (2 * (x.0 as usize) + 1), link);
 }
 
 // Path j goes on from its end v to left(j, v).
-fn extend(side: &mut [u16], table: &[u16], n: u16, v: Place, j: u16)
-    ensures { λ _. ⌜ now (side .exit) ≡ extendPath (tableLeft (now (table .entry)) n) (v .0) j (now (side .entry)) ⌝ }
+fn extend(side: &mut [u16], table: &[u16], ends: &[u16], n: u16, v: Place, j: u16)
+    ensures { λ _. ⌜ now (side .exit)
+        ≡ extendPath (tableEntry (now (table .entry)) (now (ends .entry)) n) (v .0) j (now (side .entry)) ⌝ }
 {
     let second = second_of(side, j);
-    set_prior(side, v, second);
-    let next = left(table, n, j, v);
+    let link = link_of(side, j);
+    set_prior(side, v, second, link);
+    let next = left(table, ends, n, j, v);
     set_path(side, j, next, v);
 }
 
 // The same where path j ends at v and the other side's path j, which ends at `other`, does not.
-pub(crate) fn go_on(side: &mut [u16], table: &[u16], n: u16, v: Place, j: u16, other: Place)
-    ensures { λ _. ⌜ now (side .exit) ≡ advance (tableLeft (now (table .entry)) n) (v .0) j (other .0) (now (side .entry)) ⌝ }
+pub(crate) fn go_on(
+    side: &mut [u16],
+    table: &[u16],
+    ends: &[u16],
+    n: u16,
+    v: Place,
+    j: u16,
+    other: Place,
+)
+    ensures { λ _. ⌜ now (side .exit)
+        ≡ advance (tableEntry (now (table .entry)) (now (ends .entry)) n) (v .0) j (other .0) (now (side .entry)) ⌝ }
 {
     let end = end_of(side, j);
     if end.0 != v.0 {
@@ -103,38 +158,50 @@ pub(crate) fn go_on(side: &mut [u16], table: &[u16], n: u16, v: Place, j: u16, o
     if other.0 == v.0 {
         return;
     }
-    extend(side, table, n, v, j);
+    extend(side, table, ends, n, v, j);
 }
 
 // Index i, whose path ends at v, gets the path of index j with left(i, its last but one) as its end, and j gets the path of i.
-fn trade(side: &mut [u16], table: &[u16], n: u16, v: Place, j: u16, i: u16)
+fn trade(side: &mut [u16], table: &[u16], ends: &[u16], n: u16, v: Place, j: u16, i: u16)
     requires { ⌜ endIn (now side) i ≡ v .0 ⌝ }
-    ensures { λ _. ⌜ now (side .exit) ≡ trade (tableLeft (now (table .entry)) n) j i (now (side .entry)) ⌝ }
+    ensures { λ _. ⌜ now (side .exit)
+        ≡ trade (tableEntry (now (table .entry)) (now (ends .entry)) n) j i (now (side .entry)) ⌝ }
 {
     let second = second_of(side, i);
+    let link = link_of(side, i);
     let moved = second_of(side, j);
-    let next = left(table, n, i, moved);
-    set_path(side, j, v, second);
+    let next = left(table, ends, n, i, moved);
+    set_path(
+        side,
+        j,
+        Left {
+            place: v,
+            link: link,
+        },
+        second,
+    );
     set_path(side, i, next, moved);
 }
 
-fn trade_at(side: &mut [u16], table: &[u16], n: u16, v: Place, j: u16, i: u16)
-    ensures { λ _. ⌜ now (side .exit) ≡ tradeAt (tableLeft (now (table .entry)) n) (v .0) j i (now (side .entry)) ⌝ }
+fn trade_at(side: &mut [u16], table: &[u16], ends: &[u16], n: u16, v: Place, j: u16, i: u16)
+    ensures { λ _. ⌜ now (side .exit)
+        ≡ tradeAt (tableEntry (now (table .entry)) (now (ends .entry)) n) (v .0) j i (now (side .entry)) ⌝ }
 {
     let end = end_of(side, i);
     if end.0 == v.0 {
-        trade(side, table, n, v, j, i);
+        trade(side, table, ends, n, v, j, i);
     }
 }
 
 // Going down through the indices below j, each whose path ends at v trades with j.
-pub(crate) fn trade_below(side: &mut [u16], table: &[u16], n: u16, v: Place, j: u16)
+pub(crate) fn trade_below(side: &mut [u16], table: &[u16], ends: &[u16], n: u16, v: Place, j: u16)
     requires { ⌜ 0 < j ⌝ }
-    ensures { λ _. ⌜ now (side .exit) ≡ tradeFrom (tableLeft (now (table .entry)) n) (v .0) j (pred j) (now (side .entry)) ⌝ }
+    ensures { λ _. ⌜ now (side .exit)
+        ≡ tradeFrom (tableEntry (now (table .entry)) (now (ends .entry)) n) (v .0) j (pred j) (now (side .entry)) ⌝ }
 {
     let mut i = j - 1;
     while 0 < i {
-        trade_at(side, table, n, v, j, i);
+        trade_at(side, table, ends, n, v, j, i);
         i -= 1;
     }
 }

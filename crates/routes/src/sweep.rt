@@ -1,8 +1,9 @@
 // The sweep over a left table, on the lists of the two sides (`side`): A starts at s, the later place, B at t.
 ghost use mathlib.Core.Path.{_≡_};
 ghost use Prim.Native.Nat.{_<_};
-ghost use Rattle.routes.specs.Side.{tableLeft};
+ghost use Rattle.routes.specs.Side.{tableEntry};
 ghost use Rattle.routes.specs.Sides.{sides, highestIn, startA, startB, leaveAt, leaveFrom, passAt, stepIn, sweepIn, sweptIn};
+use crate::side::Left;
 use crate::side::end_of;
 use crate::side::go_on;
 use crate::side::left;
@@ -29,12 +30,12 @@ fn highest(a: &[u16], b: &[u16], k: u16, v: Place) -> u16
 }
 
 // Path i of side A starts as s, left(i, s).
-fn start_a(a: &mut [u16], table: &[u16], n: u16, k: u16, s: Place)
-    ensures { λ _. ⌜ now (a .exit) ≡ startA (tableLeft (now (table .entry)) n) (s .0) k (now (a .entry)) ⌝ }
+fn start_a(a: &mut [u16], table: &[u16], ends: &[u16], n: u16, k: u16, s: Place)
+    ensures { λ _. ⌜ now (a .exit) ≡ startA (tableEntry (now (table .entry)) (now (ends .entry)) n) (s .0) k (now (a .entry)) ⌝ }
 {
     let mut i = k;
     while 0 < i {
-        let next = left(table, n, i, s);
+        let next = left(table, ends, n, i, s);
         set_path(a, i, next, s);
         i -= 1;
     }
@@ -46,81 +47,108 @@ fn start_b(b: &mut [u16], k: u16, t: Place)
 {
     let mut i = k;
     while 0 < i {
-        set_path(b, i, t, Place(0));
+        set_path(b, i, Left { place: t, link: 0 }, Place(0));
         i -= 1;
     }
 }
 
 // At t: B-path i goes on to left(i, t), unless A-path i ends there.
-fn leave_at(b: &mut [u16], a: &[u16], table: &[u16], n: u16, t: Place, i: u16)
-    ensures { λ _. ⌜ now (b .exit) ≡ leaveAt (tableLeft (now (table .entry)) n) (t .0) (now (a .entry)) i (now (b .entry)) ⌝ }
+fn leave_at(b: &mut [u16], a: &[u16], table: &[u16], ends: &[u16], n: u16, t: Place, i: u16)
+    ensures { λ _. ⌜ now (b .exit) ≡ leaveAt (tableEntry (now (table .entry)) (now (ends .entry)) n) (t .0) (now (a .entry)) i (now (b .entry)) ⌝ }
 {
     let end = end_of(a, i);
     if end.0 != t.0 {
-        let next = left(table, n, i, t);
+        let next = left(table, ends, n, i, t);
         set_path(b, i, next, t);
     }
 }
 
-fn leave(b: &mut [u16], a: &[u16], table: &[u16], n: u16, k: u16, t: Place)
-    ensures { λ _. ⌜ now (b .exit) ≡ leaveFrom (tableLeft (now (table .entry)) n) (t .0) (now (a .entry)) k (now (b .entry)) ⌝ }
+fn leave(b: &mut [u16], a: &[u16], table: &[u16], ends: &[u16], n: u16, k: u16, t: Place)
+    ensures { λ _. ⌜ now (b .exit) ≡ leaveFrom (tableEntry (now (table .entry)) (now (ends .entry)) n) (t .0) (now (a .entry)) k (now (b .entry)) ⌝ }
 {
     let mut i = k;
     while 0 < i {
-        leave_at(b, a, table, n, t, i);
+        leave_at(b, a, table, ends, n, t, i);
         i -= 1;
     }
 }
 
 // At another place v, where j is the highest index that ends there: both sides trade for j, and its paths meet or one of
 // them goes on.
-fn pass(a: &mut [u16], b: &mut [u16], table: &[u16], n: u16, v: Place, j: u16)
+fn pass(a: &mut [u16], b: &mut [u16], table: &[u16], ends: &[u16], n: u16, v: Place, j: u16)
     requires { ⌜ 0 < j ⌝ }
     ensures { λ _. ⌜ sides (now (a .exit)) (now (b .exit))
-        ≡ passAt (tableLeft (now (table .entry)) n) (v .0) j (now (a .entry)) (now (b .entry)) ⌝ }
+        ≡ passAt (tableEntry (now (table .entry)) (now (ends .entry)) n) (v .0) j (now (a .entry)) (now (b .entry)) ⌝ }
 {
-    trade_below(a, table, n, v, j);
-    trade_below(b, table, n, v, j);
+    trade_below(a, table, ends, n, v, j);
+    trade_below(b, table, ends, n, v, j);
     let end_a = end_of(a, j);
     let end_b = end_of(b, j);
-    go_on(a, table, n, v, j, end_b);
-    go_on(b, table, n, v, j, end_a);
+    go_on(a, table, ends, n, v, j, end_b);
+    go_on(b, table, ends, n, v, j, end_a);
 }
 
-fn step(a: &mut [u16], b: &mut [u16], table: &[u16], n: u16, k: u16, t: Place, v: Place)
+fn step(
+    a: &mut [u16],
+    b: &mut [u16],
+    table: &[u16],
+    ends: &[u16],
+    n: u16,
+    k: u16,
+    t: Place,
+    v: Place,
+)
     ensures { λ _. ⌜ sides (now (a .exit)) (now (b .exit))
-        ≡ stepIn (tableLeft (now (table .entry)) n) k (t .0) (v .0) (now (a .entry)) (now (b .entry)) ⌝ }
+        ≡ stepIn (tableEntry (now (table .entry)) (now (ends .entry)) n) k (t .0) (v .0) (now (a .entry)) (now (b .entry)) ⌝ }
 {
     if v.0 == t.0 {
-        leave(b, a, table, n, k, t);
+        leave(b, a, table, ends, n, k, t);
         return;
     }
     let j = highest(a, b, k, v);
     if j == 0 {
         return;
     }
-    pass(a, b, table, n, v, j);
+    pass(a, b, table, ends, n, v, j);
 }
 
 // The steps at v, ..., 1, where v is `from`.
-fn steps(a: &mut [u16], b: &mut [u16], table: &[u16], n: u16, k: u16, t: Place, from: Place)
+fn steps(
+    a: &mut [u16],
+    b: &mut [u16],
+    table: &[u16],
+    ends: &[u16],
+    n: u16,
+    k: u16,
+    t: Place,
+    from: Place,
+)
     ensures { λ _. ⌜ sides (now (a .exit)) (now (b .exit))
-        ≡ sweepIn (tableLeft (now (table .entry)) n) k (t .0) (from .0) (now (a .entry)) (now (b .entry)) ⌝ }
+        ≡ sweepIn (tableEntry (now (table .entry)) (now (ends .entry)) n) k (t .0) (from .0) (now (a .entry)) (now (b .entry)) ⌝ }
 {
     let mut v = from;
     while 0 < v.0 {
-        step(a, b, table, n, k, t, v);
+        step(a, b, table, ends, n, k, t, v);
         v = one_before(v);
     }
 }
 
 // The whole sweep: from the start through the steps at s - 1, ..., 1.
-pub(crate) fn sweep(a: &mut [u16], b: &mut [u16], table: &[u16], n: u16, k: u16, s: Place, t: Place)
+pub(crate) fn sweep(
+    a: &mut [u16],
+    b: &mut [u16],
+    table: &[u16],
+    ends: &[u16],
+    n: u16,
+    k: u16,
+    s: Place,
+    t: Place,
+)
     requires { ⌜ 0 < s .0 ⌝ }
     ensures { λ _. ⌜ sides (now (a .exit)) (now (b .exit))
-        ≡ sweptIn (tableLeft (now (table .entry)) n) k (s .0) (t .0) (now (a .entry)) (now (b .entry)) ⌝ }
+        ≡ sweptIn (tableEntry (now (table .entry)) (now (ends .entry)) n) k (s .0) (t .0) (now (a .entry)) (now (b .entry)) ⌝ }
 {
-    start_a(a, table, n, k, s);
+    start_a(a, table, ends, n, k, s);
     start_b(b, k, t);
-    steps(a, b, table, n, k, t, one_before(s));
+    steps(a, b, table, ends, n, k, t, one_before(s));
 }

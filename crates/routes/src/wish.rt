@@ -6,18 +6,20 @@ ghost use Prim.Native.Nat.{_≤_};
 ghost use Rattle.network.specs.Answers.{checkOutcome};
 ghost use Rattle.routes.specs.Answers.{wishCheck};
 
-// What is wrong with the wish or the room for it, 9 to 12.
+// What is wrong with the wish or the room for it, 9 to 12; `asked` says whether a list of links is asked for.
 pub(crate) fn wish_check(
     n: u16,
     k: u16,
     from: u16,
     to: u16,
+    asked: bool,
     counts_length: usize,
     relays_length: usize,
+    links_length: usize,
     scratch_length: usize,
 ) -> Check
     requires { ⌜ n ≤ 1000 ⌝ }
-    ensures { λ r. ⌜ checkOutcome r ≡ wishCheck n k from to «counts_length» «relays_length» «scratch_length» ⌝ }
+    ensures { λ r. ⌜ checkOutcome r ≡ wishCheck n k from to asked «counts_length» «relays_length» «links_length» «scratch_length» ⌝ }
 {
     if k < 1 {
         return Check::Refused(Refusal::RouteCount);
@@ -44,6 +46,11 @@ pub(crate) fn wish_check(
     }
     if scratch_length < routes * size {
         return Check::Refused(Refusal::Room);
+    }
+    if asked {
+        if links_length < size - 2 + routes {
+            return Check::Refused(Refusal::Room);
+        }
     }
     Check::Accepted
 }

@@ -25,7 +25,7 @@ fn relay_at(order: &[u16], p: Place) -> Relay
 }
 
 // How many relays path i has before its end, 1,000 at most.
-fn count(side: &[u16], i: u16) -> usize
+pub(crate) fn count(side: &[u16], i: u16) -> usize
     ensures { λ r. ⌜ r ≡ countIn (now (side .entry)) i ⌝ }
 {
     let mut x = second_of(side, i);

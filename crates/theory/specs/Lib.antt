@@ -9,6 +9,7 @@ pub mod Places
 pub mod Left
 pub mod Links
 pub mod ForestNumbers
+pub mod LeftEntries
 pub mod Arranged
 pub mod ForestBound
 pub mod ForestDepth

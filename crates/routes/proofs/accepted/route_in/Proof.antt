@@ -4,8 +4,8 @@ use Rattle.routes.specs.Answers.{routeOutcome, answered}
 use mathlib.Core.Path.{_∙_}
 use native.Mathlib.Omega.{arith}
 use borrow.Author.Needs.{needs}
-use Rattle.routes.proofs.route_in.Statement.{statement}
-use Rattle.routes.proofs.route_in.Tie as tie
+use Rattle.routes.proofs.accepted.route_in.Statement.{statement}
+use Rattle.routes.proofs.accepted.route_in.Tie as tie
 
 mul-entries : tie.Need-mul-entries
 mul-entries c = search needs

@@ -2,8 +2,8 @@
 use native.Mathlib.Omega.{arith}
 use Rattle.routes.proofs.Answers.Inner.{table-asks}
 use borrow.Author.Needs.{needs}
-use Rattle.routes.proofs.prepare.Statement.{statement}
-use Rattle.routes.proofs.prepare.Tie as tie
+use Rattle.routes.proofs.accepted.prepare.Statement.{statement}
+use Rattle.routes.proofs.accepted.prepare.Tie as tie
 
 scan-requires : tie.Need-scan-requires
 scan-requires c κs = search needs

@@ -5,8 +5,8 @@ use Prim.Native.Nat.{_+_}
 use Rattle.theory.specs.Accepted.{accepted}
 use Rattle.routes.specs.Side.{priorStart}
 use borrow.Author.Needs.{needs}
-use Rattle.routes.proofs.route_large.Statement.{statement}
-use Rattle.routes.proofs.route_large.Tie as tie
+use Rattle.routes.proofs.accepted.route_large.Statement.{statement}
+use Rattle.routes.proofs.accepted.route_large.Tie as tie
 
 relay-copies-requires : tie.Need-relay-copies-requires
 relay-copies-requires c κs = search needs

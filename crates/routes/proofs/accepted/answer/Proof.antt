@@ -2,8 +2,8 @@
 use Rattle.routes.proofs.Answers.Inner.{answer-some, answer-none}
 use Rattle.routes.specs.Side.{tableLeft}
 use borrow.Author.Needs.{needs}
-use Rattle.routes.proofs.answer.Statement.{statement}
-use Rattle.routes.proofs.answer.Tie as tie
+use Rattle.routes.proofs.accepted.answer.Statement.{statement}
+use Rattle.routes.proofs.accepted.answer.Tie as tie
 
 one-tree-requires : tie.Need-one-tree-requires
 one-tree-requires c κs = search needs

@@ -1,8 +1,8 @@
 -- Route in small or in large arrays. Assumes nothing.
 use borrow.Author.Needs.{needs}
 use Rattle.forests.proofs.SizeLaws.{small-sizes}
-use Rattle.routes.proofs.route_accepted.Statement.{statement}
-use Rattle.routes.proofs.route_accepted.Tie as tie
+use Rattle.routes.proofs.accepted.route_accepted.Statement.{statement}
+use Rattle.routes.proofs.accepted.route_accepted.Tie as tie
 
 is-small-requires : tie.Need-is-small-requires
 is-small-requires c κs = search needs

@@ -4,8 +4,8 @@ use Prim.Native.Nat.{_+_}
 use Rattle.routes.specs.Side.{priorStart}
 use Rattle.routes.proofs.Answers.Inner.{route-arrays}
 use borrow.Author.Needs.{needs}
-use Rattle.routes.proofs.route_small.Statement.{statement}
-use Rattle.routes.proofs.route_small.Tie as tie
+use Rattle.routes.proofs.accepted.route_small.Statement.{statement}
+use Rattle.routes.proofs.accepted.route_small.Tie as tie
 
 few-relay-copies-requires : tie.Need-few-relay-copies-requires
 few-relay-copies-requires c κs = search needs

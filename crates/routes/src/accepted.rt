@@ -1,0 +1,246 @@
+// Route where 3 to 12 are passed, in small arrays or in large ones.
+use crate::RouteAnswer;
+use crate::between::between;
+use crate::between::one_tree;
+use crate::sides::side_for_128_relays;
+use crate::sides::side_for_1000_relays;
+use forests::arrays::few_link_zeros;
+use forests::arrays::few_relay_copies;
+use forests::arrays::link_zeros;
+use forests::arrays::relay_copies;
+use forests::clear::clear;
+use forests::left::left_table;
+use forests::scan::is_small;
+use forests::scan::place_of;
+use forests::scan::scan;
+use network::Place;
+use network::Refusal;
+use network::Relay;
+ghost use mathlib.Core.Path.{_≡_};
+ghost use Prim.Native.Nat.{ℕ, _*_, _≤_, _<_};
+ghost use lib.ListN.{length, getD};
+ghost use Rattle.definitions.specs.Lists.{zeroed};
+ghost use Rattle.forests.specs.Scan.{Scannable};
+ghost use Rattle.routes.specs.Side.{tableEntry};
+ghost use Rattle.routes.specs.Answers.{routeOutcome, answered, answerIn, treeAnswer, Routable, RouteArrays, Prepared};
+
+// The order, the places and the left table of an accepted table; `numbers` has the earlier end of each link afterwards, as a place.
+fn prepare(
+    n: u16,
+    lows: &[u16],
+    highs: &[u16],
+    k: u16,
+    order: &mut [u16],
+    places: &mut [u16],
+    numbers: &mut [u16],
+    table: &mut [u16],
+)
+    requires { ⌜ Scannable n (now lows) (now highs) (now order) (now places) (now numbers) ⌝ }
+    requires { ⌜ (k * n ≤ length (now table)) × ((j : ℕ) → j < k * n → getD (now table) j 0 ≡ 0) ⌝ }
+    ensures { λ _. ⌜ Prepared n k (now (lows .entry)) (now (highs .entry)) (now (order .entry)) (now (order .exit))
+        (now (places .entry)) (now (places .exit)) (now (numbers .exit)) (now (table .entry)) (now (table .exit)) ⌝ }
+{
+    scan(n, lows, highs, order, places, numbers);
+    left_table(table, n, k, lows, highs, places, numbers);
+}
+
+// The routes from p to q, or 13.
+fn answer(
+    a: &mut [u16],
+    b: &mut [u16],
+    table: &[u16],
+    ends: &[u16],
+    n: u16,
+    k: u16,
+    p: Place,
+    q: Place,
+    order: &[u16],
+    counts: &mut [u16],
+    relays: &mut [u16],
+    links: &mut [u16],
+) -> RouteAnswer
+    requires { ⌜ (0 < p .0) × (0 < q .0) × (k ≤ 32) ⌝ }
+    ensures { λ r. ⌜ answered (now (counts .exit)) (now (relays .exit)) (now (links .exit)) (routeOutcome r)
+        ≡ answerIn (now (a .entry)) (now (b .entry)) (tableEntry (now (table .entry)) (now (ends .entry)) n) k (p .0) (q .0)
+        (now (order .entry)) (now (counts .entry)) (now (relays .entry)) (now (links .entry)) ⌝ }
+{
+    if one_tree(table, ends, n, k, p, q) {
+        return RouteAnswer::Written(between(
+            a,
+            b,
+            table,
+            ends,
+            n,
+            k,
+            p,
+            q,
+            order,
+            counts,
+            relays,
+            links,
+        ));
+    }
+    RouteAnswer::Refused(Refusal::NotOneTree)
+}
+
+// Route where 3 to 12 are passed, in arrays that are lent to it.
+fn route_in(
+    n: u16,
+    lows: &[u16],
+    highs: &[u16],
+    k: u16,
+    from: u16,
+    to: u16,
+    order: &mut [u16],
+    places: &mut [u16],
+    numbers: &mut [u16],
+    a: &mut [u16],
+    b: &mut [u16],
+    counts: &mut [u16],
+    relays: &mut [u16],
+    links: &mut [u16],
+    scratch: &mut [u16],
+) -> RouteAnswer
+    requires { ⌜ Routable n (now lows) (now highs) k from to (now counts) (now relays) (now scratch)
+        × RouteArrays n (now lows) (now order) (now places) (now numbers) (now a) (now b) ⌝ }
+    ensures { λ r. ⌜ answered (now (counts .exit)) (now (relays .exit)) (now (links .exit)) (routeOutcome r)
+        ≡ treeAnswer n (now (lows .entry)) (now (highs .entry)) k from to (now (counts .entry)) (now (relays .entry))
+        (now (links .entry)) ⌝ }
+    ensures { λ _. ⌜ now (scratch .exit) ≡ zeroed (now (scratch .entry)) ⌝ }
+{
+    let entries = k as usize * n as usize;
+    clear(scratch, entries);
+    prepare(n, lows, highs, k, order, places, numbers, scratch);
+    let p = place_of(places, Relay(from));
+    let q = place_of(places, Relay(to));
+    let result = answer(
+        a,
+        b,
+        scratch,
+        numbers,
+        n,
+        k,
+        p,
+        q,
+        order,
+        counts,
+        relays,
+        links,
+    );
+    let whole = scratch.len();
+    clear(scratch, whole);
+    result
+}
+
+// Route in small arrays.
+fn route_small(
+    n: u16,
+    lows: &[u16],
+    highs: &[u16],
+    k: u16,
+    from: u16,
+    to: u16,
+    counts: &mut [u16],
+    relays: &mut [u16],
+    links: &mut [u16],
+    scratch: &mut [u16],
+) -> RouteAnswer
+    requires { ⌜ Routable n (now lows) (now highs) k from to (now counts) (now relays) (now scratch)
+        × (n ≤ 128) × (length (now lows) ≤ 384) ⌝ }
+    ensures { λ r. ⌜ answered (now (counts .exit)) (now (relays .exit)) (now (links .exit)) (routeOutcome r)
+        ≡ treeAnswer n (now (lows .entry)) (now (highs .entry)) k from to (now (counts .entry)) (now (relays .entry))
+        (now (links .entry)) ⌝ }
+    ensures { λ _. ⌜ now (scratch .exit) ≡ zeroed (now (scratch .entry)) ⌝ }
+{
+    let mut order = few_relay_copies(0);
+    let mut places = few_relay_copies(0);
+    let mut numbers = few_link_zeros();
+    let mut a = side_for_128_relays();
+    let mut b = side_for_128_relays();
+    route_in(
+        n,
+        lows,
+        highs,
+        k,
+        from,
+        to,
+        &mut order,
+        &mut places,
+        &mut numbers,
+        &mut a,
+        &mut b,
+        counts,
+        relays,
+        links,
+        scratch,
+    )
+}
+
+// Route in large arrays.
+fn route_large(
+    n: u16,
+    lows: &[u16],
+    highs: &[u16],
+    k: u16,
+    from: u16,
+    to: u16,
+    counts: &mut [u16],
+    relays: &mut [u16],
+    links: &mut [u16],
+    scratch: &mut [u16],
+) -> RouteAnswer
+    requires { ⌜ Routable n (now lows) (now highs) k from to (now counts) (now relays) (now scratch) ⌝ }
+    ensures { λ r. ⌜ answered (now (counts .exit)) (now (relays .exit)) (now (links .exit)) (routeOutcome r)
+        ≡ treeAnswer n (now (lows .entry)) (now (highs .entry)) k from to (now (counts .entry)) (now (relays .entry))
+        (now (links .entry)) ⌝ }
+    ensures { λ _. ⌜ now (scratch .exit) ≡ zeroed (now (scratch .entry)) ⌝ }
+{
+    let mut order = relay_copies(0);
+    let mut places = relay_copies(0);
+    let mut numbers = link_zeros();
+    let mut a = side_for_1000_relays();
+    let mut b = side_for_1000_relays();
+    route_in(
+        n,
+        lows,
+        highs,
+        k,
+        from,
+        to,
+        &mut order,
+        &mut places,
+        &mut numbers,
+        &mut a,
+        &mut b,
+        counts,
+        relays,
+        links,
+        scratch,
+    )
+}
+
+// Route where 3 to 12 are passed.
+pub(crate) fn route_accepted(
+    n: u16,
+    lows: &[u16],
+    highs: &[u16],
+    k: u16,
+    from: u16,
+    to: u16,
+    counts: &mut [u16],
+    relays: &mut [u16],
+    links: &mut [u16],
+    scratch: &mut [u16],
+) -> RouteAnswer
+    requires { ⌜ Routable n (now lows) (now highs) k from to (now counts) (now relays) (now scratch) ⌝ }
+    ensures { λ r. ⌜ answered (now (counts .exit)) (now (relays .exit)) (now (links .exit)) (routeOutcome r)
+        ≡ treeAnswer n (now (lows .entry)) (now (highs .entry)) k from to (now (counts .entry)) (now (relays .entry))
+        (now (links .entry)) ⌝ }
+    ensures { λ _. ⌜ now (scratch .exit) ≡ zeroed (now (scratch .entry)) ⌝ }
+{
+    if is_small(n, lows.len()) {
+        route_small(n, lows, highs, k, from, to, counts, relays, links, scratch)
+    } else {
+        route_large(n, lows, highs, k, from, to, counts, relays, links, scratch)
+    }
+}
