@@ -264,6 +264,6 @@ module _ {n k : ℕ} {lows highs places forests table : List ℕ} (can : LeftInp
           omega (arith, code-none (entryOf n lows highs i v) place)
       entry i v a b c d (yes p) (no q) =
           let l = entryOf n lows highs i v .link in
-          let w = entry-link n lows highs i v (omega arith) in
+          let w = entry-link n lows highs (can .accepted) i v (omega arith) in
           let full = at .full l (w .within) (w .within) (omega (arith, w .forest)) in
           absurd (omega (arith, ap₂ (λ f x. getD table′ (leftIndex n f x) 0) (w .forest) (w .later), full))

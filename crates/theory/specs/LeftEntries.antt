@@ -98,6 +98,11 @@ pub entry-place : (n : ℕ) (lows highs : List ℕ) (f v : ℕ) → entryOf n lo
 unfolding entryOf leftOf
 entry-place n lows highs f v = entry-left (orderOf n lows highs) lows highs f v
 
+pub entry-link : (n : ℕ) (lows highs : List ℕ) → Accepted n lows highs → (f v : ℕ) → 0 < leftOf n lows highs f v
+    → EntryLink (orderOf n lows highs) lows highs f v (entryOf n lows highs f v .link)
+unfolding entryOf leftOf
+entry-link n lows highs ok = entry-link-in (orderOf n lows highs) lows highs (base-arranged n lows highs ok)
+
 pub entry-own : (n : ℕ) (lows highs : List ℕ) → Accepted n lows highs → (l : ℕ) → l < length lows
     → entryOf n lows highs (forestIn (orderOf n lows highs) lows highs l) (laterPlace (orderOf n lows highs) lows highs l) .link ≡ l
 unfolding entryOf
