@@ -31,3 +31,4 @@ pub mod Concat
 pub mod Stores
 pub mod Grids
 pub mod Mapped
+pub mod Steps
