@@ -9,10 +9,10 @@ use lib.ListN.{length, getD, set}
 use Rattle.definitions.specs.Outcome.{pick}
 use Rattle.definitions.specs.Forests.{Entry}
 use Rattle.forests.specs.Left.{leftIndex}
-use Rattle.routes.specs.declared.side.Left.{Left}
+use Rattle.routes.specs.declared.side.Neighbour.{Neighbour}
 
 -- What the look-up gives, as the definitions have it.
-abbrev pub entryOf : Left → Entry
+abbrev pub entryOf : Neighbour → Entry
 entryOf found = record { place = found .place .0; link = found .link }
 
 -- No neighbour.

@@ -17,7 +17,7 @@ const LINKS: usize = 66;
 pub(crate) const PRIORS: usize = 99;
 
 // What looking up left(i, v) gives: the neighbour's place, 0 for none, and the index of the link to it.
-pub(crate) struct Left {
+pub(crate) struct Neighbour {
     pub place: Place,
     pub link: u16,
 }
@@ -46,24 +46,24 @@ pub(crate) fn one_before(v: Place) -> Place
 
 // What an entry of the left table stands for: 0 for no neighbour, else one more than the index of the link; `ends` has the place of
 // each link's earlier end.
-fn link_entry(ends: &[u16], code: u16) -> Left
+fn link_entry(ends: &[u16], code: u16) -> Neighbour
     ensures { λ r. ⌜ entryOf r ≡ linkEntry (now (ends .entry)) code ⌝ }
 {
     if code == 0 {
-        return Left {
+        return Neighbour {
             place: Place(0),
             link: 0,
         };
     }
     let link = code - 1;
-    Left {
+    Neighbour {
         place: Place(get(ends, link as usize)),
         link: link,
     }
 }
 
 // left(i, v) of a left table of n entries for each index, with its link.
-pub(crate) fn left(table: &[u16], ends: &[u16], n: u16, i: u16, v: Place) -> Left
+pub(crate) fn left(table: &[u16], ends: &[u16], n: u16, i: u16, v: Place) -> Neighbour
     ensures { λ r. ⌜ entryOf r ≡ tableEntry (now (table .entry)) (now (ends .entry)) n i (v .0) ⌝ }
 {
     if i == 0 {
@@ -110,7 +110,7 @@ pub(crate) fn prior_link_of(side: &[u16], x: Place) -> u16
 }
 
 // A new end, with the link to it, and a new last but one for path i.
-pub(crate) fn set_path(side: &mut [u16], i: u16, end: Left, second: Place)
+pub(crate) fn set_path(side: &mut [u16], i: u16, end: Neighbour, second: Place)
     ensures { λ _. ⌜ now (side .exit) ≡ setPath (now (side .entry)) i (entryOf end) (second .0) ⌝ }
 {
     let place = end.place;
@@ -174,7 +174,7 @@ fn trade(side: &mut [u16], table: &[u16], ends: &[u16], n: u16, v: Place, j: u16
     set_path(
         side,
         j,
-        Left {
+        Neighbour {
             place: v,
             link: link,
         },

@@ -3,7 +3,7 @@ ghost use mathlib.Core.Path.{_≡_};
 ghost use Prim.Native.Nat.{_<_};
 ghost use Rattle.routes.specs.Side.{tableEntry};
 ghost use Rattle.routes.specs.Sides.{sides, highestIn, startA, startB, leaveAt, leaveFrom, passAt, stepIn, sweepIn, sweptIn};
-use crate::side::Left;
+use crate::side::Neighbour;
 use crate::side::end_of;
 use crate::side::go_on;
 use crate::side::left;
@@ -47,7 +47,7 @@ fn start_b(b: &mut [u16], k: u16, t: Place)
 {
     let mut i = k;
     while 0 < i {
-        set_path(b, i, Left { place: t, link: 0 }, Place(0));
+        set_path(b, i, Neighbour { place: t, link: 0 }, Place(0));
         i -= 1;
     }
 }

@@ -6,45 +6,46 @@ use mathlib.Core.List.{List}
 use mathlib.Core.Path.{_≡_, sym, _∙_, ap}
 use native.Mathlib.Omega.{arith}
 use borrow.Author.Tests.{eq-eqb, ne-eqb, lt-ltb, le-ltb}
+use Rattle.definitions.specs.Forests.{Entry}
 use Rattle.routes.specs.Sides.{Sides, sides, sweptIn}
 use Rattle.routes.specs.Writing.{written, writeFrom}
 use Rattle.routes.specs.Between.{aliveIn, betweenIn}
 
-alive-at : (left : ℕ → ℕ → ℕ) (k t v gap : ℕ) → t + suc gap ≡ v → (left k v ≡ 0 → ⊥) → aliveIn left k t (suc gap) ≡ aliveIn left k t gap
+alive-at : (look : ℕ → ℕ → Entry) (k t v gap : ℕ) → t + suc gap ≡ v → (look k v .place ≡ 0 → ⊥) → aliveIn look k t (suc gap) ≡ aliveIn look k t gap
 unfolding aliveIn
-alive-at left k t v gap e some = rw (e, ne-eqb (left k v) 0 some)
+alive-at look k t v gap e some = rw (e, ne-eqb (look k v .place) 0 some)
 
-dead-at : (left : ℕ → ℕ → ℕ) (k t v gap : ℕ) → t + suc gap ≡ v → left k v ≡ 0 → aliveIn left k t (suc gap) ≡ false
+dead-at : (look : ℕ → ℕ → Entry) (k t v gap : ℕ) → t + suc gap ≡ v → look k v .place ≡ 0 → aliveIn look k t (suc gap) ≡ false
 unfolding aliveIn
-dead-at left k t v gap e none = rw (e, eq-eqb (left k v) 0 none)
+dead-at look k t v gap e none = rw (e, eq-eqb (look k v .place) 0 none)
 
-pub alive-turn : (left : ℕ → ℕ → ℕ) (k t v entry : ℕ) → t < v → entry ≡ left k v → (entry ≡ 0 → ⊥)
-    → aliveIn left k t (v - t) ≡ aliveIn left k t (v - 1 - t)
-alive-turn left k t v entry less e some =
+pub alive-turn : (look : ℕ → ℕ → Entry) (k t v entry : ℕ) → t < v → entry ≡ look k v .place → (entry ≡ 0 → ⊥)
+    → aliveIn look k t (v - t) ≡ aliveIn look k t (v - 1 - t)
+alive-turn look k t v entry less e some =
     let gap : v - t ≡ suc (v - 1 - t) = omega arith in
-    ap (aliveIn left k t) gap ∙ alive-at left k t v (v - 1 - t) (omega arith) (λ z. some (e ∙ z))
+    ap (aliveIn look k t) gap ∙ alive-at look k t v (v - 1 - t) (omega arith) (λ z. some (e ∙ z))
 
-pub alive-stop : (left : ℕ → ℕ → ℕ) (k t v entry : ℕ) → t < v → entry ≡ left k v → entry ≡ 0 → aliveIn left k t (v - t) ≡ false
-alive-stop left k t v entry less e none =
+pub alive-stop : (look : ℕ → ℕ → Entry) (k t v entry : ℕ) → t < v → entry ≡ look k v .place → entry ≡ 0 → aliveIn look k t (v - t) ≡ false
+alive-stop look k t v entry less e none =
     let gap : v - t ≡ suc (v - 1 - t) = omega arith in
-    ap (aliveIn left k t) gap ∙ dead-at left k t v (v - 1 - t) (omega arith) (sym e ∙ none)
+    ap (aliveIn look k t) gap ∙ dead-at look k t v (v - 1 - t) (omega arith) (sym e ∙ none)
 
-pub alive-end : (left : ℕ → ℕ → ℕ) (k t v : ℕ) → v ≤ t → aliveIn left k t (v - t) ≡ true
+pub alive-end : (look : ℕ → ℕ → Entry) (k t v : ℕ) → v ≤ t → aliveIn look k t (v - t) ≡ true
 unfolding aliveIn
-alive-end left k t v le = let none : v - t ≡ 0 = omega arith in rw none
+alive-end look k t v le = let none : v - t ≡ 0 = omega arith in rw none
 
 -- The routes between two places where the first is the later, and where it is the earlier.
-module _ (left : ℕ → ℕ → ℕ) (k p q : ℕ) (order counts relays counts′ relays′ a b a₁ b₁ : List ℕ) (upto : ℕ) where
-  pub between-falls : q < p → sides a₁ b₁ ≡ sweptIn left k p q a b
+module _ (look : ℕ → ℕ → Entry) (k p q : ℕ) (order counts relays counts′ relays′ a b a₁ b₁ : List ℕ) (upto : ℕ) where
+  pub between-falls : q < p → sides a₁ b₁ ≡ sweptIn look k p q a b
       → written counts′ relays′ upto ≡ writeFrom a₁ b₁ order k 0 0 counts relays
-      → written counts′ relays′ upto ≡ betweenIn a b left k p q order counts relays
+      → written counts′ relays′ upto ≡ betweenIn a b look k p q order counts relays
   unfolding betweenIn
   between-falls less swept wrote =
       rw (lt-ltb q p less) (wrote ∙ ap (λ (x : Sides). writeFrom (x .sideA) (x .sideB) order k 0 0 counts relays) swept)
 
-  pub between-rises : p ≤ q → sides a₁ b₁ ≡ sweptIn left k q p a b
+  pub between-rises : p ≤ q → sides a₁ b₁ ≡ sweptIn look k q p a b
       → written counts′ relays′ upto ≡ writeFrom b₁ a₁ order k 0 0 counts relays
-      → written counts′ relays′ upto ≡ betweenIn a b left k p q order counts relays
+      → written counts′ relays′ upto ≡ betweenIn a b look k p q order counts relays
   unfolding betweenIn
   between-rises more swept wrote =
       rw (le-ltb q p more) (wrote ∙ ap (λ (x : Sides). writeFrom (x .sideB) (x .sideA) order k 0 0 counts relays) swept)

@@ -1,5 +1,5 @@
 -- `tradeFrom` on a side's list, down through the indices below j, is theory's `tradesFrom` of the paths that it holds, and so the
--- definition's `downshift` (theory/SweepTrades). Over k up to 32 and a `look` that agrees with `left` on the indices 1 to k.
+-- definition's `downshift` (theory/SweepTrades). Over k up to 32 and a `look` with the places of `left` on the indices 1 to k.
 use Prim.Native.Nat.{ℕ, zero, suc, pred, _≤_, _<_}
 use mathlib.Core.Bool.{Bool, true, false}
 use mathlib.Core.List.{List}
@@ -8,15 +8,16 @@ use native.Mathlib.Omega.{arith}
 use lib.Dec.{eqb}
 use borrow.Author.Tests.{ne-eqb}
 use Rattle.definitions.specs.Outcome.{pick}
+use Rattle.definitions.specs.Forests.{Entry}
 use Rattle.theory.specs.PlaceSweep.{endOf, downshift}
 use Rattle.theory.specs.SweepTrades.{tradePaths, tradesFrom, trades-downshift}
 use Rattle.routes.specs.Side.{endIn, trade, tradeAt, tradeFrom}
 use Rattle.routes.proofs.Paths.Side.{SideHolds, held-end, side-same}
 use Rattle.routes.proofs.Paths.Trade.{trade-holds}
 
-module _ (left look : ℕ → ℕ → ℕ) (reach k c j v : ℕ) (ends : ℕ → Bool) (paths : ℕ → List ℕ) (one : 1 ≤ j) (bound : j ≤ k) (small : k ≤ 32)
+module _ (left : ℕ → ℕ → ℕ) (look : ℕ → ℕ → Entry) (reach k c j v : ℕ) (ends : ℕ → Bool) (paths : ℕ → List ℕ) (one : 1 ≤ j) (bound : j ≤ k) (small : k ≤ 32)
     (top : (h : ℕ) → 1 ≤ h → h ≤ k → ends h ≡ true → h ≤ j)
-    (agree : (i x : ℕ) → 1 ≤ i → i ≤ k → look i x ≡ left i x)
+    (agree : (i x : ℕ) → 1 ≤ i → i ≤ k → look i x .place ≡ left i x)
     (same : (i : ℕ) → 1 ≤ i → i ≤ k → ends i ≡ eqb (endOf (paths i)) v) where
   -- The turn at an index that still has its own path.
   turn-holds : (i : ℕ) → suc i < j → (side : List ℕ) (now : ℕ → List ℕ) → now (suc i) ≡ paths (suc i) → SideHolds reach k c side now

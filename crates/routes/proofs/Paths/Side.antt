@@ -1,18 +1,19 @@
 -- A side's list holds a path of the sweep: its end and last but one stand at its index, and from there each place has the one
 -- before it, up to the start, which has none. What the two stores into a side, `setPath` and `setPrior`, leave of the paths that
 -- it holds. Over sides of at least priorStart entries and indices up to 32.
-use Prim.Native.Nat.{ℕ, _+_, _≤_, _<_}
+use Prim.Native.Nat.{ℕ, _+_, _*_, _≤_, _<_}
 use mathlib.Core.Bool.{true}
 use mathlib.Core.List.{List, [], _∷_, tail}
 use mathlib.Core.Logic.{_≢_}
 use mathlib.Core.Path.{_≡_, sym, _∙_, subst}
 use native.Mathlib.Omega.{arith}
-use lib.ListN.{length, getD, set, length-set}
+use lib.ListN.{length, set, length-set}
 use lib.Seq.{getD-set-same, getD-set-other}
 use Rattle.definitions.specs.Lists.{has}
+use Rattle.definitions.specs.Forests.{Entry}
 use Rattle.definitions.specs.Sweep as Sweep
 use Rattle.lists.specs.Cases.{has-here, has-there}
-use Rattle.routes.specs.Side.{secondStart, priorStart, endIn, secondIn, priorIn, setPath, setPrior}
+use Rattle.routes.specs.Side.{secondStart, linkStart, priorStart, endIn, secondIn, priorIn, setPath, setPrior}
 use Rattle.theory.specs.PlaceSweep.{endOf, beforeEnd}
 
 -- From x back to the start of its path stand these relays.
@@ -28,7 +29,7 @@ HoldsPath side i (x ∷ rest) = (endIn side i ≡ x) × Chain side (secondIn sid
 -- The side has room for the places up to `reach` and these paths at the indices 1 to k, and its start c is the first relay of
 -- its path.
 pub record SideHolds (reach k c : ℕ) (side : List ℕ) (paths : ℕ → List ℕ) : Type 0 where
-  pub long : priorStart + reach < length side
+  pub long : priorStart + (2 * reach + 1) < length side
   pub base : priorIn side c ≡ 0
   pub held : (i : ℕ) → 1 ≤ i → i ≤ k → HoldsPath side i (paths i)
 
@@ -47,7 +48,8 @@ unfolding Sweep.endOf
 held-end side i [] h = absurd h
 held-end side i (x ∷ rest) h = h .0
 
-chain-head : (side : List ℕ) (x : ℕ) (path : List ℕ) → Chain side x path → x ≡ getD path 0 0
+chain-head : (side : List ℕ) (x : ℕ) (path : List ℕ) → Chain side x path → x ≡ endOf path
+unfolding Sweep.endOf
 chain-head side x [] e = e
 chain-head side x (y ∷ rest) h = h .0
 
@@ -75,37 +77,53 @@ held-same side side′ i [] e u same h = absurd h
 held-same side side′ i (x ∷ rest) e u same h =
     (e ∙ h .0, subst (λ (z : ℕ). Chain side′ z rest) (sym u) (chain-same side side′ (secondIn side i) rest same (h .1)))
 
-module _ (side : List ℕ) (i end second : ℕ) where
+module _ (side : List ℕ) (i : ℕ) (end : Entry) (second : ℕ) where
+  -- The list after the first store, and after the second.
+  abbrev ended : List ℕ
+  ended = set side i (end .place)
+
+  abbrev joined : List ℕ
+  joined = set ended (secondStart + i) second
+
   pub length-setPath : length (setPath side i end second) ≡ length side
   unfolding setPath
-  length-setPath = length-set (set side i end) (secondStart + i) second ∙ length-set side i end
+  length-setPath =
+      length-set joined (linkStart + i) (end .link) ∙ length-set ended (secondStart + i) second ∙ length-set side i (end .place)
 
   pub prior-setPath : i ≤ 32 → (x : ℕ) → priorIn (setPath side i end second) x ≡ priorIn side x
   unfolding setPath priorIn
   prior-setPath small x =
-      getD-set-other (set side i end) (secondStart + i) (priorStart + x) second 0 (λ e. omega arith)
-      ∙ getD-set-other side i (priorStart + x) end 0 (λ e. omega arith)
+      getD-set-other joined (linkStart + i) (priorStart + 2 * x) (end .link) 0 (λ e. omega arith)
+      ∙ getD-set-other ended (secondStart + i) (priorStart + 2 * x) second 0 (λ e. omega arith)
+      ∙ getD-set-other side i (priorStart + 2 * x) (end .place) 0 (λ e. omega arith)
 
-  end-setPath : priorStart ≤ length side → i ≤ 32 → endIn (setPath side i end second) i ≡ end
+  end-setPath : priorStart ≤ length side → i ≤ 32 → endIn (setPath side i end second) i ≡ end .place
   unfolding setPath endIn
   end-setPath long small =
-      getD-set-other (set side i end) (secondStart + i) i second 0 (λ e. omega arith) ∙ getD-set-same side i end 0 (omega arith)
+      getD-set-other joined (linkStart + i) i (end .link) 0 (λ e. omega arith)
+      ∙ getD-set-other ended (secondStart + i) i second 0 (λ e. omega arith)
+      ∙ getD-set-same side i (end .place) 0 (omega arith)
 
   second-setPath : priorStart ≤ length side → i ≤ 32 → secondIn (setPath side i end second) i ≡ second
   unfolding setPath secondIn
-  second-setPath long small = getD-set-same (set side i end) (secondStart + i) second 0 (omega (arith, length-set side i end))
+  second-setPath long small =
+      getD-set-other joined (linkStart + i) (secondStart + i) (end .link) 0 (λ e. omega arith)
+      ∙ getD-set-same ended (secondStart + i) second 0 (omega (arith, length-set side i (end .place)))
 
   module _ (h : ℕ) (other : h ≢ i) (small : i ≤ 32) (within : h ≤ 32) where
     end-setPath-other : endIn (setPath side i end second) h ≡ endIn side h
     unfolding setPath endIn
     end-setPath-other =
-        getD-set-other (set side i end) (secondStart + i) h second 0 (λ e. omega arith) ∙ getD-set-other side i h end 0 other
+        getD-set-other joined (linkStart + i) h (end .link) 0 (λ e. omega arith)
+        ∙ getD-set-other ended (secondStart + i) h second 0 (λ e. omega arith)
+        ∙ getD-set-other side i h (end .place) 0 other
 
     second-setPath-other : secondIn (setPath side i end second) h ≡ secondIn side h
     unfolding setPath secondIn
     second-setPath-other =
-        getD-set-other (set side i end) (secondStart + i) (secondStart + h) second 0 (λ e. other (omega arith))
-        ∙ getD-set-other side i (secondStart + h) end 0 (λ e. omega arith)
+        getD-set-other joined (linkStart + i) (secondStart + h) (end .link) 0 (λ e. omega arith)
+        ∙ getD-set-other ended (secondStart + i) (secondStart + h) second 0 (λ e. other (omega arith))
+        ∙ getD-set-other side i (secondStart + h) (end .place) 0 (λ e. omega arith)
 
     -- The paths of the other indices stay.
     pub held-setPath-other : (path : List ℕ) → HoldsPath side h path → HoldsPath (setPath side i end second) h path
@@ -114,7 +132,7 @@ module _ (side : List ℕ) (i end second : ℕ) where
 
   -- The path that was set.
   pub held-setPath : priorStart ≤ length side → i ≤ 32 → (rest : List ℕ) → Chain side second rest
-      → HoldsPath (setPath side i end second) i (end ∷ rest)
+      → HoldsPath (setPath side i end second) i (end .place ∷ rest)
   held-setPath long small rest chain =
       let new : List ℕ = setPath side i end second in (
         end-setPath long small,
@@ -122,24 +140,35 @@ module _ (side : List ℕ) (i end second : ℕ) where
             (chain-same side new second rest (λ y _. prior-setPath small y) chain),
       )
 
--- The relay before v is stored.
-module _ (side : List ℕ) (v second : ℕ) where
-  pub length-setPrior : length (setPrior side v second) ≡ length side
+-- The relay before v is stored, and the link from there.
+module _ (side : List ℕ) (v second link : ℕ) where
+  abbrev placed : List ℕ
+  placed = set side (priorStart + 2 * v) second
+
+  pub length-setPrior : length (setPrior side v second link) ≡ length side
   unfolding setPrior
-  length-setPrior = length-set side (priorStart + v) second
+  length-setPrior = length-set placed (priorStart + (2 * v + 1)) link ∙ length-set side (priorStart + 2 * v) second
 
-  pub end-setPrior : (i : ℕ) → i ≤ 32 → endIn (setPrior side v second) i ≡ endIn side i
+  pub end-setPrior : (i : ℕ) → i ≤ 32 → endIn (setPrior side v second link) i ≡ endIn side i
   unfolding setPrior endIn
-  end-setPrior i small = getD-set-other side (priorStart + v) i second 0 (λ e. omega arith)
+  end-setPrior i small =
+      getD-set-other placed (priorStart + (2 * v + 1)) i link 0 (λ e. omega arith)
+      ∙ getD-set-other side (priorStart + 2 * v) i second 0 (λ e. omega arith)
 
-  pub second-setPrior : (i : ℕ) → i ≤ 32 → secondIn (setPrior side v second) i ≡ secondIn side i
+  pub second-setPrior : (i : ℕ) → i ≤ 32 → secondIn (setPrior side v second link) i ≡ secondIn side i
   unfolding setPrior secondIn
-  second-setPrior i small = getD-set-other side (priorStart + v) (secondStart + i) second 0 (λ e. omega arith)
+  second-setPrior i small =
+      getD-set-other placed (priorStart + (2 * v + 1)) (secondStart + i) link 0 (λ e. omega arith)
+      ∙ getD-set-other side (priorStart + 2 * v) (secondStart + i) second 0 (λ e. omega arith)
 
-  pub prior-setPrior : priorStart + v < length side → priorIn (setPrior side v second) v ≡ second
+  pub prior-setPrior : priorStart + 2 * v < length side → priorIn (setPrior side v second link) v ≡ second
   unfolding setPrior priorIn
-  prior-setPrior long = getD-set-same side (priorStart + v) second 0 long
+  prior-setPrior long =
+      getD-set-other placed (priorStart + (2 * v + 1)) (priorStart + 2 * v) link 0 (λ e. omega arith)
+      ∙ getD-set-same side (priorStart + 2 * v) second 0 long
 
-  pub prior-setPrior-other : (x : ℕ) → x ≢ v → priorIn (setPrior side v second) x ≡ priorIn side x
+  pub prior-setPrior-other : (x : ℕ) → x ≢ v → priorIn (setPrior side v second link) x ≡ priorIn side x
   unfolding setPrior priorIn
-  prior-setPrior-other x other = getD-set-other side (priorStart + v) (priorStart + x) second 0 (λ e. other (omega arith))
+  prior-setPrior-other x other =
+      getD-set-other placed (priorStart + (2 * v + 1)) (priorStart + 2 * x) link 0 (λ e. omega arith)
+      ∙ getD-set-other side (priorStart + 2 * v) (priorStart + 2 * x) second 0 (λ e. other (omega arith))

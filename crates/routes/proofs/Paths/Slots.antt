@@ -10,7 +10,7 @@ use lib.Dec.{eqb}
 use borrow.Author.Tests.{eq-eqb, ne-eqb}
 use Rattle.definitions.specs.Outcome.{pick}
 use Rattle.definitions.specs.Sweep as Sweep
-use Rattle.theory.specs.PlaceSweep.{Slot, endOf, extend, slotAtT, settle, highestAt, shiftedSlot, slotElsewhere, slotAfter}
+use Rattle.theory.specs.PlaceSweep.{Slot, endOf, extend, slotAtT, settle, highestAt, shiftedSlot, slotAfter}
 use Rattle.theory.specs.SweepSettle.{extend-some}
 
 module _ (left : ℕ → ℕ → ℕ) (k t v : ℕ) (slots : ℕ → Slot) where

@@ -1,6 +1,6 @@
 -- The loops over all indices, `startA`, `startB` and `leaveFrom`: the side's list then holds the paths of the definition at the
--- start, and after t those of the B-paths that go on. Over k up to 32 and a `look` that agrees with `left` on the indices 1 to k.
-use Prim.Native.Nat.{ℕ, zero, suc, _+_, _≤_, _<_}
+-- start, and after t those of the B-paths that go on. Over k up to 32 and a `look` with the places of `left` on the indices 1 to k.
+use Prim.Native.Nat.{ℕ, zero, suc, _+_, _*_, _≤_, _<_}
 use mathlib.Core.Bool.{Bool, true, false}
 use mathlib.Core.List.{List, [], _∷_}
 use mathlib.Core.Logic.{_≢_, by-cases}
@@ -11,6 +11,7 @@ use lib.Dec.{eqb}
 use lib.ListN.{length}
 use borrow.Author.Tests.{eqb-true, eqb-false}
 use Rattle.definitions.specs.Outcome.{pick}
+use Rattle.definitions.specs.Forests.{Entry}
 use Rattle.lists.specs.Searches.{clash}
 use Rattle.routes.specs.Side.{priorStart, endIn, priorIn, setPath}
 use Rattle.routes.specs.Sides.{startA, startB, leaveAt, leaveFrom}
@@ -18,7 +19,7 @@ use Rattle.routes.proofs.Paths.Side.{Chain, HoldsPath, SideHolds, held-
 
 -- The indices i, …, 1 are left to do: they have their old paths, if they had any, and the others have their new ones.
 record Filling (reach k c : ℕ) (any : Bool) (old new : ℕ → List ℕ) (i : ℕ) (side : List ℕ) : Type 0 where
-  long : priorStart + reach < length side
+  long : priorStart + (2 * reach + 1) < length side
   base : priorIn side c ≡ 0
   lower : any ≡ true → (h : ℕ) → 1 ≤ h → h ≤ i → HoldsPath side h (old h)
   higher : (h : ℕ) → i < h → h ≤ k → HoldsPath side h (new h)
@@ -40,7 +41,7 @@ module _ (reach k c : ℕ) (small : k ≤ 32) (any : Bool) (old new : ℕ → Li
       }
 
   -- An index that is set to end x, with `rest` before it.
-  fill-set : (i x second : ℕ) (rest : List ℕ) → suc i ≤ k → (side : List ℕ) → new (suc i) ≡ x ∷ rest → Chain side second rest
+  fill-set : (i : ℕ) (x : Entry) (second : ℕ) (rest : List ℕ) → suc i ≤ k → (side : List ℕ) → new (suc i) ≡ x .place ∷ rest → Chain side second rest
       → Filling reach k c any old new (suc i) side → Filling reach k c any old new i (setPath side (suc i) x second)
   fill-set i x second rest within side same chain now =
       record {
@@ -62,7 +63,7 @@ module _ (reach k c : ℕ) (small : k ≤ 32) (any : Bool) (old new : ℕ → Li
   fill-done side now = record { long = now .long; base = now .base; held = λ i positive within. now .higher i positive within }
 
 -- Path i of side A starts as s, left(i, s).
-module _ (left look : ℕ → ℕ → ℕ) (reach k : ℕ) (small : k ≤ 32) (agree : (i x : ℕ) → 1 ≤ i → i ≤ k → look i x ≡ left i x) where
+module _ (left : ℕ → ℕ → ℕ) (look : ℕ → ℕ → Entry) (reach k : ℕ) (small : k ≤ 32) (agree : (i x : ℕ) → 1 ≤ i → i ≤ k → look i x .place ≡ left i x) where
   module _ (s : ℕ) (some : 0 < s) where
     abbrev startPathA : ℕ → List ℕ
     startPathA i = left i s ∷ s ∷ []
@@ -76,7 +77,7 @@ module _ (left look : ℕ → ℕ → ℕ) (reach k : ℕ) (small : k ≤ 32) (a
         (fill-set reach k s small false startPathA startPathA i (look (suc i) s) s (s ∷ []) le a
         (ap (λ (x : ℕ). x ∷ s ∷ []) (sym (agree (suc i) s (omega arith) le))) (refl, some, now .base) now)
 
-    pub startA-holds : (a : List ℕ) → priorStart + reach < length a → priorIn a s ≡ 0 → SideHolds reach k s (startA look s k a) startPathA
+    pub startA-holds : (a : List ℕ) → priorStart + (2 * reach + 1) < length a → priorIn a s ≡ 0 → SideHolds reach k s (startA look s k a) startPathA
     startA-holds a long base =
         fill-done reach k s small false startPathA startPathA (startA look s k a)
         (startA-fills k (omega arith) a
@@ -92,9 +93,10 @@ module _ (left look : ℕ → ℕ → ℕ) (reach k : ℕ) (small : k ≤ 32) (a
     unfolding startB
     startB-fills zero le b now = now
     startB-fills (suc i) le b now =
-        startB-fills i (omega arith) (setPath b (suc i) t 0) (fill-set reach k t small false startPathB startPathB i t 0 [] le b refl refl now)
+        startB-fills i (omega arith) (setPath b (suc i) (record { place = t; link = 0 }) 0)
+        (fill-set reach k t small false startPathB startPathB i (record { place = t; link = 0 }) 0 [] le b refl refl now)
 
-    pub startB-holds : (b : List ℕ) → priorStart + reach < length b → priorIn b t ≡ 0 → SideHolds reach k t (startB t k b) startPathB
+    pub startB-holds : (b : List ℕ) → priorStart + (2 * reach + 1) < length b → priorIn b t ≡ 0 → SideHolds reach k t (startB t k b) startPathB
     startB-holds b long base =
         fill-done reach k t small false startPathB startPathB (startB t k b)
         (startB-fills k (omega arith) b

@@ -9,6 +9,7 @@ use native.Mathlib.Decide.{ℕ-discrete, decLt}
 use native.Mathlib.Omega.{arith}
 use lib.Dec.{eqb}
 use borrow.Author.Tests.{eq-eqb, ne-eqb}
+use Rattle.definitions.specs.Forests.{Entry}
 use Rattle.definitions.specs.Sweep as Sweep
 use Rattle.lists.specs.Searches.{largest-same}
 use Rattle.theory.specs.PlaceSweep.{Slot, endOf, endsA, endsB, highestAt, downshift, shiftedSlot, settle, slotAfter}
@@ -32,8 +33,8 @@ pub record SidesHold (k s t : ℕ) (both : Sides) (slots : ℕ → Slot) : Type 
   pub heldA : SideHolds s k s (both .sideA) (λ i. slots i .pathA)
   pub heldB : SideHolds s k t (both .sideB) (λ i. slots i .pathB)
 
-module _ (left look : ℕ → ℕ → ℕ) (laws : LeftLaws left) (k s t : ℕ) (less : t < s) (alive : Alive left k t s) (positive : 1 ≤ t)
-    (small : k ≤ 32) (agree : (i x : ℕ) → 1 ≤ i → i ≤ k → look i x ≡ left i x) where
+module _ (left : ℕ → ℕ → ℕ) (look : ℕ → ℕ → Entry) (laws : LeftLaws left) (k s t : ℕ) (less : t < s) (alive : Alive left k t s) (positive : 1 ≤ t)
+    (small : k ≤ 32) (agree : (i x : ℕ) → 1 ≤ i → i ≤ k → look i x .place ≡ left i x) where
   module _ (v : ℕ) (slots : ℕ → Slot) (inv : Sweeping left k s t (suc v) slots) (a b : List ℕ) (now : SidesHold k s t (sides a b) slots) where
     abbrev new : ℕ → Slot
     new = slotAfter left k t (suc v) slots

@@ -1,10 +1,11 @@
 -- `sweptIn` on the two sides' lists, from lists of zeros, ends with the paths of the definition's `sweep`. Over any `left` with
 -- the laws, where t and s are in one tree of forest k, and k up to 32.
-use Prim.Native.Nat.{ℕ, zero, suc, pred, _+_, _≤_, _<_}
+use Prim.Native.Nat.{ℕ, zero, suc, pred, _+_, _*_, _≤_, _<_}
 use mathlib.Core.List.{List}
 use mathlib.Core.Path.{_≡_, ap}
 use native.Mathlib.Omega.{arith}
 use Rattle.definitions.specs.Lists.{table}
+use Rattle.definitions.specs.Forests.{Entry}
 use Rattle.definitions.specs.Sweep as Sweep
 use Rattle.definitions.specs.Sweep.{slotAt}
 use Rattle.theory.specs.PlaceSweep.{Slot, startSlot, slotAfter, slotsAfter, sweepFrom, sweep}
@@ -28,10 +29,10 @@ holds-same k s t both old new same held =
 
 prior-none : (n : ℕ) (side : List ℕ) → NoPaths n side → (x : ℕ) → priorIn side x ≡ 0
 unfolding priorIn
-prior-none n side empty x = empty .none (priorStart + x)
+prior-none n side empty x = empty .empty (priorStart + 2 * x)
 
-module _ (left look : ℕ → ℕ → ℕ) (laws : LeftLaws left) (k s t : ℕ) (less : t < s) (alive : Alive left k t s) (positive : 1 ≤ t)
-    (small : k ≤ 32) (agree : (i x : ℕ) → 1 ≤ i → i ≤ k → look i x ≡ left i x) where
+module _ (left : ℕ → ℕ → ℕ) (look : ℕ → ℕ → Entry) (laws : LeftLaws left) (k s t : ℕ) (less : t < s) (alive : Alive left k t s) (positive : 1 ≤ t)
+    (small : k ≤ 32) (agree : (i x : ℕ) → 1 ≤ i → i ≤ k → look i x .place ≡ left i x) where
   steps-hold : (v : ℕ) (slots : List Slot) → Sweeping left k s t v (slotAt slots) → (a b : List ℕ) → SidesHold k s t (sides a b) (slotAt slots)
       → SidesHold k s t (sweepIn look k t v a b) (slotAt (sweepFrom left k t v slots))
   unfolding sweepIn Sweep.sweepFrom Sweep.slotsAfter

@@ -10,9 +10,10 @@ use lib.Dec.{eqb}
 use borrow.Author.Tests.{eq-eqb, ne-eqb}
 use lib.ListN.{length}
 use Rattle.definitions.specs.Outcome.{pick}
+use Rattle.definitions.specs.Forests.{Entry}
 use Rattle.theory.specs.PlaceSweep.{beforeEnd}
 use Rattle.theory.specs.SweepTrades.{tradePaths}
-use Rattle.routes.specs.Side.{priorStart, endIn, secondIn, priorIn, setPath, trade}
+use Rattle.routes.specs.Side.{priorStart, endIn, secondIn, endEntry, priorIn, setPath, trade}
 use Rattle.routes.proofs.Paths.Side.{HoldsPath, SideHolds, held-before, held-chain, chain-same, length-setPath, prior-setPath, held-setPath-other, held-setPath}
 
 -- A path with one more relay known of it: its end is its first.
@@ -20,32 +21,32 @@ pub held-whole : (side : List ℕ) (i : ℕ) (path : List ℕ) → HoldsPath sid
 held-whole side i [] h = absurd h
 held-whole side i (x ∷ rest) h = ap (λ (y : ℕ). y ∷ rest) (h .0)
 
-module _ (look : ℕ → ℕ → ℕ) (j i : ℕ) (side : List ℕ) (long : priorStart ≤ length side) (smallJ : j ≤ 32) (smallI : i ≤ 32) (apart : i ≢ j) where
+module _ (look : ℕ → ℕ → Entry) (j i : ℕ) (side : List ℕ) (long : priorStart ≤ length side) (smallJ : j ≤ 32) (smallI : i ≤ 32) (apart : i ≢ j) where
   abbrev first : List ℕ
-  first = setPath side j (endIn side i) (secondIn side i)
+  first = setPath side j (endEntry side i) (secondIn side i)
 
   first-long : priorStart ≤ length first
-  first-long = omega (arith, length-setPath side j (endIn side i) (secondIn side i))
+  first-long = omega (arith, length-setPath side j (endEntry side i) (secondIn side i))
 
   trade-long : length (trade look j i side) ≡ length side
   unfolding trade
   trade-long =
       length-setPath first i (look i (secondIn side j)) (secondIn side j)
-      ∙ length-setPath side j (endIn side i) (secondIn side i)
+      ∙ length-setPath side j (endEntry side i) (secondIn side i)
 
   trade-prior : (x : ℕ) → priorIn (trade look j i side) x ≡ priorIn side x
   unfolding trade
   trade-prior x =
       prior-setPath first i (look i (secondIn side j)) (secondIn side j) smallI x
-      ∙ prior-setPath side j (endIn side i) (secondIn side i) smallJ x
+      ∙ prior-setPath side j (endEntry side i) (secondIn side i) smallJ x
 
   -- The lower index has the path of the higher one, with its own left entry as the end.
-  trade-lower : (path : List ℕ) → HoldsPath side j path → HoldsPath (trade look j i side) i (look i (beforeEnd path) ∷ tail path)
+  trade-lower : (path : List ℕ) → HoldsPath side j path → HoldsPath (trade look j i side) i (look i (beforeEnd path) .place ∷ tail path)
   unfolding trade
   trade-lower path h =
-      subst (λ (x : ℕ). HoldsPath (trade look j i side) i (look i x ∷ tail path)) (held-before side j path h)
+      subst (λ (x : ℕ). HoldsPath (trade look j i side) i (look i x .place ∷ tail path)) (held-before side j path h)
       (held-setPath first i (look i (secondIn side j)) (secondIn side j) first-long smallI (tail path)
-      (chain-same side first (secondIn side j) (tail path) (λ y _. prior-setPath side j (endIn side i) (secondIn side i) smallJ y)
+      (chain-same side first (secondIn side j) (tail path) (λ y _. prior-setPath side j (endEntry side i) (secondIn side i) smallJ y)
       (held-chain side j path h)))
 
   -- The higher index has the path of the lower one.
@@ -54,17 +55,17 @@ module _ (look : ℕ → ℕ → ℕ) (j i : ℕ) (side : List ℕ) (long : prio
   trade-higher path h =
       held-setPath-other first i (look i (secondIn side j)) (secondIn side j) j (λ e. apart (sym e)) smallI smallJ path
       (subst (λ (p : List ℕ). HoldsPath first j p) (held-whole side i path h)
-      (held-setPath side j (endIn side i) (secondIn side i) long smallJ (tail path) (held-chain side i path h)))
+      (held-setPath side j (endEntry side i) (secondIn side i) long smallJ (tail path) (held-chain side i path h)))
 
   -- The others have their own.
   trade-other : (h : ℕ) → h ≤ 32 → h ≢ i → h ≢ j → (path : List ℕ) → HoldsPath side h path → HoldsPath (trade look j i side) h path
   unfolding trade
   trade-other h within offI offJ path held =
       held-setPath-other first i (look i (secondIn side j)) (secondIn side j) h offI smallI within path
-      (held-setPath-other side j (endIn side i) (secondIn side i) h offJ smallJ within path held)
+      (held-setPath-other side j (endEntry side i) (secondIn side i) h offJ smallJ within path held)
 
-pub trade-holds : (left look : ℕ → ℕ → ℕ) (reach k c j i : ℕ) (side : List ℕ) (paths : ℕ → List ℕ) → k ≤ 32 → j ≤ k → 1 ≤ i → i < j
-    → ((x : ℕ) → look i x ≡ left i x) → SideHolds reach k c side paths
+pub trade-holds : (left : ℕ → ℕ → ℕ) (look : ℕ → ℕ → Entry) (reach k c j i : ℕ) (side : List ℕ) (paths : ℕ → List ℕ) → k ≤ 32 → j ≤ k → 1 ≤ i → i < j
+    → ((x : ℕ) → look i x .place ≡ left i x) → SideHolds reach k c side paths
     → SideHolds reach k c (trade look j i side) (tradePaths left j i paths)
 unfolding tradePaths
 trade-holds left look reach k c j i side paths small bound one less agree held =
