@@ -19,16 +19,17 @@ dead-at : (look : ℕ → ℕ → Entry) (k t v gap : ℕ) → t + suc gap ≡ v
 unfolding aliveIn
 dead-at look k t v gap e none = rw (e, eq-eqb (look k v .place) 0 none)
 
-pub alive-turn : (look : ℕ → ℕ → Entry) (k t v entry : ℕ) → t < v → entry ≡ look k v .place → (entry ≡ 0 → ⊥)
+pub alive-turn : (look : ℕ → ℕ → Entry) (k t v : ℕ) (entry : Entry) → t < v → entry ≡ look k v → (entry .place ≡ 0 → ⊥)
     → aliveIn look k t (v - t) ≡ aliveIn look k t (v - 1 - t)
 alive-turn look k t v entry less e some =
     let gap : v - t ≡ suc (v - 1 - t) = omega arith in
-    ap (aliveIn look k t) gap ∙ alive-at look k t v (v - 1 - t) (omega arith) (λ z. some (e ∙ z))
+    ap (aliveIn look k t) gap ∙ alive-at look k t v (v - 1 - t) (omega arith) (λ z. some (ap (λ (x : Entry). x .place) e ∙ z))
 
-pub alive-stop : (look : ℕ → ℕ → Entry) (k t v entry : ℕ) → t < v → entry ≡ look k v .place → entry ≡ 0 → aliveIn look k t (v - t) ≡ false
+pub alive-stop : (look : ℕ → ℕ → Entry) (k t v : ℕ) (entry : Entry) → t < v → entry ≡ look k v → entry .place ≡ 0
+    → aliveIn look k t (v - t) ≡ false
 alive-stop look k t v entry less e none =
     let gap : v - t ≡ suc (v - 1 - t) = omega arith in
-    ap (aliveIn look k t) gap ∙ dead-at look k t v (v - 1 - t) (omega arith) (sym e ∙ none)
+    ap (aliveIn look k t) gap ∙ dead-at look k t v (v - 1 - t) (omega arith) (sym (ap (λ (x : Entry). x .place) e) ∙ none)
 
 pub alive-end : (look : ℕ → ℕ → Entry) (k t v : ℕ) → v ≤ t → aliveIn look k t (v - t) ≡ true
 unfolding aliveIn

@@ -14,13 +14,13 @@ alive-requires-2 c κs = search needs
 returns : tie.Need-returns
 unfolding oneTreeIn
 returns c =
-    let start = c .before .before .before .before .before in
+    let start = c .before .before .before .before .before .before in
     rw (lt-ltb (start .args .q .0) (start .args .p .0) (c .before .if1 .taken)) (c .alive .ensures)
 
 returns-2 : tie.Need-returns-2
 unfolding oneTreeIn
 returns-2 c =
-    let start = c .before .before .before .before .before in
+    let start = c .before .before .before .before .before .before in
     rw (le-ltb (start .args .q .0) (start .args .p .0) (c .before .if1 .left)) (c .alive2 .ensures)
 
 pub one-tree-spec : {M : Type 1} → statement M

@@ -7,6 +7,9 @@ use Rattle.routes.proofs.side.extend.Tie as tie
 second-of-requires : tie.Need-second-of-requires
 second-of-requires c κs = search needs
 
+link-of-requires : tie.Need-link-of-requires
+link-of-requires c κs = search needs
+
 set-prior-requires : tie.Need-set-prior-requires
 set-prior-requires c κs = search needs
 
@@ -28,6 +31,7 @@ extend-spec =
     tie.close
     (tie.spec
     second-of-requires
+    link-of-requires
     set-prior-requires
     left-requires
     set-path-requires

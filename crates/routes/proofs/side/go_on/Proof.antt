@@ -16,7 +16,7 @@ returns : tie.Need-returns
 unfolding advance
 returns c =
     let atEndOf = c .before .before .before in
-    let a = atEndOf .before .before .before .before .args in
+    let a = atEndOf .before .before .before .before .before .args in
     rw (ne-eqb (endIn (a .side .now) (a .j)) (a .v .0) (λ e. c .if1 .taken (atEndOf .end-of .ensures ∙ e)))
 
 same-length-2 : tie.Need-same-length-2
@@ -27,7 +27,7 @@ unfolding advance
 returns-2 c =
     let atIf1 = c .before .before .before in
     let atEndOf = atIf1 .before .before .before in
-    let a = atEndOf .before .before .before .before .args in
+    let a = atEndOf .before .before .before .before .before .args in
     rw (
       eq-eqb (endIn (a .side .now) (a .j)) (a .v .0) (sym (atEndOf .end-of .ensures) ∙ atIf1 .if1 .left),
       eq-eqb (a .other .0) (a .v .0) (c .if2 .taken),
@@ -45,7 +45,7 @@ returns-3 c =
     let atIf2 = c .before .before .before .before in
     let atIf1 = atIf2 .before .before .before in
     let atEndOf = atIf1 .before .before .before in
-    let a = atEndOf .before .before .before .before .args in
+    let a = atEndOf .before .before .before .before .before .args in
     rw (
       eq-eqb (endIn (a .side .now) (a .j)) (a .v .0) (sym (atEndOf .end-of .ensures) ∙ atIf1 .if1 .left),
       ne-eqb (a .other .0) (a .v .0) (atIf2 .if2 .left),

@@ -7,6 +7,9 @@ use Rattle.routes.proofs.side.prior_of.Tie as tie
 cast-get : tie.Need-cast-get
 cast-get c = search needs
 
+mul-get : tie.Need-mul-get
+mul-get c = search needs
+
 add-get : tie.Need-add-get
 add-get c = search needs
 
@@ -18,4 +21,4 @@ unfolding priorIn
 returns c = c .get .ensures
 
 pub prior-of-spec : {M : Type 1} → statement M
-prior-of-spec = tie.close (tie.spec cast-get add-get get-requires returns)
+prior-of-spec = tie.close (tie.spec cast-get mul-get add-get get-requires returns)

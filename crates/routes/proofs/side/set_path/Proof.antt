@@ -13,6 +13,12 @@ add-put c = search needs
 put-requires-2 : tie.Need-put-requires-2
 put-requires-2 c κs = search needs
 
+add-put-2 : tie.Need-add-put-2
+add-put-2 c = search needs
+
+put-requires-3 : tie.Need-put-requires-3
+put-requires-3 c κs = search needs
+
 same-length : tie.Need-same-length
 same-length c = search needs
 
@@ -21,4 +27,4 @@ unfolding setPath
 returns c = cc
 
 pub set-path-spec : {M : Type 1} → statement M
-set-path-spec = tie.close (tie.spec put-requires add-put put-requires-2 same-length returns)
+set-path-spec = tie.close (tie.spec put-requires add-put put-requires-2 add-put-2 put-requires-3 same-length returns)

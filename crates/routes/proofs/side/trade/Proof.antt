@@ -7,6 +7,9 @@ use Rattle.routes.proofs.side.trade.Tie as tie
 second-of-requires : tie.Need-second-of-requires
 second-of-requires c κs = search needs
 
+link-of-requires : tie.Need-link-of-requires
+link-of-requires c κs = search needs
+
 second-of-requires-2 : tie.Need-second-of-requires-2
 second-of-requires-2 c κs = search needs
 
@@ -31,6 +34,7 @@ trade-spec =
     tie.close
     (tie.spec
     second-of-requires
+    link-of-requires
     second-of-requires-2
     left-requires
     set-path-requires

@@ -22,7 +22,7 @@ unfolding tradeAt
 returns c =
     let atIf1 = c .before .before .before .before in
     let atEndOf = atIf1 .before .before .before in
-    let start = atEndOf .before .before .before .before in
+    let start = atEndOf .before .before .before .before .before in
     let a = start .args in
     rw (eq-eqb (endIn (a .side .now) (a .i)) (a .v .0) (sym (atEndOf .end-of .ensures) ∙ atIf1 .if1 .taken))
     (c .before .before .trade .ensures)
@@ -34,7 +34,7 @@ returns-2 : tie.Need-returns-2
 unfolding tradeAt
 returns-2 c =
     let atEndOf = c .before .before .before in
-    let a = atEndOf .before .before .before .before .args in
+    let a = atEndOf .before .before .before .before .before .args in
     rw (ne-eqb (endIn (a .side .now) (a .i)) (a .v .0) (λ e. c .if1 .left (atEndOf .end-of .ensures ∙ e)))
 
 pub trade-at-spec : {M : Type 1} → statement M

@@ -1,7 +1,7 @@
 -- `trade_below` meets its contract. The loop's invariant: what is left to do gives what the whole gives. Assumes nothing.
 use Rattle.routes.proofs.Loops.Sweep.{trade-turn, trade-end}
 use native.Mathlib.Numerals.{sub-one}
-use Rattle.routes.specs.Side.{tableLeft, tradeFrom}
+use Rattle.routes.specs.Side.{tableEntry, tradeFrom}
 use native.Mathlib.Omega.{arith}
 use lib.ListN.{length}
 use mathlib.Core.Path.{_≡_, refl, sym, _∙_, ap}
@@ -10,10 +10,10 @@ use Rattle.routes.proofs.side.trade_below.Statement.{statement}
 use Rattle.routes.proofs.side.trade_below.Tie as tie
 
 abbrev Inv-loop : tie.InvT-loop
-Inv-loop side₀ table n v j i₀ side i = (length side ≡ length side₀) × (tradeFrom (tableLeft table n) (v .0) j i₀ side₀ ≡ tradeFrom (tableLeft table n) (v .0) j i side)
+Inv-loop side₀ table ends n v j i₀ side i = (length side ≡ length side₀) × (tradeFrom (tableEntry table ends n) (v .0) j i₀ side₀ ≡ tradeFrom (tableEntry table ends n) (v .0) j i side)
 
 abbrev μ-loop : tie.MeasureT-loop
-μ-loop side₀ table n v j i₀ side i = i
+μ-loop side₀ table ends n v j i₀ side i = i
 
 sub-i : tie.Need-sub-i Inv-loop μ-loop
 sub-i c = omega arith
@@ -33,9 +33,9 @@ loop-less c = omega arith
 loop-again : tie.Need-loop-again Inv-loop μ-loop
 loop-again c =
     let atLoop = c .before .before .before .before .before in
-    let start = atLoop .before .before .before in
+    let start = atLoop .before .before .before .before in
     let a = start .args in
-    let L = tableLeft (a .table .now) (a .n) in (
+    let L = tableEntry (a .table .now) (a .ends .now) (a .n) in (
       c .before .before .trade-at .kept .0 ∙ atLoop .loop .inv .0,
       atLoop .loop .inv .1
           ∙ trade-turn L (a .v .0) (a .j) (atLoop .loop .i) (atLoop .loop .side) (omega arith)
@@ -47,9 +47,9 @@ same-length c = c .before .loop .inv .0
 
 returns : tie.Need-returns Inv-loop μ-loop
 returns c =
-    let start = c .before .before .before .before in
+    let start = c .before .before .before .before .before in
     let a = start .args in
-    let L = tableLeft (a .table .now) (a .n) in
+    let L = tableEntry (a .table .now) (a .ends .now) (a .n) in
     sym
     (rw (← sub-one (a .j)) (c .before .loop .inv .1 ∙ trade-end L (a .v .0) (a .j) (c .before .loop .i) (c .before .loop .side) (omega arith)))
 

@@ -1,7 +1,7 @@
 -- `leave` meets its contract. The loop's invariant: what is left to do gives what the whole gives. Assumes nothing.
 use Rattle.routes.proofs.Loops.Sweep.{leave-turn, leave-end}
 use Rattle.routes.specs.Sides.{leaveFrom}
-use Rattle.routes.specs.Side.{tableLeft}
+use Rattle.routes.specs.Side.{tableEntry}
 use native.Mathlib.Omega.{arith}
 use lib.ListN.{length}
 use mathlib.Core.Path.{_≡_, refl, sym, _∙_, ap}
@@ -10,10 +10,10 @@ use Rattle.routes.proofs.sweep.leave.Statement.{statement}
 use Rattle.routes.proofs.sweep.leave.Tie as tie
 
 abbrev Inv-loop : tie.InvT-loop
-Inv-loop b₀ a table n k t i₀ b i = (length b ≡ length b₀) × (leaveFrom (tableLeft table n) (t .0) a i₀ b₀ ≡ leaveFrom (tableLeft table n) (t .0) a i b)
+Inv-loop b₀ a table ends n k t i₀ b i = (length b ≡ length b₀) × (leaveFrom (tableEntry table ends n) (t .0) a i₀ b₀ ≡ leaveFrom (tableEntry table ends n) (t .0) a i b)
 
 abbrev μ-loop : tie.MeasureT-loop
-μ-loop b₀ a table n k t i₀ b i = i
+μ-loop b₀ a table ends n k t i₀ b i = i
 
 loop-holds : tie.Need-loop-holds Inv-loop μ-loop
 loop-holds c = (refl, refl)
@@ -30,9 +30,9 @@ loop-less c = omega arith
 loop-again : tie.Need-loop-again Inv-loop μ-loop
 loop-again c =
     let atLoop = c .before .before .before .before .before in
-    let start = atLoop .before .before .before .before in
+    let start = atLoop .before .before .before .before .before in
     let a = start .args in
-    let L = tableLeft (a .table .now) (a .n) in (
+    let L = tableEntry (a .table .now) (a .ends .now) (a .n) in (
       c .before .before .leave-at .kept .0 ∙ atLoop .loop .inv .0,
       atLoop .loop .inv .1
           ∙ leave-turn L (a .t .0) (a .a .now) (atLoop .loop .i) (atLoop .loop .b) (omega arith)
@@ -44,8 +44,8 @@ same-length c = c .before .loop .inv .0
 
 returns : tie.Need-returns Inv-loop μ-loop
 returns c =
-    let a = c .before .before .before .before .before .args in
-    let L = tableLeft (a .table .now) (a .n) in
+    let a = c .before .before .before .before .before .before .args in
+    let L = tableEntry (a .table .now) (a .ends .now) (a .n) in
     sym (c .before .loop .inv .1 ∙ leave-end L (a .t .0) (a .a .now) (c .before .loop .i) (c .before .loop .b) (omega arith))
 
 pub leave-spec : {M : Type 1} → statement M

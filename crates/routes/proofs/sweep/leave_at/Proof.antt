@@ -25,7 +25,7 @@ returns c =
     let atLeft = c .before .before .before .before in
     let atIf1 = atLeft .before in
     let atEndOf = atIf1 .before .before .before in
-    let start = atEndOf .before .before .before .before in
+    let start = atEndOf .before .before .before .before .before in
     let a = start .args in
     rw (ne-eqb (endIn (a .a .now) (a .i)) (a .t .0) (λ e. atIf1 .if1 .taken (atEndOf .end-of .ensures ∙ e)), ← atLeft .left .ensures)
     (c .before .before .set-path .ensures)
@@ -34,7 +34,7 @@ returns-2 : tie.Need-returns-2
 unfolding leaveAt
 returns-2 c =
     let atEndOf = c .before .before .before in
-    let a = atEndOf .before .before .before .before .args in
+    let a = atEndOf .before .before .before .before .before .args in
     rw (eq-eqb (endIn (a .a .now) (a .i)) (a .t .0) (sym (atEndOf .end-of .ensures) ∙ c .if1 .left))
 
 pub leave-at-spec : {M : Type 1} → statement M

@@ -1,6 +1,6 @@
 -- `pass` meets its contract. Assumes nothing.
 use Rattle.routes.proofs.Loops.Sweep.{passed}
-use Rattle.routes.specs.Side.{tableLeft}
+use Rattle.routes.specs.Side.{tableEntry}
 use borrow.Author.Needs.{needs}
 use Rattle.routes.proofs.sweep.pass.Statement.{statement}
 use Rattle.routes.proofs.sweep.pass.Tie as tie
@@ -36,9 +36,9 @@ returns c =
     let atEndOf = atEndOf2 .before .before in
     let atTradeBelow2 = atEndOf .before .before .before .before in
     let atTradeBelow = atTradeBelow2 .before .before .before .before in
-    let start = atTradeBelow .before .before .before .before .before in
+    let start = atTradeBelow .before .before .before .before .before .before in
     let a = start .args in
-    passed (tableLeft (a .table .now) (a .n)) (a .v .0) (a .j) (a .a .now) (a .b .now) _ _ _ _ _ _
+    passed (tableEntry (a .table .now) (a .ends .now) (a .n)) (a .v .0) (a .j) (a .a .now) (a .b .now) _ _ _ _ _ _
     (atTradeBelow .trade-below .ensures) (atTradeBelow2 .trade-below2 .ensures) (atEndOf .end-of .ensures) (atEndOf2 .end-of2 .ensures)
     (atGoOn .go-on .ensures) (c .before .before .go-on2 .ensures)
 

@@ -1,7 +1,7 @@
 -- `start_a` meets its contract. The loop's invariant: what is left to do gives what the whole gives. Assumes nothing.
 use Rattle.routes.proofs.Loops.Sweep.{start-a-turn, start-a-end}
 use Rattle.routes.specs.Sides.{startA}
-use Rattle.routes.specs.Side.{tableLeft, setPath}
+use Rattle.routes.specs.Side.{tableEntry, setPath}
 use native.Mathlib.Omega.{arith}
 use lib.ListN.{length}
 use mathlib.Core.Path.{_≡_, refl, sym, _∙_, ap}
@@ -10,10 +10,10 @@ use Rattle.routes.proofs.sweep.start_a.Statement.{statement}
 use Rattle.routes.proofs.sweep.start_a.Tie as tie
 
 abbrev Inv-loop : tie.InvT-loop
-Inv-loop a₀ table n k s i₀ a i = (length a ≡ length a₀) × (startA (tableLeft table n) (s .0) i₀ a₀ ≡ startA (tableLeft table n) (s .0) i a)
+Inv-loop a₀ table ends n k s i₀ a i = (length a ≡ length a₀) × (startA (tableEntry table ends n) (s .0) i₀ a₀ ≡ startA (tableEntry table ends n) (s .0) i a)
 
 abbrev μ-loop : tie.MeasureT-loop
-μ-loop a₀ table n k s i₀ a i = i
+μ-loop a₀ table ends n k s i₀ a i = i
 
 loop-holds : tie.Need-loop-holds Inv-loop μ-loop
 loop-holds c = (refl, refl)
@@ -34,9 +34,9 @@ loop-again : tie.Need-loop-again Inv-loop μ-loop
 loop-again c =
     let atLeft = c .before .before .before .before in
     let atLoop = atLeft .before .before in
-    let start = atLoop .before .before .before in
+    let start = atLoop .before .before .before .before in
     let a = start .args in
-    let L = tableLeft (a .table .now) (a .n) in
+    let L = tableEntry (a .table .now) (a .ends .now) (a .n) in
     let i = atLoop .loop .i in (
       c .before .before .set-path .kept .0 ∙ atLoop .loop .inv .0,
       atLoop .loop .inv .1
@@ -50,8 +50,8 @@ same-length c = c .before .loop .inv .0
 
 returns : tie.Need-returns Inv-loop μ-loop
 returns c =
-    let a = c .before .before .before .before .args in
-    let L = tableLeft (a .table .now) (a .n) in
+    let a = c .before .before .before .before .before .args in
+    let L = tableEntry (a .table .now) (a .ends .now) (a .n) in
     sym (c .before .loop .inv .1 ∙ start-a-end L (a .s .0) (c .before .loop .i) (c .before .loop .a) (omega arith))
 
 pub start-a-spec : {M : Type 1} → statement M

@@ -1,6 +1,6 @@
 -- `step` meets its contract. Assumes nothing.
 use Rattle.routes.proofs.Loops.Sweep.{stepped-at, stepped-none, stepped-pass}
-use Rattle.routes.specs.Side.{tableLeft}
+use Rattle.routes.specs.Side.{tableEntry}
 use borrow.Author.Needs.{needs}
 use Rattle.routes.proofs.sweep.step.Statement.{statement}
 use Rattle.routes.proofs.sweep.step.Tie as tie
@@ -16,8 +16,8 @@ same-length-2 c = search needs
 
 returns : tie.Need-returns
 returns c =
-    let a = c .before .before .before .before .before .before .before .before .before .before .before .args in
-    stepped-at (tableLeft (a .table .now) (a .n)) (a .k) (a .t .0) (a .v .0) (a .a .now) (a .b .now) (c .before .before .leave .last .0)
+    let a = c .before .before .before .before .before .before .before .before .before .before .before .before .args in
+    stepped-at (tableEntry (a .table .now) (a .ends .now) (a .n)) (a .k) (a .t .0) (a .v .0) (a .a .now) (a .b .now) (c .before .before .leave .last .0)
     (c .before .before .before .before .before .if1 .taken) (c .before .before .leave .ensures)
 
 highest-requires : tie.Need-highest-requires
@@ -31,8 +31,8 @@ same-length-4 c = search needs
 
 returns-2 : tie.Need-returns-2
 returns-2 c =
-    let a = c .before .before .before .before .before .before .before .before .before .before .args in
-    stepped-none (tableLeft (a .table .now) (a .n)) (a .k) (a .t .0) (a .v .0) (c .before .highest .result) (a .a .now) (a .b .now)
+    let a = c .before .before .before .before .before .before .before .before .before .before .before .args in
+    stepped-none (tableEntry (a .table .now) (a .ends .now) (a .n)) (a .k) (a .t .0) (a .v .0) (c .before .highest .result) (a .a .now) (a .b .now)
     (c .before .before .before .before .if1 .left) (c .before .highest .ensures) (c .if2 .taken)
 
 pass-requires : tie.Need-pass-requires
@@ -50,9 +50,9 @@ returns-3 c =
     let atIf2 = atPass .before .before .before in
     let atHighest = atIf2 .before in
     let atIf1 = atHighest .before .before .before in
-    let start = atIf1 .before .before .before .before .before .before in
+    let start = atIf1 .before .before .before .before .before .before .before in
     let a = start .args in
-    stepped-pass (tableLeft (a .table .now) (a .n)) (a .k) (a .t .0) (a .v .0) (atHighest .highest .result) (a .a .now) (a .b .now)
+    stepped-pass (tableEntry (a .table .now) (a .ends .now) (a .n)) (a .k) (a .t .0) (a .v .0) (atHighest .highest .result) (a .a .now) (a .b .now)
     (atPass .pass .last .0) (atPass .pass .last .1 .0)
     (atIf1 .if1 .left) (atHighest .highest .ensures) (atIf2 .if2 .left) (atPass .pass .ensures)
 

@@ -1,7 +1,7 @@
 -- `steps` meets its contract. The loop's invariant: what is left to do gives what the whole gives. Assumes nothing.
 use Rattle.routes.proofs.Loops.Sweep.{sweep-turn, sweep-end}
 use Rattle.routes.specs.Sides.{sweepIn}
-use Rattle.routes.specs.Side.{tableLeft}
+use Rattle.routes.specs.Side.{tableEntry}
 use native.Mathlib.Omega.{arith}
 use lib.ListN.{length}
 use mathlib.Core.Path.{_≡_, refl, sym, _∙_, ap}
@@ -10,12 +10,12 @@ use Rattle.routes.proofs.sweep.steps.Statement.{statement}
 use Rattle.routes.proofs.sweep.steps.Tie as tie
 
 abbrev Inv-loop : tie.InvT-loop
-Inv-loop a₀ b₀ table n k t from a b v =
+Inv-loop a₀ b₀ table ends n k t from a b v =
     (length a ≡ length a₀) × (length b ≡ length b₀)
-    × (sweepIn (tableLeft table n) k (t .0) (from .0) a₀ b₀ ≡ sweepIn (tableLeft table n) k (t .0) (v .0) a b)
+    × (sweepIn (tableEntry table ends n) k (t .0) (from .0) a₀ b₀ ≡ sweepIn (tableEntry table ends n) k (t .0) (v .0) a b)
 
 abbrev μ-loop : tie.MeasureT-loop
-μ-loop a₀ b₀ table n k t from a b v = v .0
+μ-loop a₀ b₀ table ends n k t from a b v = v .0
 
 loop-holds : tie.Need-loop-holds Inv-loop μ-loop
 loop-holds c = (refl, refl, refl)
@@ -33,8 +33,8 @@ loop-again : tie.Need-loop-again Inv-loop μ-loop
 loop-again c =
     let atStep = c .before .before .before .before .before in
     let atLoop = atStep .before .before .before .before .before in
-    let a = atLoop .before .before .before .before .args in
-    let look = tableLeft (a .table .now) (a .n) in (
+    let a = atLoop .before .before .before .before .before .args in
+    let look = tableEntry (a .table .now) (a .ends .now) (a .n) in (
       atStep .step .kept .0 ∙ atLoop .loop .inv .0,
       atStep .step .kept .1 .0 ∙ atLoop .loop .inv .1,
       atLoop .loop .inv .2
@@ -52,9 +52,9 @@ same-length-2 c = c .before .before .loop .inv .1
 returns : tie.Need-returns Inv-loop μ-loop
 returns c =
     let atLoop = c .before .before in
-    let a = atLoop .before .before .before .before .args in
+    let a = atLoop .before .before .before .before .before .args in
     sym (atLoop .loop .inv .2
-    ∙ sweep-end (tableLeft (a .table .now) (a .n)) (a .k) (a .t .0) (atLoop .loop .v .0) (atLoop .loop .a) (atLoop .loop .b) (omega arith))
+    ∙ sweep-end (tableEntry (a .table .now) (a .ends .now) (a .n)) (a .k) (a .t .0) (atLoop .loop .v .0) (atLoop .loop .a) (atLoop .loop .b) (omega arith))
 
 pub steps-spec : {M : Type 1} → statement M
 steps-spec =

@@ -1,6 +1,6 @@
 -- `sweep` meets its contract. Assumes nothing.
 use Rattle.routes.proofs.Loops.Sweep.{swept}
-use Rattle.routes.specs.Side.{tableLeft}
+use Rattle.routes.specs.Side.{tableEntry}
 use borrow.Author.Needs.{needs}
 use Rattle.routes.proofs.sweep.sweep.Statement.{statement}
 use Rattle.routes.proofs.sweep.sweep.Tie as tie
@@ -28,9 +28,9 @@ returns c =
     let atSteps = c .before .before .before .before in
     let atStartB = atSteps .before .before .before .before .before .before in
     let atStartA = atStartB .before .before .before .before in
-    let start = atStartA .before .before .before .before .before in
+    let start = atStartA .before .before .before .before .before .before in
     let a = start .args in
-    swept (tableLeft (a .table .now) (a .n)) (a .k) (a .s .0) (a .t .0) _ (a .a .now) (a .b .now) _ _ _ _
+    swept (tableEntry (a .table .now) (a .ends .now) (a .n)) (a .k) (a .s .0) (a .t .0) _ (a .a .now) (a .b .now) _ _ _ _
     (atSteps .before .one-before .ensures) (atStartA .start-a .ensures) (atStartB .start-b .ensures) (atSteps .steps .ensures)
 
 pub sweep-spec : {M : Type 1} → statement M
