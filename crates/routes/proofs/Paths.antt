@@ -1,5 +1,7 @@
 -- A side's list holds the paths of the definition, from the stores into it up to the whole sweep.
 pub mod Side
+pub mod LinkStores
+pub mod Links
 pub mod Trade
 pub mod Downshift
 pub mod Advance

@@ -1,3 +1,4 @@
 -- What is written out of two sides are the routes of the definition.
 pub mod Write
 pub mod Between
+pub mod Links

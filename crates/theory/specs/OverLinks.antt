@@ -17,7 +17,7 @@ use Rattle.definitions.specs.Over.{oversBetween, entryOf, oversOf, OneLink, Ove
 use Rattle.definitions.specs.Demand.{LinkOf, AlongFrom, Along}
 use Rattle.lists.specs.Searches.{first-holds}
 use Rattle.lists.specs.Maps.{map-map}
-use Rattle.lists.specs.Steps.{stepsOf, steps-map}
+use Rattle.lists.specs.Steps.{stepsOf, stepsOf-map}
 use Rattle.theory.specs.Accepted.{accepted}
 use Rattle.theory.specs.Links.{joins-sym, one-link}
 use Rattle.theory.specs.Arranged.{leftIn, Arranged, base-arranged}
@@ -105,5 +105,5 @@ overs-found n lows highs ok k from to hf ht differ alive =
     let routes : List (List ℕ) = routesBetween (leftIn order lows highs) k (placeOf order from) (placeOf order to) in
     overs-in order lows highs (base-arranged n lows highs ok) k (placeOf order from) (placeOf order to)
     (places-differ n lows highs from to hf ht differ) alive
-    ∙ ap (λ (f : List ℕ → List ℕ). map f routes) (fun-ext λ l. sym (steps-map (pairLink lows highs) (relayAt order) l))
+    ∙ ap (λ (f : List ℕ → List ℕ). map f routes) (fun-ext λ l. sym (stepsOf-map (pairLink lows highs) (relayAt order) l))
     ∙ sym (map-map (stepsOf (pairLink lows highs)) (map (relayAt order)) routes)

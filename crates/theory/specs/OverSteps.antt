@@ -19,7 +19,7 @@ use Rattle.definitions.specs.Route.{routesBetween}
 use Rattle.definitions.specs.Over.{entryLook, pathLinks, slotOver, sweepOvers, oversBetween}
 use Rattle.lists.specs.Cases.{has-here, has-there}
 use Rattle.lists.specs.Maps.{map-map, map-agree}
-use Rattle.lists.specs.Steps.{stepsOf, steps-reverse, steps-meet}
+use Rattle.lists.specs.Steps.{stepsOf, stepsOf-reverse, stepsOf-meet}
 use Rattle.theory.specs.PlaceSweep as Places
 use Rattle.theory.specs.LeftLaws.{LeftLaws}
 use Rattle.theory.specs.Trees.{Alive}
@@ -95,7 +95,7 @@ module _ (entry : ℕ → ℕ → Entry) (f : ℕ → ℕ → ℕ) (turn : (a b 
         ap₂ (λ (a b : List ℕ). reverse a ++ b)
         (path-steps (slot .pathA) (looked .inA) someA ∙ ap (stepsOf f) shapeA)
         (path-steps (slot .pathB) (looked .inB) someB ∙ ap (stepsOf f) shapeB)
-        ∙ sym (steps-meet f turn (c .meet) (c .before ∷ c .restA) (c .restB))
+        ∙ sym (stepsOf-meet f turn (c .meet) (c .before ∷ c .restA) (c .restB))
         ∙ ap₂ (λ (a b : List ℕ). stepsOf f (reverse a ++ tail b)) (sym shapeA) (sym shapeB)
 
     -- The k routes from s to t.
@@ -127,5 +127,5 @@ module _ (entry : ℕ → ℕ → Entry) (f : ℕ → ℕ → ℕ) (turn : (a b 
           ap (map reverse) (sweep-steps laws k q p less (λ x above upto. alive x (omega arith) (omega arith)))
           ∙ map-map reverse (stepsOf f) (sweepRoutes left k q p)
           ∙ map-agree (λ l. reverse (stepsOf f l)) (λ l. stepsOf f (reverse l)) [] (sweepRoutes left k q p)
-          (λ i below. sym (steps-reverse f turn (getD (sweepRoutes left k q p) i [])))
+          (λ i below. sym (stepsOf-reverse f turn (getD (sweepRoutes left k q p) i [])))
           ∙ sym (map-map (stepsOf f) reverse (sweepRoutes left k q p))

@@ -97,28 +97,28 @@ module _ (side : List ℕ) (i : ℕ) (end : Entry) (second : ℕ) where
       ∙ getD-set-other ended (secondStart + i) (priorStart + 2 * x) second 0 (λ e. omega arith)
       ∙ getD-set-other side i (priorStart + 2 * x) (end .place) 0 (λ e. omega arith)
 
-  end-setPath : priorStart ≤ length side → i ≤ 32 → endIn (setPath side i end second) i ≡ end .place
+  pub end-setPath : priorStart ≤ length side → i ≤ 32 → endIn (setPath side i end second) i ≡ end .place
   unfolding setPath endIn
   end-setPath long small =
       getD-set-other joined (linkStart + i) i (end .link) 0 (λ e. omega arith)
       ∙ getD-set-other ended (secondStart + i) i second 0 (λ e. omega arith)
       ∙ getD-set-same side i (end .place) 0 (omega arith)
 
-  second-setPath : priorStart ≤ length side → i ≤ 32 → secondIn (setPath side i end second) i ≡ second
+  pub second-setPath : priorStart ≤ length side → i ≤ 32 → secondIn (setPath side i end second) i ≡ second
   unfolding setPath secondIn
   second-setPath long small =
       getD-set-other joined (linkStart + i) (secondStart + i) (end .link) 0 (λ e. omega arith)
       ∙ getD-set-same ended (secondStart + i) second 0 (omega (arith, length-set side i (end .place)))
 
   module _ (h : ℕ) (other : h ≢ i) (small : i ≤ 32) (within : h ≤ 32) where
-    end-setPath-other : endIn (setPath side i end second) h ≡ endIn side h
+    pub end-setPath-other : endIn (setPath side i end second) h ≡ endIn side h
     unfolding setPath endIn
     end-setPath-other =
         getD-set-other joined (linkStart + i) h (end .link) 0 (λ e. omega arith)
         ∙ getD-set-other ended (secondStart + i) h second 0 (λ e. omega arith)
         ∙ getD-set-other side i h (end .place) 0 other
 
-    second-setPath-other : secondIn (setPath side i end second) h ≡ secondIn side h
+    pub second-setPath-other : secondIn (setPath side i end second) h ≡ secondIn side h
     unfolding setPath secondIn
     second-setPath-other =
         getD-set-other joined (linkStart + i) (secondStart + h) (end .link) 0 (λ e. omega arith)

@@ -10,6 +10,7 @@ use lib.Seq.{sets}
 use borrow.Author.Tests.{lt-ltb, le-ltb}
 use Rattle.definitions.specs.Lists.{joinAll}
 use Rattle.definitions.specs.Order.{relayAt}
+use Rattle.definitions.specs.Forests.{Entry}
 use Rattle.definitions.specs.Sweep.{slotAt, slotRoute, sweepRoutes}
 use Rattle.definitions.specs.Route.{routesBetween}
 use Rattle.lists.specs.Maps.{getD-map}
@@ -27,8 +28,8 @@ use Rattle.routes.proofs.Paths.Side.{HoldsPath}
 use Rattle.routes.proofs.Paths.Sweep.{swept-holds}
 use Rattle.routes.proofs.Routes.Write.{HoldsRoute, routes-write}
 
-module _ (left look : ℕ → ℕ → ℕ) (laws : LeftLaws left) (k s t : ℕ) (less : t < s) (alive : Alive left k t s) (positive : 1 ≤ t)
-    (small : k ≤ 32) (agree : (i x : ℕ) → 1 ≤ i → i ≤ k → look i x ≡ left i x)
+module _ (left : ℕ → ℕ → ℕ) (look : ℕ → ℕ → Entry) (laws : LeftLaws left) (k s t : ℕ) (less : t < s) (alive : Alive left k t s) (positive : 1 ≤ t)
+    (small : k ≤ 32) (agree : (i x : ℕ) → 1 ≤ i → i ≤ k → look i x .place ≡ left i x)
     (n : ℕ) (few : n ≤ 1000) (high : s ≤ n) (a b : List ℕ) (noA : NoPaths n a) (noB : NoPaths n b) where
   abbrev out : Sides
   out = sweptIn look k s t a b
@@ -68,12 +69,13 @@ module _ (left look : ℕ → ℕ → ℕ) (laws : LeftLaws left) (k s t : ℕ) 
     shortB : length (closed .restB) ≤ 1000
     shortB = omega (arith, trail-length left laws k t (closed .meet) (closed .restB) (closed .trailB))
 
-    falling : HoldsRoute (out .sideA) (out .sideB) (suc h) (getD (sweepRoutes left k s t) h [])
+    pub falling : HoldsRoute (out .sideA) (out .sideB) (suc h) (getD (sweepRoutes left k s t) h [])
     falling =
         record {
           meet = closed .meet;
           down = closed .before ∷ closed .restA;
           up = closed .restB;
+          some = closed .above;
           shape = shape;
           heldDown = heldA;
           heldUp = heldB;
@@ -81,12 +83,13 @@ module _ (left look : ℕ → ℕ → ℕ) (laws : LeftLaws left) (k s t : ℕ) 
           shortUp = shortB;
         }
 
-    turned : HoldsRoute (out .sideB) (out .sideA) (suc h) (reverse (getD (sweepRoutes left k s t) h []))
+    pub turned : HoldsRoute (out .sideB) (out .sideA) (suc h) (reverse (getD (sweepRoutes left k s t) h []))
     turned =
         record {
           meet = closed .meet;
           down = closed .restB;
           up = closed .before ∷ closed .restA;
+          some = closed .above;
           shape = ap reverse shape ∙ reverseAux-reverseAux-nil (closed .before ∷ closed .restA) (closed .meet ∷ closed .restB);
           heldDown = heldB;
           heldUp = heldA;
@@ -94,7 +97,7 @@ module _ (left look : ℕ → ℕ → ℕ) (laws : LeftLaws left) (k s t : ℕ) 
           shortUp = shortA;
         }
 
-  routes-length : length (sweepRoutes left k s t) ≡ k
+  pub routes-length : length (sweepRoutes left k s t) ≡ k
   unfolding sweepRoutes
   routes-length = length-map (sweep left k s t) slotRoute ∙ sweep-length left k s t
 

@@ -62,34 +62,36 @@ pub record HoldsRoute (front back : List ℕ) (i : ℕ) (route : List ℕ) : Typ
   pub meet : ℕ
   pub down : List ℕ
   pub up : List ℕ
+  pub some : 0 < meet
   pub shape : route ≡ reverseAux down (meet ∷ up)
   pub heldDown : HoldsPath front i (meet ∷ down)
   pub heldUp : HoldsPath back i (meet ∷ up)
   pub shortDown : length down ≤ 1000
   pub shortUp : length up ≤ 1000
 
+module _ (front back : List ℕ) (i : ℕ) (route : List ℕ) (h : HoldsRoute front back i route) where
+  pub countDown : countIn front i ≡ length (h .down)
+  unfolding countIn
+  countDown = chain-count front 1000 (secondIn front i) (h .down) (h .shortDown) (h .heldDown .1)
+
+  pub countUp : countIn back i ≡ length (h .up)
+  unfolding countIn
+  countUp = chain-count back 1000 (secondIn back i) (h .up) (h .shortUp) (h .heldUp .1)
+
+  route-counts : routeLength front back i ≡ length route
+  unfolding routeLength
+  route-counts =
+      omega (arith, countDown, countUp, ap length (h .shape), length-reverseAux (h .down) (h .meet ∷ h .up))
+
 module _ (front back order : List ℕ) where
   module _ (i : ℕ) (route : List ℕ) (h : HoldsRoute front back i route) where
-    countDown : countIn front i ≡ length (h .down)
-    unfolding countIn
-    countDown = chain-count front 1000 (secondIn front i) (h .down) (h .shortDown) (h .heldDown .1)
-
-    countUp : countIn back i ≡ length (h .up)
-    unfolding countIn
-    countUp = chain-count back 1000 (secondIn back i) (h .up) (h .shortUp) (h .heldUp .1)
-
-    route-counts : routeLength front back i ≡ length route
-    unfolding routeLength
-    route-counts =
-        omega (arith, countDown, countUp, ap length (h .shape), length-reverseAux (h .down) (h .meet ∷ h .up))
-
     route-writes : (from : ℕ) (relays : List ℕ) → writeRoute front back order i from relays ≡ sets relays from (map (relayAt order) route)
     unfolding writeRoute
     route-writes from relays =
         let f : ℕ → ℕ = relayAt order in
         let low : List ℕ = writeDown front order from (length (h .down)) (secondIn front i) relays in
         let at : ℕ = from + length (h .down) in
-        rw (countDown, countUp, h .heldDown .0)
+        rw (countDown front back i route h, countUp front back i route h, h .heldDown .0)
         (up-writes back order (at + 1) (secondIn back i) (h .up) (set low at (f (h .meet))) (h .heldUp .1)
         ∙ ap (λ (z : ℕ). sets (set low at (f (h .meet))) z (map f (h .up))) (add-one at)
         ∙ down-writes front order from (secondIn front i) (h .down) (f (h .meet) ∷ map f (h .up)) relays (h .heldDown .1)
@@ -108,7 +110,7 @@ module _ (front back order : List ℕ) where
       let f : ℕ → ℕ = relayAt order in
       let size : ℕ = length route in
       let total : from + size + length (joinAll routes) ≡ from + length (route ++ joinAll routes) = omega (arith, length-append route (joinAll routes)) in
-      ap (λ (z : ℕ). writeFrom front back order (length routes) (i + 1) (from + z) (set counts i z) (writeRoute front back order (i + 1) from relays)) (route-counts (i + 1) route here)
+      ap (λ (z : ℕ). writeFrom front back order (length routes) (i + 1) (from + z) (set counts i z) (writeRoute front back order (i + 1) from relays)) (route-counts front back (i + 1) route here)
       ∙ ap (writeFrom front back order (length routes) (i + 1) (from + size) (set counts i size)) (route-writes (i + 1) route here from relays)
       ∙ routes-write routes (i + 1) (from + size) (set counts i size) (sets relays from (map f route))
       (λ h less. subst (λ (z : ℕ). HoldsRoute front back z (getD routes h [])) (omega arith) (held (suc h) (omega arith)))
