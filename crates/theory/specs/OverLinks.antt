@@ -73,14 +73,14 @@ module _ (lows highs : List ℕ) where
     over-holds picked [] some along = omega arith
     over-holds picked (a ∷ rest) some along = over-from picked a rest along
 
-module _ (order lows highs : List ℕ) (arranged : Arranged order lows highs) where
-  -- The link between the relays at two places.
-  abbrev pub placeLink : (x y : ℕ) → ℕ
-  placeLink x y = pairLink lows highs (relayAt order x) (relayAt order y)
+-- The link between the relays at two places of an order.
+abbrev pub placeLink : (order lows highs : List ℕ) (x y : ℕ) → ℕ
+placeLink order lows highs x y = pairLink lows highs (relayAt order x) (relayAt order y)
 
-  -- Each look-up gives it.
+module _ (order lows highs : List ℕ) (arranged : Arranged order lows highs) where
+  -- Each look-up gives the link between its two places.
   pub look-gives : (h x : ℕ) → 0 < entryIn order lows highs h x .place
-      → entryIn order lows highs h x .link ≡ placeLink (entryIn order lows highs h x .place) x
+      → entryIn order lows highs h x .link ≡ placeLink order lows highs (entryIn order lows highs h x .place) x
   unfolding leftEntry
   look-gives h x some =
       let e : EntryLink order lows highs h x (entryIn order lows highs h x .link) = entry-link-in order lows highs arranged h x some in
@@ -89,10 +89,10 @@ module _ (order lows highs : List ℕ) (arranged : Arranged order lows highs) wh
 
   -- The links of the routes between two places.
   pub overs-in : (k p q : ℕ) → p ≢ q → AliveBetween (leftIn order lows highs) k p q
-      → oversBetween (entryIn order lows highs) k p q ≡ map (stepsOf placeLink) (routesBetween (leftIn order lows highs) k p q)
+      → oversBetween (entryIn order lows highs) k p q ≡ map (stepsOf (placeLink order lows highs)) (routesBetween (leftIn order lows highs) k p q)
   unfolding leftEntry
   overs-in k p q differ alive =
-      over-steps (entryIn order lows highs) placeLink
+      over-steps (entryIn order lows highs) (placeLink order lows highs)
       (λ x y. pair-turn lows highs (relayAt order x) (relayAt order y)) look-gives (arranged .laws) k p q differ alive
 
 -- The base: the links of Route's routes.

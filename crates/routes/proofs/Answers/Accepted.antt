@@ -1,5 +1,5 @@
 -- Route on an accepted table: `oneTreeIn` over the left table is the definition's `oneTreeOf`, and where it holds,
--- `betweenIn` writes the definition's `routesOf`.
+-- `betweenIn` writes the definition's `routesOf` and `linksBetween` its `oversOf`.
 use Prim.Native.Nat.{ℕ, pred, _+_, _-_, _*_, _≤_, _<_, max}
 use mathlib.Core.Bool.{true}
 use mathlib.Core.List.{List, map}
@@ -12,24 +12,31 @@ use lib.ListN.{length, getD, length-map}
 use lib.Seq.{sets}
 use Rattle.definitions.specs.Lists.{overwrite, joinAll}
 use Rattle.definitions.specs.Order.{orderOf, placeOf, relayAt}
+use Rattle.definitions.specs.Forests.{Entry}
 use Rattle.definitions.specs.Route.{leftOf, routesBetween, routesOf, oneTreeOf}
+use Rattle.definitions.specs.Over.{entryOf, oversOf}
 use Rattle.definitions.specs.Network.{Accepted}
 use Rattle.lists.specs.Overwritten.{getD-overwrite-zeros}
 use Rattle.lists.specs.Stores.{sets-overwrite}
+use Rattle.lists.specs.Steps.{stepsOf}
 use Rattle.lists.specs.Cuts.{lengths-map, length-joinAll-map}
 use Rattle.theory.specs.Trees.{Alive}
 use Rattle.theory.specs.Accepted.{accepted}
 use Rattle.theory.specs.Left.{left-laws}
 use Rattle.theory.specs.Places.{relay-placed}
-use Rattle.theory.specs.RelayTrees.{places-differ}
+use Rattle.theory.specs.Arranged.{base-arranged}
+use Rattle.theory.specs.RelayTrees.{AliveBetween, places-differ}
 use Rattle.theory.specs.PlaceRoutes.{RoutesWithin}
 use Rattle.theory.specs.SweepRoutes.{routes-between}
+use Rattle.theory.specs.OverLinks.{placeLink, pair-turn, overs-in}
 use Rattle.forests.specs.Left.{LeftTable}
-use Rattle.routes.specs.Side.{tableLeft, NoPaths}
+use Rattle.routes.specs.Side.{tableEntry, NoPaths}
 use Rattle.routes.specs.Writing.{Written, written}
-use Rattle.routes.specs.Between.{oneTreeIn, betweenIn}
+use Rattle.routes.specs.Between.{oneTreeIn, betweenIn, linksBetween}
 use Rattle.routes.proofs.Routes.Between.{routed-down, routed-up}
-use Rattle.routes.proofs.Answers.OneTree.{table-left, one-tree-same, one-tree-falls, one-tree-rises}
+use Rattle.routes.proofs.Routes.Links.{linked-down, linked-up}
+use Rattle.routes.proofs.Answers.Table.{table-left, table-link}
+use Rattle.routes.proofs.Answers.OneTree.{one-tree-same, one-tree-falls, one-tree-rises}
 
 -- The order's list in the front of a list of zeros gives the same relays.
 pub front-relays : (order list : List ℕ) → ((i : ℕ) → getD list i 0 ≡ 0) → relayAt (overwrite order list) ≡ relayAt order
@@ -37,15 +44,15 @@ unfolding relayAt
 front-relays order list none = fun-ext λ v. getD-overwrite-zeros order list none (pred v)
 
 module _ (n : ℕ) (lows highs : List ℕ) (k from to : ℕ) (ok : Accepted n lows highs) (one : 1 ≤ k) (small : k ≤ 32)
-    (source : from < n) (goal : to < n) (differ : from ≢ to) (old table : List ℕ) (made : LeftTable n k lows highs old table) where
+    (source : from < n) (goal : to < n) (differ : from ≢ to) (old table ends : List ℕ) (made : LeftTable n k lows highs old table ends) where
   abbrev p : ℕ
   p = placeOf (orderOf n lows highs) from
 
   abbrev q : ℕ
   q = placeOf (orderOf n lows highs) to
 
-  abbrev look : ℕ → ℕ → ℕ
-  look = tableLeft table n
+  abbrev look : ℕ → ℕ → Entry
+  look = tableEntry table ends n
 
   abbrev left : ℕ → ℕ → ℕ
   left = leftOf n lows highs
@@ -53,8 +60,8 @@ module _ (n : ℕ) (lows highs : List ℕ) (k from to : ℕ) (ok : Accepted n lo
   apart : p ≢ q
   apart = places-differ n lows highs from to source goal differ
 
-  agree : (i x : ℕ) → 1 ≤ i → i ≤ k → look i x ≡ left i x
-  agree i x positive le = table-left n k lows highs old table made i x positive le
+  agree : (i x : ℕ) → 1 ≤ i → i ≤ k → look i x .place ≡ left i x
+  agree i x positive le = table-left n k lows highs ok old table ends made i x positive le
 
   pub tree-tested : oneTreeIn look k p q ≡ oneTreeOf n lows highs k from to
   unfolding oneTreeOf
@@ -81,12 +88,15 @@ module _ (n : ℕ) (lows highs : List ℕ) (k from to : ℕ) (ok : Accepted n lo
         one-tree-rises left look (left-laws n lows highs) k p q (λ x. agree k x one (omega arith))
         (relay-placed n lows highs from source .0) (relay-placed n lows highs to goal .0) apart less joins
 
+    alive : AliveBetween left k p q
+    alive =
+        by-cases (decLt q p)
+        (λ less x above upto. falls less x (omega arith) (omega arith))
+        (λ more x above upto. rises (omega arith) x (omega arith) (omega arith))
+
     within : RoutesWithin left k (max p q) p q routes
     within =
-        routes-between left (left-laws n lows highs) k p q one (relay-placed n lows highs from source .0) (relay-placed n lows highs to goal .0) apart
-        (by-cases (decLt q p)
-        (λ less x above upto. falls less x (omega arith) (omega arith))
-        (λ more x above upto. rises (omega arith) x (omega arith) (omega arith)))
+        routes-between left (left-laws n lows highs) k p q one (relay-placed n lows highs from source .0) (relay-placed n lows highs to goal .0) apart alive
 
     abbrev placesWritten : Written
     placesWritten =
@@ -129,3 +139,33 @@ module _ (n : ℕ) (lows highs : List ℕ) (k from to : ℕ) (ok : Accepted n lo
         (omega (arith, length-map named length, length-map routes (map (relayAt (orderOf n lows highs))), within .number)))
         ∙ ap (λ (l : List ℕ). written (overwrite (map length named) counts) l (length (joinAll routes))) (sets-overwrite (joinAll named) relays longest)
         ∙ ap (written (overwrite (map length named) counts) (overwrite (joinAll named) relays)) (sym (length-joinAll-map (relayAt (orderOf n lows highs)) routes))
+
+    -- The links of the same routes.
+    module _ (links : List ℕ) where
+      abbrev between : ℕ → ℕ → ℕ
+      between = placeLink (orderOf n lows highs) lows highs
+
+      turn : (x y : ℕ) → between x y ≡ between y x
+      turn x y = pair-turn lows highs (relayAt (orderOf n lows highs) x) (relayAt (orderOf n lows highs) y)
+
+      swept-links : linksBetween a b look k p q links ≡ sets links 0 (joinAll (map (stepsOf between) routes))
+      unfolding linksBetween routesBetween
+      swept-links =
+          by-cases (decLt q p)
+          (λ less.
+          rw (lt-ltb q p less)
+          (linked-down left look (left-laws n lows highs) k p q less (falls less) (relay-placed n lows highs to goal .0) small agree between turn
+          (table-link n k lows highs ok old table ends made)
+          n (accepted n lows highs ok .few) (relay-placed n lows highs from source .1) a b noA noB links))
+          (λ more.
+          rw (le-ltb q p (omega arith))
+          (linked-up left look (left-laws n lows highs) k q p (omega (arith, apart)) (rises (omega (arith, apart))) (relay-placed n lows highs from source .0) small agree between turn
+          (table-link n k lows highs ok old table ends made)
+          n (accepted n lows highs ok .few) (relay-placed n lows highs to goal .1) a b noA noB links))
+
+      pub links-written : linksBetween a b look k p q links ≡ sets links 0 (joinAll (oversOf n lows highs k from to))
+      unfolding oversOf entryOf leftOf
+      links-written =
+          swept-links
+          ∙ ap (λ (l : List (List ℕ)). sets links 0 (joinAll l))
+          (sym (overs-in (orderOf n lows highs) lows highs (base-arranged n lows highs ok) k p q apart alive))

@@ -3,28 +3,29 @@
 use Prim.Native.Nat.{ℕ, _+_, _*_, _≤_, _<_}
 use mathlib.Core.Bool.{Bool, true, false}
 use mathlib.Core.List.{List, [], _∷_, _++_, map, append-nil}
-use mathlib.Core.Path.{_≡_, refl, _∙_, ap}
+use mathlib.Core.Path.{_≡_, refl, _∙_, ap, ap₂}
 use native.Mathlib.Nat.{zero-add}
 use native.Mathlib.Omega.{arith}
 use lib.ListN.{length, drop, getD, replicate, length-replicate}
-use lib.Seq.{drop-length}
+use lib.Seq.{drop-length, sets}
 use Rattle.definitions.specs.Outcome.{pick, refused, done}
 use Rattle.definitions.specs.Lists.{overwrite, zeroed, joinAll}
 use Rattle.definitions.specs.Network.{linked, Accepted}
 use Rattle.definitions.specs.Order.{orderOf, placeOf, relayAt, placesOf}
-use Rattle.definitions.specs.Forests.{forestsOf, forestOf}
+use Rattle.definitions.specs.Forests.{forestsOf, forestOf, Entry}
 use Rattle.definitions.specs.Route.{routesOf, oneTreeOf}
+use Rattle.definitions.specs.Over.{oversOf}
 use Rattle.lists.specs.Tables.{length-table, getD-table, getD-zeros}
 use Rattle.lists.specs.Overwritten.{getD-overwrite}
 use Rattle.theory.specs.Places.{relay-placed}
 use Rattle.forests.specs.Scan.{Scannable, Scanned}
 use Rattle.forests.specs.Left.{LeftInput}
 use Rattle.forests.proofs.ClearLaws.{cleared}
-use Rattle.routes.specs.Side.{priorStart, tableLeft}
+use Rattle.routes.specs.Side.{priorStart, tableEntry}
 use Rattle.routes.specs.Writing.{Written, written}
-use Rattle.routes.specs.Between.{oneTreeIn, betweenIn}
+use Rattle.routes.specs.Between.{oneTreeIn, betweenIn, linksBetween}
 use Rattle.routes.specs.Answers.{Answered, answered, answerIn, treeAnswer, Routable, RouteArrays, Prepared}
-use Rattle.routes.proofs.Answers.Accepted.{front-relays, tree-tested, routes-written}
+use Rattle.routes.proofs.Answers.Accepted.{front-relays, tree-tested, routes-written, links-written}
 
 -- Lists of zeros, in one of the two sizes.
 zeros-at : (size : ℕ) (list : List ℕ) → list ≡ replicate size 0 → (i : ℕ) → getD list i 0 ≡ 0
@@ -33,7 +34,7 @@ zeros-at size list e i = ap (λ (l : List ℕ). getD l i 0) e ∙ getD-zeros siz
 zeros-long : (size : ℕ) (list : List ℕ) → list ≡ replicate size 0 → length list ≡ size
 zeros-long size list e = ap length e ∙ length-replicate {A = ℕ} size 0
 
-pub route-arrays : (size links wide n : ℕ) {lows order places numbers a b : List ℕ} → n ≤ size → length lows ≤ links → priorStart + n < wide
+pub route-arrays : (size links wide n : ℕ) {lows order places numbers a b : List ℕ} → n ≤ size → length lows ≤ links → priorStart + (2 * n + 1) < wide
     → order ≡ replicate size 0 → places ≡ replicate size 0 → numbers ≡ replicate links 0 → a ≡ replicate wide 0 → b ≡ replicate wide 0
     → RouteArrays n lows order places numbers a b
 route-arrays size links wide n {lows} {order} {places} {numbers} {a} {b} few short broad eo ep en ea eb =
@@ -42,8 +43,8 @@ route-arrays size links wide n {lows} {order} {places} {numbers} {a} {b} few sho
       placeRoom = omega (arith, zeros-long size places ep);
       linkRoom = omega (arith, zeros-long links numbers en);
       noOrder = zeros-at size order eo;
-      noA = record { room = omega (arith, zeros-long wide a ea); none = zeros-at wide a ea };
-      noB = record { room = omega (arith, zeros-long wide b eb); none = zeros-at wide b eb };
+      noA = record { room = omega (arith, zeros-long wide a ea); empty = zeros-at wide a ea };
+      noB = record { room = omega (arith, zeros-long wide b eb); empty = zeros-at wide b eb };
     }
 
 -- The places' list gives the place of each relay.
@@ -75,25 +76,25 @@ table-asks n k lows highs order order′ places places′ numbers numbers′ tab
       zeros = zeros;
     }
 
-module _ (a b : List ℕ) (left : ℕ → ℕ → ℕ) (k p q : ℕ) (order counts relays : List ℕ) (test : Bool) (e : test ≡ oneTreeIn left k p q) where
-  pub answer-some : (counts′ relays′ : List ℕ) (upto : ℕ) → test ≡ true → written counts′ relays′ upto ≡ betweenIn a b left k p q order counts relays
-      → answered counts′ relays′ (done (upto ∷ [])) ≡ answerIn a b left k p q order counts relays
+module _ (a b : List ℕ) (look : ℕ → ℕ → Entry) (k p q : ℕ) (order counts relays links : List ℕ) (test : Bool) (e : test ≡ oneTreeIn look k p q) where
+  pub answer-some : (counts′ relays′ links′ : List ℕ) (upto : ℕ) → test ≡ true
+      → written counts′ relays′ upto ≡ betweenIn a b look k p q order counts relays → links′ ≡ linksBetween a b look k p q links
+      → answered counts′ relays′ links′ (done (upto ∷ [])) ≡ answerIn a b look k p q order counts relays links
   unfolding answerIn
-  answer-some counts′ relays′ upto passes wrote =
-      rw (← e, passes) (ap (λ (w : Written). answered (w .countList) (w .relayList) (done (w .upto ∷ []))) wrote)
+  answer-some counts′ relays′ links′ upto passes wrote linked =
+      rw (← e, passes, ← linked) (ap (λ (w : Written). answered (w .countList) (w .relayList) links′ (done (w .upto ∷ []))) wrote)
 
-  pub answer-none : test ≡ false → answered counts relays (refused 13 0) ≡ answerIn a b left k p q order counts relays
+  pub answer-none : test ≡ false → answered counts relays links (refused 13 0) ≡ answerIn a b look k p q order counts relays links
   unfolding answerIn
   answer-none fails = rw (← e, fails)
 
 -- The answer over the left table is that of the definition.
-module _ (n : ℕ) (lows highs : List ℕ) (k from to : ℕ) (counts relays scratch : List ℕ) (asked : Routable n lows highs k from to counts relays scratch)
-    (order order′ places places′ numbers numbers′ table table′ : List ℕ)
-    (made : Prepared n k lows highs order order′ places places′ numbers numbers′ table table′)
+module _ (n : ℕ) (lows highs : List ℕ) (k from to : ℕ) (counts relays links scratch : List ℕ) (asked : Routable n lows highs k from to counts relays scratch)
+    (order order′ places places′ numbers ends table table′ : List ℕ)
+    (made : Prepared n k lows highs order order′ places places′ ends table table′)
     (a b : List ℕ) (lent : RouteArrays n lows order places numbers a b) where
   relays-same : relayAt order′ ≡ relayAt (orderOf n lows highs)
-  relays-same =
-      ap relayAt (made .scanned .theOrder) ∙ front-relays (orderOf n lows highs) order (lent .noOrder)
+  relays-same = ap relayAt (made .theOrder) ∙ front-relays (orderOf n lows highs) order (lent .noOrder)
 
   abbrev P : ℕ
   P = placeOf (orderOf n lows highs) from
@@ -101,46 +102,54 @@ module _ (n : ℕ) (lows highs : List ℕ) (k from to : ℕ) (counts relays scra
   abbrev Q : ℕ
   Q = placeOf (orderOf n lows highs) to
 
+  abbrev look : ℕ → ℕ → Entry
+  look = tableEntry table′ ends n
+
   abbrev routes : List (List ℕ)
   routes = routesOf n lows highs k from to
 
   abbrev all : Written
-  all = betweenIn a b (tableLeft table′ n) k P Q order′ counts relays
+  all = betweenIn a b look k P Q order′ counts relays
 
-  over-places : answerIn a b (tableLeft table′ n) k P Q order′ counts relays ≡ treeAnswer n lows highs k from to counts relays
+  over-places : answerIn a b look k P Q order′ counts relays links ≡ treeAnswer n lows highs k from to counts relays links
   unfolding answerIn treeAnswer
-  over-places = go (oneTreeIn (tableLeft table′ n) k P Q) refl
+  over-places = go (oneTreeIn look k P Q) refl
     where
-      tree : oneTreeIn (tableLeft table′ n) k P Q ≡ oneTreeOf n lows highs k from to
+      tree : oneTreeIn look k P Q ≡ oneTreeOf n lows highs k from to
       tree =
           tree-tested n lows highs k from to (asked .accepted) (asked .one) (asked .few) (asked .source) (asked .goal) (asked .differ)
-          table table′ (made .theTable)
+          table table′ ends (made .theTable)
 
-      go : (b : Bool) → oneTreeIn (tableLeft table′ n) k P Q ≡ b
-          → pick (oneTreeIn (tableLeft table′ n) k P Q) (answered (all .countList) (all .relayList) (done (all .upto ∷ []))) (answered counts relays (refused 13 0))
+      go : (b : Bool) → oneTreeIn look k P Q ≡ b
+          → pick (oneTreeIn look k P Q)
+          (answered (all .countList) (all .relayList) (linksBetween a b look k P Q links) (done (all .upto ∷ [])))
+          (answered counts relays links (refused 13 0))
           ≡ pick (oneTreeOf n lows highs k from to)
-          (answered (overwrite (map length routes) counts) (overwrite (joinAll routes) relays) (done (length (joinAll routes) ∷ [])))
-          (answered counts relays (refused 13 0))
+          (answered (overwrite (map length routes) counts) (overwrite (joinAll routes) relays)
+          (sets links 0 (joinAll (oversOf n lows highs k from to))) (done (length (joinAll routes) ∷ [])))
+          (answered counts relays links (refused 13 0))
       go true e =
           rw (← tree, e)
-          (ap (λ (w : Written). answered (w .countList) (w .relayList) (done (w .upto ∷ [])))
+          (ap₂ (λ (w : Written) (l : List ℕ). answered (w .countList) (w .relayList) l (done (w .upto ∷ [])))
           (routes-written n lows highs k from to (asked .accepted) (asked .one) (asked .few) (asked .source) (asked .goal) (asked .differ)
-          table table′ (made .theTable) e order′ counts relays relays-same a b (lent .noA) (lent .noB) (asked .countRoom) (asked .relayRoom)))
+          table table′ ends (made .theTable) e order′ counts relays relays-same a b (lent .noA) (lent .noB) (asked .countRoom) (asked .relayRoom))
+          (links-written n lows highs k from to (asked .accepted) (asked .one) (asked .few) (asked .source) (asked .goal) (asked .differ)
+          table table′ ends (made .theTable) e order′ counts relays relays-same a b (lent .noA) (lent .noB) (asked .countRoom) (asked .relayRoom) links))
       go false e = rw (← tree, e)
 
   pub answers-tree : (p q : ℕ) (result : Answered) → p ≡ getD places′ from 0 → q ≡ getD places′ to 0
-      → result ≡ answerIn a b (tableLeft table′ n) k p q order′ counts relays → result ≡ treeAnswer n lows highs k from to counts relays
+      → result ≡ answerIn a b look k p q order′ counts relays links → result ≡ treeAnswer n lows highs k from to counts relays links
   answers-tree p q result ep eq e =
-      let atP : p ≡ P = ep ∙ place-entry n lows highs places places′ (made .scanned .thePlaces) from (asked .source) in
-      let atQ : q ≡ Q = eq ∙ place-entry n lows highs places places′ (made .scanned .thePlaces) to (asked .goal) in
-      e ∙ ap (λ (x : ℕ). answerIn a b (tableLeft table′ n) k x q order′ counts relays) atP
-      ∙ ap (λ (x : ℕ). answerIn a b (tableLeft table′ n) k P x order′ counts relays) atQ ∙ over-places
+      let atP : p ≡ P = ep ∙ place-entry n lows highs places places′ (made .thePlaces) from (asked .source) in
+      let atQ : q ≡ Q = eq ∙ place-entry n lows highs places places′ (made .thePlaces) to (asked .goal) in
+      e ∙ ap (λ (x : ℕ). answerIn a b look k x q order′ counts relays links) atP
+      ∙ ap (λ (x : ℕ). answerIn a b look k P x order′ counts relays links) atQ ∙ over-places
 
   -- The two places are places.
   pub places-some : (p q : ℕ) → p ≡ getD places′ from 0 → q ≡ getD places′ to 0 → (0 < p) × (0 < q) × (k ≤ 32)
   places-some p q ep eq =
-      let atP : p ≡ P = ep ∙ place-entry n lows highs places places′ (made .scanned .thePlaces) from (asked .source) in
-      let atQ : q ≡ Q = eq ∙ place-entry n lows highs places places′ (made .scanned .thePlaces) to (asked .goal) in
+      let atP : p ≡ P = ep ∙ place-entry n lows highs places places′ (made .thePlaces) from (asked .source) in
+      let atQ : q ≡ Q = eq ∙ place-entry n lows highs places places′ (made .thePlaces) to (asked .goal) in
       omega (arith, atP, atQ, relay-placed n lows highs from (asked .source) .0, relay-placed n lows highs to (asked .goal) .0, asked .few)
 
 -- A list cleared as far as it goes, which was as long as another.

@@ -1,8 +1,6 @@
--- The left table gives left(i, v) for the indices 1 to k, and `oneTreeIn` on it is the definition's test of one tree, which
--- decides refusal 13.
+-- `oneTreeIn` over a look-up that gives the places of `left` is the definition's test of one tree, which decides refusal 13.
 use Prim.Native.Nat.{ℕ, zero, suc, _+_, _-_, _≤_, _<_}
 use mathlib.Core.Bool.{Bool, true, false}
-use mathlib.Core.List.{List}
 use mathlib.Core.Logic.{_↔_, _≢_, by-cases}
 use mathlib.Core.Path.{_≡_, refl, sym, _∙_, subst}
 use native.Mathlib.Decide.{ℕ-discrete, decLt}
@@ -10,56 +8,35 @@ use native.Mathlib.Omega.{arith}
 use lib.Dec.{eqb}
 use borrow.Author.Tests.{eqb-false, eq-eqb, ne-eqb, lt-ltb, le-ltb}
 use Rattle.definitions.specs.Outcome.{pick}
-use Rattle.definitions.specs.Forests.{oneTree}
-use Rattle.definitions.specs.Route.{leftOf}
+use Rattle.definitions.specs.Forests.{oneTree, Entry}
 use Rattle.lists.specs.Searches.{clash}
 use Rattle.lists.specs.Tests.{tests-same}
 use Rattle.theory.specs.LeftLaws.{LeftLaws}
 use Rattle.theory.specs.Trees.{Alive, oneTree-alive, oneTree-sym}
-use Rattle.theory.specs.Left.{left-laws, leftOf-range}
-use Rattle.forests.specs.Left.{LeftTable}
-use Rattle.routes.specs.Side.{tableLeft}
 use Rattle.routes.specs.Between.{aliveIn, oneTreeIn}
 
--- Look-ups in the left table.
-module _ (n k : ℕ) (lows highs old table : List ℕ) (made : LeftTable n k lows highs old table) where
-  none : (i v : ℕ) → (0 < leftOf n lows highs i v → ⊥) → leftOf n lows highs i v ≡ 0
-  none i v off = by-cases (decLt 0 (leftOf n lows highs i v)) (λ some. absurd (off some)) (λ zero′. omega arith)
-
-  pub table-left : (i v : ℕ) → 1 ≤ i → i ≤ k → tableLeft table n i v ≡ leftOf n lows highs i v
-  unfolding tableLeft
-  table-left i v one le =
-      rw (ne-eqb i 0 (λ e. omega arith))
-      (by-cases (ℕ-discrete v 0)
-      (λ at. rw (eq-eqb v 0 at) (sym (none i v (λ some. omega (arith, left-laws n lows highs .below i v some)))))
-      (λ off.
-      rw (ne-eqb v 0 off)
-      (by-cases (decLt n v)
-      (λ past. rw (lt-ltb n v past) (sym (none i v (λ some. omega (arith, leftOf-range n lows highs i v some)))))
-      (λ within. rw (le-ltb n v (omega arith)) (made .entry i v one le (omega arith) (omega arith))))))
-
 -- The test over the places after t is that of `Alive`.
-module _ (left look : ℕ → ℕ → ℕ) (k : ℕ) (same : (x : ℕ) → look k x ≡ left k x) where
+module _ (left : ℕ → ℕ → ℕ) (look : ℕ → ℕ → Entry) (k : ℕ) (same : (x : ℕ) → look k x .place ≡ left k x) where
   alive-from : (t gap : ℕ) → aliveIn look k t gap ≡ true → Alive left k t (t + gap)
   unfolding aliveIn
   alive-from t zero e = λ x above upto. absurd (omega arith)
-  alive-from t (suc gap) e = go (eqb (look k (t + suc gap)) 0) refl e (alive-from t gap)
+  alive-from t (suc gap) e = go (eqb (look k (t + suc gap) .place) 0) refl e (alive-from t gap)
     where
-      go : (b : Bool) → eqb (look k (t + suc gap)) 0 ≡ b → pick b false (aliveIn look k t gap) ≡ true
+      go : (b : Bool) → eqb (look k (t + suc gap) .place) 0 ≡ b → pick b false (aliveIn look k t gap) ≡ true
           → (aliveIn look k t gap ≡ true → Alive left k t (t + gap)) → Alive left k t (t + suc gap)
       go true eb h deeper = absurd (clash h refl)
       go false eb h deeper = λ x above upto.
           by-cases (ℕ-discrete x (t + suc gap))
           (λ at.
           subst (λ (y : ℕ). 0 < left k y) (sym at)
-          (omega (arith, same (t + suc gap), eqb-false (look k (t + suc gap)) 0 eb)))
+          (omega (arith, same (t + suc gap), eqb-false (look k (t + suc gap) .place) 0 eb)))
           (λ off. deeper h x above (omega arith))
 
   alive-to : (t gap : ℕ) → Alive left k t (t + gap) → aliveIn look k t gap ≡ true
   unfolding aliveIn
   alive-to t zero alive = refl
   alive-to t (suc gap) alive =
-      rw (ne-eqb (look k (t + suc gap)) 0 (λ e. omega (arith, same (t + suc gap), alive (t + suc gap) (omega arith) (omega arith))))
+      rw (ne-eqb (look k (t + suc gap) .place) 0 (λ e. omega (arith, same (t + suc gap), alive (t + suc gap) (omega arith) (omega arith))))
       (alive-to t gap (λ x above upto. alive x above (omega arith)))
 
   alive-test : (t s : ℕ) → t ≤ s → (aliveIn look k t (s - t) ≡ true) ↔ Alive left k t s
@@ -69,7 +46,7 @@ module _ (left look : ℕ → ℕ → ℕ) (k : ℕ) (same : (x : ℕ) → look 
         λ alive. alive-to t (s - t) (subst (λ (x : ℕ). Alive left k t x) (sym e) alive),
       )
 
-module _ (left look : ℕ → ℕ → ℕ) (laws : LeftLaws left) (k p q : ℕ) (same : (x : ℕ) → look k x ≡ left k x)
+module _ (left : ℕ → ℕ → ℕ) (look : ℕ → ℕ → Entry) (laws : LeftLaws left) (k p q : ℕ) (same : (x : ℕ) → look k x .place ≡ left k x)
     (oneP : 1 ≤ p) (oneQ : 1 ≤ q) (differ : p ≢ q) where
   below : (t s : ℕ) → 1 ≤ t → t < s → aliveIn look k t (s - t) ≡ oneTree left k t s
   below t s one less =
