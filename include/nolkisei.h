@@ -2,7 +2,8 @@
  * Link libnolkisei.a (rt staticlib nolkisei); it needs memset alone of libc, allocates nothing and keeps nothing between calls.
  *
  * A network has n relays, numbered from 0, and m links, each between two different relays and no two between the same. A table
- * is two lists, lows and highs: link i joins relay lows[i] to relay highs[i], lows[i] below highs[i].
+ * is two lists, lows and highs: link i joins relay lows[i] to relay highs[i], lows[i] below highs[i]. i, counted from 0, is the
+ * link's index.
  *
  * The relays have an order. Relay 0 is first; next comes always the relay not yet placed that has the most links to placed ones,
  * of equals the one with the lowest number. A relay's place, 1 to n, is where it stands in the order. A relay's link to the i-th
@@ -44,13 +45,14 @@ extern "C" {
 #define NOLKISEI_ROUTES 32
 
 /* Lengths that are enough for every network: of a text, of what nolkisei_plan and nolkisei_keep print, all in bytes, and of the
- * relays and the scratch of nolkisei_route, in entries.
+ * relays, the links and the scratch of nolkisei_route and nolkisei_route_links, in entries.
  * The longest text has just NOLKISEI_TEXT bytes. What is proved of a sheet and of a list is that they fit into NOLKISEI_SHEET and
- * NOLKISEI_LIST; counted, a sheet has at most 4,447 bytes and a list at most 58,938. */
+ * NOLKISEI_LIST; counted, a sheet has at most 9,821 bytes and a list at most 58,938. */
 #define NOLKISEI_TEXT 45039
-#define NOLKISEI_SHEET 4608
+#define NOLKISEI_SHEET 9935
 #define NOLKISEI_LIST 66050
 #define NOLKISEI_ROUTE_RELAYS 1062
+#define NOLKISEI_ROUTE_LINKS 1030
 #define NOLKISEI_ROUTE_SCRATCH 32000
 
 /* Enough stack for any call, beside what the caller uses. Measured, not proved: tests/stack.c fills a thread's stack with one byte,
@@ -123,6 +125,15 @@ uint32_t nolkisei_route(uint16_t n, const uint16_t *lows, size_t lows_length, co
                         uint16_t k, uint16_t from, uint16_t to, uint16_t *counts, size_t counts_length, uint16_t *relays,
                         size_t relays_length, uint16_t *scratch, size_t scratch_length, uint64_t answer[2]);
 
+/* Finds the same k routes and the links that they run over: refusals, answer and the other lists are those of nolkisei_route, and
+ * 12 is also given where links is shorter than n - 2 + k.
+ * Done, links holds the indices of the links of route 1 in turn, then of route 2, and so on, each one fewer than the route has
+ * relays; what stands past them is unchanged. */
+uint32_t nolkisei_route_links(uint16_t n, const uint16_t *lows, size_t lows_length, const uint16_t *highs, size_t highs_length,
+                              uint16_t k, uint16_t from, uint16_t to, uint16_t *counts, size_t counts_length, uint16_t *relays,
+                              size_t relays_length, uint16_t *links, size_t links_length, uint16_t *scratch,
+                              size_t scratch_length, uint64_t answer[2]);
+
 /* The two programs. Their input is a line that asks, and behind it a network's text; what they print goes to the output. The return
  * value is 0 with the number of bytes printed as answer, which stand at the output's start, and the rest of it is unchanged; or 12
  * where the output is shorter than what is to be printed, and then it is unchanged. For an input that is refused they print one
@@ -134,10 +145,12 @@ uint32_t nolkisei_route(uint16_t n, const uint16_t *lows, size_t lows_length, co
  * first one behind that line, 3, 4, 5, 6, 7; then 9; and of nolkisei_plan then 10, 11, 13. */
 
 /* The planner: routes between two relays. The line is (want FROM TO K), and this is printed, with K lines `route`, each with the
- * relays of a route in turn, and the number of links that a cut down to K keeps:
+ * relays of a route in turn, behind each of them a line `over` with the indices of its links in turn, one fewer than its relays,
+ * and the number of links that a cut down to K keeps:
  *
  *    (sheet (from FROM) (to TO) (k K))
  *    (route FROM .. TO)
+ *    (over INDEX ..)
  *    (kept COUNT)
  *    (end) */
 uint32_t nolkisei_plan(const uint8_t *input, size_t input_length, uint8_t *output, size_t output_length, uint64_t answer[2]);

@@ -1,4 +1,4 @@
-/* Document 01's examples through the C header: P1 to P12 and the others. */
+/* Document 01's examples through the C header: P1 to P12, with the links that document 02, #101, asks for, and the others. */
 #include "nolkisei.h"
 #include <stdio.h>
 #include <string.h>
@@ -28,6 +28,7 @@ static const uint16_t none[] = {0};
 
 static uint64_t answer[2];
 static uint16_t counts[NOLKISEI_ROUTES], relays[NOLKISEI_ROUTE_RELAYS], scratch[NOLKISEI_ROUTE_SCRATCH];
+static uint16_t links[NOLKISEI_ROUTE_LINKS];
 static uint16_t places[NOLKISEI_RELAYS], marks[NOLKISEI_LINKS + 1], lows[NOLKISEI_LINKS], highs[NOLKISEI_LINKS];
 
 static uint64_t read_text(const char *text) {
@@ -68,6 +69,30 @@ static void marked(void) {
     is("P12 last", answer[0], 499499);
 }
 
+/* Two routes from 4 to 1 of the mesh, with room for so many links. */
+static uint32_t mesh_links(size_t room) {
+    return nolkisei_route_links(5, TABLE(mesh), 2, 4, 1, LENT(counts), LENT(relays), links, room, LENT(scratch), answer);
+}
+
+static void with_links(void) {
+    is("P6", mesh_links(5), 0);
+    is("P6 written", answer[0], 6);
+    list("P6 counts", counts, (const uint16_t[]){3, 3}, 2);
+    list("P6 routes", relays, (const uint16_t[]){4, 3, 1, 4, 2, 1}, 6);
+    list("P6 links", links, (const uint16_t[]){6, 3, 5, 2, 0}, 5);
+    is("P6, too few links", mesh_links(4), NOLKISEI_ROOM);
+    is("P2", nolkisei_route_links(4, TABLE(square), 2, 3, 2, LENT(counts), LENT(relays), LENT(links), LENT(scratch), answer), 0);
+    list("P2 links", links, (const uint16_t[]){3, 0, 1, 2}, 4);
+    is("P3", nolkisei_route_links(4, TABLE(square), 2, 0, 2, LENT(counts), LENT(relays), LENT(links), LENT(scratch), answer),
+       NOLKISEI_NOT_ONE_TREE);
+    is("P4", nolkisei_route_links(4, TABLE(full), 3, 3, 2, LENT(counts), LENT(relays), LENT(links), LENT(scratch), answer), 0);
+    list("P4 links", links, (const uint16_t[]){3, 1, 4, 2, 5}, 5);
+    is("P7", nolkisei_route_links(5, TABLE(mesh), 2, 1, 4, LENT(counts), LENT(relays), LENT(links), LENT(scratch), answer), 0);
+    list("P7 links", links, (const uint16_t[]){3, 6, 2, 5}, 4);
+    is("P8", nolkisei_route_links(5, TABLE(mesh), 1, 4, 1, LENT(counts), LENT(relays), LENT(links), LENT(scratch), answer), 0);
+    list("P8 links", links, (const uint16_t[]){5, 1, 0}, 3);
+}
+
 typedef uint32_t program(const uint8_t *, size_t, uint8_t *, size_t, uint64_t[2]);
 
 /* What a program prints for a line and the mesh: into an output that is one byte too short, exact and longer. */
@@ -92,7 +117,7 @@ static void prints(const char *what, program *program, const char *line, const c
 
 static void programs(void) {
     prints("P6", nolkisei_plan, "(want 4 1 2)\n",
-           "(sheet (from 4) (to 1) (k 2))\n(route 4 3 1)\n(route 4 2 1)\n(kept 7)\n(end)\n");
+           "(sheet (from 4) (to 1) (k 2))\n(route 4 3 1)\n(over 6 3)\n(route 4 2 1)\n(over 5 2)\n(kept 7)\n(end)\n");
     prints("P9 as a list", nolkisei_keep, "(keep 1)\n",
            "(lease (k 1))\n(keep 0 0 1)\n(keep 1 0 2)\n(drop 2 1 2)\n(keep 3 1 3)\n(drop 4 2 3)\n(keep 5 2 4)\n(drop 6 3 4)\n"
            "(kept 4)\n(dropped 3)\n(end)\n");
@@ -118,6 +143,7 @@ static void others(void) {
 
 int main(void) {
     marked();
+    with_links();
     programs();
     others();
     printf("document 01's examples through the C header: %s\n", failed ? "some differ" : "as printed");

@@ -22,6 +22,7 @@ static network large, small;
 static uint64_t answer[2];
 static uint16_t first[NOLKISEI_LINKS], second[NOLKISEI_LINKS];
 static uint16_t counts[NOLKISEI_ROUTES], relays[NOLKISEI_ROUTE_RELAYS], scratch[NOLKISEI_ROUTE_SCRATCH];
+static uint16_t links[NOLKISEI_ROUTE_LINKS];
 static uint8_t input[NOLKISEI_TEXT + 22], output[NOLKISEI_LIST];
 static uint32_t returned;
 
@@ -53,6 +54,10 @@ static void cut(const network *net) { returned = nolkisei_cut(TABLE, net->k, LEN
 
 static void route(const network *net) {
     returned = nolkisei_route(TABLE, net->k, net->from, net->to, LENT(counts), LENT(relays), LENT(scratch), answer);
+}
+
+static void route_links(const network *net) {
+    returned = nolkisei_route_links(TABLE, net->k, net->from, net->to, LENT(counts), LENT(relays), LENT(links), LENT(scratch), answer);
 }
 
 static void plan(const network *net) {
@@ -119,8 +124,9 @@ int main(void) {
     static const struct {
         const char *name;
         void (*call)(const network *);
-    } calls[] = {{"check", check}, {"pair", pair},   {"read", read_text}, {"write", write_text}, {"order", order},
-                 {"split", split}, {"cut", cut},     {"route", route},    {"plan", plan},        {"keep", keep}};
+    } calls[] = {{"check", check}, {"pair", pair},   {"read", read_text}, {"write", write_text},       {"order", order},
+                 {"split", split}, {"cut", cut},     {"route", route},    {"route_links", route_links}, {"plan", plan},
+                 {"keep", keep}};
     int failed = 0;
     make(&large, 1000, 174, 77, 32);
     make(&small, 28, 0, 28, 27);

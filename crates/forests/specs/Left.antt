@@ -29,6 +29,7 @@ earlierAt lows highs places i = min (getD places (getD lows i 0) 0) (getD places
 -- What entering link i asks.
 pub record Enterable (n k i : ℕ) (lows highs places forests table : List ℕ) : Type 0 where
   pub within : i < length lows
+  pub short : i < 3000
   pub even : length lows ≡ length highs
   pub room : i < length forests
   pub low : getD lows i 0 < length places

@@ -1,10 +1,11 @@
 -- What stands between each entry of a list and the next. Assumes nothing.
 use Prim.Native.Nat.{ℕ}
-use mathlib.Core.List.{List, [], _∷_, reverse, reverseAux}
-use mathlib.Core.Path.{_≡_, refl, _∙_, ap}
+use mathlib.Core.List.{List, [], _∷_, _++_, map, reverse, reverseAux, reverseAux-eq}
+use mathlib.Core.Path.{_≡_, refl, sym, _∙_, ap}
 use lib.ListN.{length}
 
-unfoldable pub stepsOf : (f : ℕ → ℕ → ℕ) → List ℕ → List ℕ
+-- f of each entry and the next.
+unfoldable pub stepsOf : (f : ℕ → ℕ → ℕ) (list : List ℕ) → List ℕ
 stepsOf f [] = []
 stepsOf f (a ∷ []) = []
 stepsOf f (a ∷ b ∷ rest) = f a b ∷ stepsOf f (b ∷ rest)
@@ -13,6 +14,13 @@ pub length-stepsOf : (f : ℕ → ℕ → ℕ) (x : ℕ) (rest : List ℕ) → l
 unfolding stepsOf
 length-stepsOf f x [] = refl
 length-stepsOf f x (y ∷ rest) = rw (length-stepsOf f y rest)
+
+-- Of a mapped list.
+pub stepsOf-map : (f : ℕ → ℕ → ℕ) (g : ℕ → ℕ) (list : List ℕ) → stepsOf f (map g list) ≡ stepsOf (λ a b. f (g a) (g b)) list
+unfolding stepsOf
+stepsOf-map f g [] = refl
+stepsOf-map f g (a ∷ []) = refl
+stepsOf-map f g (a ∷ b ∷ rest) = ap (λ (l : List ℕ). f (g a) (g b) ∷ l) (stepsOf-map f g (b ∷ rest))
 
 -- Of a list turned round, where what stands between two entries is the same both ways.
 module _ (f : ℕ → ℕ → ℕ) (turn : (a b : ℕ) → f a b ≡ f b a) where
@@ -28,3 +36,10 @@ module _ (f : ℕ → ℕ → ℕ) (turn : (a b : ℕ) → f a b ≡ f b a) wher
   unfolding stepsOf
   stepsOf-reverse [] = refl
   stepsOf-reverse (x ∷ rest) = stepsOf-reverseAux x rest []
+
+  -- Of one list turned round and another behind it, where both begin with x.
+  pub stepsOf-meet : (x : ℕ) (one other : List ℕ)
+      → stepsOf f (reverse (x ∷ one) ++ other) ≡ reverse (stepsOf f (x ∷ one)) ++ stepsOf f (x ∷ other)
+  stepsOf-meet x one other =
+      ap (stepsOf f) (sym (reverseAux-eq (x ∷ one) other)) ∙ stepsOf-reverseAux x one other
+      ∙ reverseAux-eq (stepsOf f (x ∷ one)) (stepsOf f (x ∷ other))

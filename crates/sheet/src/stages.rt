@@ -11,11 +11,11 @@ use crate::rooms;
 use forests::CutAnswer;
 use forests::cut;
 use routes::RouteAnswer;
-use routes::route;
+use routes::route_links;
 use text::ReadAnswer;
 use text::read;
 
-// Route, and the sheet with its routes.
+// Route, and the sheet with its routes and their links.
 fn plan_routes(
     output: &mut [u8],
     n: u16,
@@ -32,8 +32,9 @@ fn plan_routes(
 {
     let mut counts = rooms::counts();
     let mut relays = rooms::relays();
+    let mut links = rooms::route_links();
     let mut scratch = rooms::scratch();
-    match route(
+    match route_links(
         n,
         lows,
         highs,
@@ -42,6 +43,7 @@ fn plan_routes(
         to,
         &mut counts,
         &mut relays,
+        &mut links,
         &mut scratch,
     ) {
         RouteAnswer::Refused(refusal) => put_refusal(output, refusal),
@@ -52,6 +54,7 @@ fn plan_routes(
             k as usize,
             &counts,
             &relays,
+            &links,
             kept as usize,
         ),
     }

@@ -9,8 +9,8 @@ pub mod Places
 pub mod Left
 pub mod Links
 pub mod ForestNumbers
-pub mod LeftEntries
 pub mod Arranged
+pub mod LeftEntries
 pub mod ForestBound
 pub mod ForestDepth
 pub mod Trees
@@ -37,3 +37,7 @@ pub mod DemandThree
 pub mod Mesh
 pub mod AnotherOrder
 pub mod SweepTrades
+pub mod Erased
+pub mod LookedPaths
+pub mod OverSteps
+pub mod OverLinks

@@ -1,22 +1,19 @@
 //! The proved library against the second version: the same answers and lists from both, and what must hold of them.
 
 use crate::boundaries::boundaries;
-use crate::facts::{disjoint, kept, parts};
-use crate::flow::{self, greatest};
+use crate::facts::{kept, parts};
+use crate::flow::greatest;
 use crate::generate::{Network, any, damage, scratch};
 use crate::lengths::{Lengths, any_length, mostly_enough};
 use crate::library::{self, Report};
 use crate::printed::{KEEP, PLAN, Program, keep_input, printed};
 use crate::random::Random;
-use crate::sweep::{self, Wish};
-use crate::table::{self, Refusal};
+use crate::routed::{flowed, routed};
+use crate::sweep::Wish;
+use crate::table;
 use crate::tally::Tally;
 use crate::wishes::{any_wish, line, wish};
 use crate::{forests, text};
-
-fn one<T: Into<u64>>(outcome: Result<T, Refusal>) -> Report {
-    Report::of(outcome.map(|value| [value.into(), 0]))
-}
 
 fn two_lists(random: &mut Random, lengths: Lengths, exact: usize) -> (Vec<u16>, Vec<u16>) {
     let (first, second) = (lengths(random, exact), lengths(random, exact));
@@ -31,7 +28,7 @@ fn tables(random: &mut Random, tally: &mut Tally, net: &Network) {
     let edge = [0, 1, 2, 998, 999, 1000, 1001, 65535];
     let mut relay = || if random.once_in(2) { *random.pick(&edge) } else { random.below(1003) as u16 };
     let (a, b) = (relay(), relay());
-    let reference = one(table::pair(a, b));
+    let reference = Report::one(table::pair(a, b));
     tally.same("pair", reference.code, library::pair(a, b), reference, &(a, b));
 }
 
@@ -65,7 +62,7 @@ fn ordered(random: &mut Random, tally: &mut Tally, net: &Network, lengths: Lengt
     let size = lengths(random, lows.len());
     let mut ours = random.numbers(size);
     let mut theirs = ours.clone();
-    let reference = one(forests::split(*n, lows, highs, &mut ours));
+    let reference = Report::one(forests::split(*n, lows, highs, &mut ours));
     let report = library::split(*n, lows, highs, &mut theirs);
     tally.same("split", reference.code, (report, theirs), (reference, ours), net);
 
@@ -73,42 +70,9 @@ fn ordered(random: &mut Random, tally: &mut Tally, net: &Network, lengths: Lengt
     let mut ours = random.numbers(size);
     let mut theirs = ours.clone();
     let k = random.below(40) as u16;
-    let reference = one(forests::cut(*n, lows, highs, k, &mut ours));
+    let reference = Report::one(forests::cut(*n, lows, highs, k, &mut ours));
     let report = library::cut(*n, lows, highs, k, &mut theirs);
     tally.same("cut", reference.code, (report, theirs), (reference, ours), &(net, k));
-}
-
-fn routed(random: &mut Random, tally: &mut Tally, net: &Network, wish: Wish, lengths: Lengths) {
-    let Network { n, lows, highs } = net;
-    let (k, size) = (usize::from(wish.k.min(40)), usize::from(*n));
-    let mut lent = |exact: usize| {
-        let length = lengths(random, exact);
-        random.numbers(length)
-    };
-    let (mut counts, mut relays, mut scratch) = (lent(k), lent((size + 2 * k).saturating_sub(2)), lent(k * size));
-    let mut theirs = (counts.clone(), relays.clone(), scratch.clone());
-    let outcome = sweep::route(*n, lows, highs, wish, &mut counts, &mut relays, &mut scratch);
-    let report = library::route(*n, lows, highs, wish.k, wish.from, wish.to, &mut theirs.0, &mut theirs.1, &mut theirs.2);
-    let reference = one(outcome);
-    tally.same("route", reference.code, (report, &theirs), (reference, &(counts, relays, scratch)), &(net, wish));
-    if report.code == 0 {
-        let mut marks = vec![9; lows.len()];
-        library::cut(*n, lows, highs, wish.k, &mut marks);
-        let lists = (&theirs.0[..k], &theirs.1[..report.answer[0] as usize]);
-        disjoint(tally, "route", net, Some(&marks), wish, lists);
-        flowed(tally, net, wish);
-    }
-}
-
-/// Where there are k routes the flow program has k, too.
-fn flowed(tally: &mut Tally, net: &Network, wish: Wish) {
-    let Network { n, lows, highs } = net;
-    let (k, size) = (usize::from(wish.k), usize::from(*n));
-    let (mut counts, mut relays) = (vec![0; k], vec![0; size - 2 + 2 * k]);
-    let written = flow::route(*n, lows, highs, wish, &mut counts, &mut relays);
-    tally.holds("flow", "it finds as many routes", written.is_some(), &(net, wish));
-    relays.truncate(written.unwrap_or(0));
-    disjoint(tally, "flow", net, None, wish, (&counts, &relays));
 }
 
 /// Kept links against all links: with fewer than k relays dead they join the same live relays, and between two relays

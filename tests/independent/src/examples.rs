@@ -1,10 +1,11 @@
-//! Document 01's examples, P1 to P12 and the others, kept lists worked out by hand, and the plain program against the fast one and
-//! the flow program.
+//! Document 01's examples, P1 to P12 and the others, sheets and kept lists worked out by hand, and the plain program against the
+//! fast one and the flow program.
 
 use crate::boundaries::boundaries;
 use crate::forests::{cut, order, split};
 use crate::generate::{Network, any};
 use crate::keep::keep;
+use crate::over::{Lent, over, route_links};
 use crate::plan::plan;
 use crate::random::Random;
 use crate::sweep::{Wish, routes};
@@ -51,8 +52,7 @@ fn marked() {
     assert_eq!(route(&square(), 0, 2, 2), None);
     assert_eq!(route(&full_four(), 3, 2, 3), Some(vec![vec![3, 0, 2], vec![3, 1, 2], vec![3, 2]]));
     assert_eq!(order_and_forests(&mesh()), (vec![0, 1, 2, 3, 4], vec![1, 1, 2, 1, 2, 1, 2]));
-    let input = format!("(want 4 1 2)\n{}", text(5, &mesh().lows, &mesh().highs));
-    assert_eq!(plan(input.as_bytes()), "(sheet (from 4) (to 1) (k 2))\n(route 4 3 1)\n(route 4 2 1)\n(kept 7)\n(end)\n");
+    assert_eq!(route(&mesh(), 4, 1, 2), Some(vec![vec![4, 3, 1], vec![4, 2, 1]]));
     assert_eq!(route(&mesh(), 1, 4, 2), Some(vec![vec![1, 3, 4], vec![1, 2, 4]]));
     assert_eq!(route(&mesh(), 4, 1, 1), Some(vec![vec![4, 2, 0, 1]]));
     let mut marks = [9; 7];
@@ -79,6 +79,50 @@ fn others() {
     assert_eq!(read(b"(net (relays 4) (links 1))\n(link 2 2)\n", &mut lows, &mut highs), refused(6, 0));
     assert_eq!(read(b"(net (relays 04", &mut lows, &mut highs), refused(2, 14));
     assert_eq!(read(b"", &mut lows, &mut highs), refused(2, 0));
+}
+
+/// What the planner prints for this wish and this network.
+fn planned(from: u16, to: u16, k: u16, net: Network) -> String {
+    plan(format!("(want {from} {to} {k})\n{}", text_of(net)).as_bytes())
+}
+
+#[test]
+fn sheets() {
+    let sheet = |from: u16, to: u16, k: u16, routes: &str, kept: u16| {
+        format!("(sheet (from {from}) (to {to}) (k {k}))\n{routes}\n(kept {kept})\n(end)\n")
+    };
+    let routes = "(route 4 3 1)\n(over 6 3)\n(route 4 2 1)\n(over 5 2)";
+    assert_eq!(planned(4, 1, 2, mesh()), sheet(4, 1, 2, routes, 7));
+    let routes = "(route 1 3 4)\n(over 3 6)\n(route 1 2 4)\n(over 2 5)";
+    assert_eq!(planned(1, 4, 2, mesh()), sheet(1, 4, 2, routes, 7));
+    assert_eq!(planned(4, 1, 1, mesh()), sheet(4, 1, 1, "(route 4 2 0 1)\n(over 5 1 0)", 4));
+    let routes = "(route 3 0 1 2)\n(over 3 0 1)\n(route 3 2)\n(over 2)";
+    assert_eq!(planned(3, 2, 2, square()), sheet(3, 2, 2, routes, 4));
+    let routes = "(route 3 0 2)\n(over 2 1)\n(route 3 1 2)\n(over 4 3)\n(route 3 2)\n(over 5)";
+    let rising = net(4, &[(0, 1), (0, 2), (0, 3), (1, 2), (1, 3), (2, 3)]);
+    assert_eq!(planned(3, 2, 3, rising), sheet(3, 2, 3, routes, 6));
+    assert_eq!(planned(0, 2, 2, square()), "(refused 13 0)\n");
+}
+
+#[test]
+fn routes_with_links() {
+    let ask = |links: usize, scratch: usize, to: u16| {
+        let mut lent = Lent { counts: vec![9; 3], relays: vec![9; 8], links: vec![9; links], scratch: vec![9; scratch] };
+        let outcome = route_links(4, &square().lows, &square().highs, Wish { k: 2, from: 3, to }, &mut lent);
+        (outcome, lent.counts, lent.relays, lent.links, lent.scratch)
+    };
+    for links in 4..6 {
+        let over = [3, 0, 1, 2, 9][..links].to_vec();
+        assert_eq!(ask(links, 9, 2), (Ok(6), vec![4, 2, 9], vec![3, 0, 1, 2, 3, 2, 9, 9], over, vec![0; 9]));
+    }
+    let left = |refusal, links, scratch, to, after| {
+        assert_eq!(ask(links, scratch, to), (refused(refusal, 0), vec![9; 3], vec![9; 8], vec![9; links], vec![after; scratch]));
+    };
+    left(12, 3, 9, 2, 9);
+    left(12, 4, 7, 2, 9);
+    left(11, 3, 9, 3, 9);
+    left(10, 3, 9, 4, 9);
+    left(13, 4, 9, 1, 0);
 }
 
 /// What the keeper prints for this k and this text.
@@ -178,7 +222,11 @@ fn two_ways_agree() {
             let to = (from + 1 + random.below(usize::from(n) - 1) as u16) % n;
             let k = random.within(1, 6) as u16;
             let found = route(&net, from, to, k);
-            assert_eq!(swift::routes(n, lows, highs, Wish { k, from, to }), found);
+            let wish = Wish { k, from, to };
+            assert_eq!(swift::routes(n, lows, highs, wish), found);
+            let with_links = |route: Vec<u16>| (route.clone(), over(lows, highs, &route));
+            let both = found.clone().map(|routes| routes.into_iter().map(with_links).collect());
+            assert_eq!(swift::routes_with_links(n, lows, highs, wish), both);
             if let Some(routes) = found {
                 assert!(routes.len() <= flow::greatest(n, lows, highs, from, to, usize::MAX));
             }

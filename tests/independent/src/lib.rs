@@ -1,6 +1,7 @@
-//! Document 01 in plain Rust, by a second hand. The slow modules, which the library is compared with, follow the paper's words, and
-//! nothing in them was taken from the proved code or its definitions; `swift` and `swift_text`, which it is timed beside, have the same
-//! results by the methods an ordinary program would use, and of them `swift::Buckets` is built as the library is.
+//! Document 01, with the requests of document 02 that have landed, in plain Rust, by a second hand. The slow modules, which the
+//! library is compared with, follow the papers' words, and nothing in them was taken from the proved code or its definitions; `swift`
+//! and `swift_text`, which it is timed beside, have the same results by the methods an ordinary program would use, and of them
+//! `swift::Buckets` is built as the library is.
 
 #[cfg(feature = "library")]
 pub mod against;
@@ -14,10 +15,13 @@ pub mod lengths;
 #[cfg(feature = "library")]
 pub mod library;
 pub mod manner;
+pub mod over;
 pub mod plan;
 #[cfg(feature = "library")]
 pub mod printed;
 pub mod random;
+#[cfg(feature = "library")]
+pub mod routed;
 pub mod sweep;
 pub mod swift;
 pub mod swift_text;

@@ -17,6 +17,11 @@ impl Report {
             Err(Refusal { number, place }) => Report { code: number, answer: [place as u64, 0] },
         }
     }
+
+    /// The same where one value is named.
+    pub fn one<T: Into<u64>>(outcome: Result<T, Refusal>) -> Report {
+        Report::of(outcome.map(|value| [value.into(), 0]))
+    }
 }
 
 /// Calls with an answer that holds rubbish, so that what is not written shows.
@@ -56,6 +61,7 @@ on_tables! {
     split = nolkisei_split () (forests: u16);
     cut = nolkisei_cut (k) (marks: u16);
     route = nolkisei_route (k, from, to) (counts: u16, relays: u16, scratch: u16);
+    route_links = nolkisei_route_links (k, from, to) (counts: u16, relays: u16, links: u16, scratch: u16);
 }
 
 unsafe extern "C" {

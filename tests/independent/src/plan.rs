@@ -1,9 +1,16 @@
 //! The planner program: bytes in, bytes out.
 
 use crate::forests::cut;
+use crate::over::over;
 use crate::sweep::{Wish, route};
 use crate::table::Refusal;
 use crate::text::{form, read};
+
+/// A line of numbers behind a word.
+fn line(word: &str, numbers: &[u16]) -> String {
+    let numbers: String = numbers.iter().map(|number| format!(" {number}")).collect();
+    format!("({word}{numbers})\n")
+}
 
 fn sheet(input: &[u8]) -> Result<String, Refusal> {
     let (wish, start) = form(input, 0, "(want # # #)\n").map_err(|place| Refusal { number: 1, place })?;
@@ -17,12 +24,10 @@ fn sheet(input: &[u8]) -> Result<String, Refusal> {
     let mut sheet = format!("(sheet (from {from}) (to {to}) (k {k}))\n");
     let mut at = 0;
     for count in &counts[..usize::from(k)] {
-        sheet += "(route";
-        for relay in &relays[at..at + usize::from(*count)] {
-            sheet += &format!(" {relay}");
-        }
-        sheet += ")\n";
-        at += usize::from(*count);
+        let route = &relays[at..at + usize::from(*count)];
+        sheet += &line("route", route);
+        sheet += &line("over", &over(lows, highs, route));
+        at += route.len();
     }
     Ok(sheet + &format!("(kept {kept})\n(end)\n"))
 }

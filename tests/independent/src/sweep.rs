@@ -111,6 +111,17 @@ pub struct Wish {
     pub to: u16,
 }
 
+/// The refusals that come before a look at the lent lists: the table check, 9, 10 and 11.
+pub fn asked(n: u16, lows: &[u16], highs: &[u16], wish: Wish) -> Result<(), Refusal> {
+    let Wish { k, from, to } = wish;
+    check(n, lows, highs)?;
+    known(k)?;
+    if from >= n || to >= n {
+        return plain(10);
+    }
+    if from == to { plain(11) } else { Ok(()) }
+}
+
 /// Route: the count of relays written.
 pub fn route(
     n: u16,
@@ -122,14 +133,7 @@ pub fn route(
     scratch: &mut [u16],
 ) -> Result<u16, Refusal> {
     let Wish { k, from, to } = wish;
-    check(n, lows, highs)?;
-    known(k)?;
-    if from >= n || to >= n {
-        return plain(10);
-    }
-    if from == to {
-        return plain(11);
-    }
+    asked(n, lows, highs, wish)?;
     let (count, size) = (usize::from(k), usize::from(n));
     room(counts, count)?;
     room(relays, size - 2 + 2 * count)?;

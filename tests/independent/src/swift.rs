@@ -190,35 +190,87 @@ pub fn cut(n: u16, lows: &[u16], highs: &[u16], k: u16, marks: &mut [u16]) -> Re
     Ok(kept)
 }
 
-/// The routes of an accepted network, one after another: the sweep over whole paths.
+/// An accepted network with its order and the forest of each link.
+struct Scanned<'a> {
+    n: u16,
+    lows: &'a [u16],
+    highs: &'a [u16],
+    relays: [u16; 1000],
+    places: [u16; 1000],
+    forests: [u16; 3000],
+}
+
+impl Scanned<'_> {
+    fn new<'a>(n: u16, lows: &'a [u16], highs: &'a [u16]) -> Scanned<'a> {
+        let (mut relays, mut places, mut forests) = ([0; 1000], [0; 1000], [0; 3000]);
+        scan(n, lows, highs, &mut relays, &mut places, &mut forests);
+        Scanned { n, lows, highs, relays, places, forests }
+    }
+
+    /// A row of n entries for each of the forests up to k: at the later place of a link what is given of its index and its earlier
+    /// place, 0 elsewhere.
+    fn rows(&self, k: u16, entry: impl Fn(usize, u16) -> u16) -> Vec<u16> {
+        let size = usize::from(self.n);
+        let mut rows = vec![0; usize::from(k) * size];
+        for (link, ((&a, &b), &forest)) in self.lows.iter().zip(self.highs).zip(&self.forests).enumerate() {
+            if forest <= k {
+                let (a, b) = (self.places[usize::from(a)], self.places[usize::from(b)]);
+                rows[(usize::from(forest) - 1) * size + usize::from(a.max(b)) - 1] = entry(link, a.min(b));
+            }
+        }
+        rows
+    }
+
+    /// The routes in places, one after another, over the rows of earlier places: the sweep over whole paths.
+    fn routes(&self, rows: &[u16], wish: Wish) -> Option<Vec<Vec<u16>>> {
+        let (size, most) = (usize::from(self.n), usize::from(wish.k));
+        let left = |i: usize, v: u16| Some(rows[(i - 1) * size + usize::from(v) - 1]).filter(|&place| place > 0);
+        let (p, q) = (self.places[usize::from(wish.from)], self.places[usize::from(wish.to)]);
+        let (s, t) = (p.max(q), p.min(q));
+        if (t + 1..=s).any(|v| left(most, v).is_none()) {
+            return None;
+        }
+        let mut routes = Vec::with_capacity(most);
+        for (mut route, b) in sweep(most, s, t, &left).into_iter().skip(1) {
+            route.extend(b.into_iter().rev().skip(1));
+            if p == t {
+                route.reverse();
+            }
+            routes.push(route);
+        }
+        Some(routes)
+    }
+
+    /// Turns places into relay numbers.
+    fn name(&self, route: &mut [u16]) {
+        for relay in route {
+            *relay = self.relays[usize::from(*relay) - 1];
+        }
+    }
+}
+
+/// The routes of an accepted network, one after another.
 pub fn routes(n: u16, lows: &[u16], highs: &[u16], wish: Wish) -> Option<Vec<Vec<u16>>> {
-    let Wish { k, from, to } = wish;
-    let (size, most) = (usize::from(n), usize::from(k));
-    let (mut relays, mut places, mut forests) = ([0u16; 1000], [0u16; 1000], [0u16; 3000]);
-    scan(n, lows, highs, &mut relays, &mut places, &mut forests);
-    let mut table = vec![0u16; most * size];
-    for ((&a, &b), &forest) in lows.iter().zip(highs).zip(&forests) {
-        if forest <= k {
-            let (a, b) = (places[usize::from(a)], places[usize::from(b)]);
-            table[(usize::from(forest) - 1) * size + usize::from(a.max(b)) - 1] = a.min(b);
-        }
-    }
-    let left = |i: usize, v: u16| Some(table[(i - 1) * size + usize::from(v) - 1]).filter(|&place| place > 0);
-    let (p, q) = (places[usize::from(from)], places[usize::from(to)]);
-    let (s, t) = (p.max(q), p.min(q));
-    if (t + 1..=s).any(|v| left(most, v).is_none()) {
-        return None;
-    }
-    let mut routes = Vec::with_capacity(most);
-    for (mut route, b) in sweep(most, s, t, &left).into_iter().skip(1) {
-        route.extend(b.into_iter().rev().skip(1));
-        if p == t {
-            route.reverse();
-        }
-        for relay in &mut route {
-            *relay = relays[usize::from(*relay) - 1];
-        }
-        routes.push(route);
-    }
+    let scanned = Scanned::new(n, lows, highs);
+    let mut routes = scanned.routes(&scanned.rows(wish.k, |_, earlier| earlier), wish)?;
+    routes.iter_mut().for_each(|route| scanned.name(route));
     Some(routes)
+}
+
+/// The same with the links of each route: at each step the one that stands where the later place has the earlier one.
+pub fn routes_with_links(n: u16, lows: &[u16], highs: &[u16], wish: Wish) -> Option<Vec<(Vec<u16>, Vec<u16>)>> {
+    let scanned = Scanned::new(n, lows, highs);
+    let rows = scanned.rows(wish.k, |_, earlier| earlier);
+    let links = scanned.rows(wish.k, |link, _| link as u16);
+    let link = |two: &[u16]| {
+        let (earlier, later) = (two[0].min(two[1]), usize::from(two[0].max(two[1])));
+        let mut column = (later - 1..rows.len()).step_by(usize::from(n));
+        links[column.find(|&at| rows[at] == earlier).expect("a route runs along kept links")]
+    };
+    let with_links = |mut route: Vec<u16>| {
+        let over = route.windows(2).map(link).collect();
+        scanned.name(&mut route);
+        (route, over)
+    };
+    Some(scanned.routes(&rows, wish)?.into_iter().map(with_links).collect())
 }

@@ -1,7 +1,7 @@
 //! Read, Write and the planner by the methods of an ordinary program that is to be fast.
 
 use crate::sweep::Wish;
-use crate::swift::{check, cut, link, no_pairs, routes};
+use crate::swift::{check, cut, link, no_pairs, routes_with_links};
 use crate::table::{Refusal, plain, refuse, room};
 
 #[inline]
@@ -85,6 +85,16 @@ fn put(buffer: &mut [u8], at: &mut usize, word: &[u8]) {
     *at += word.len();
 }
 
+/// A line of numbers behind a word.
+fn put_line(buffer: &mut [u8], at: &mut usize, word: &[u8], numbers: &[u16]) {
+    put(buffer, at, word);
+    for &number in numbers {
+        put(buffer, at, b" ");
+        put_number(buffer, at, number);
+    }
+    put(buffer, at, b")\n");
+}
+
 fn digits(value: u16) -> usize {
     1 + usize::from(value >= 10) + usize::from(value >= 100) + usize::from(value >= 1000)
 }
@@ -136,21 +146,17 @@ fn sheet(input: &[u8]) -> Result<Vec<u8>, Refusal> {
     if wish.from == wish.to {
         return plain(11);
     }
-    let Some(routes) = routes(n, lows, highs, wish) else { return plain(13) };
-    let mut sheet = vec![0; 4608];
+    let Some(routes) = routes_with_links(n, lows, highs, wish) else { return plain(13) };
+    let mut sheet = vec![0; 9935];
     let mut at = 0;
     for (front, value) in [(&b"(sheet (from "[..], wish.from), (b") (to ", wish.to), (b") (k ", wish.k)] {
         put(&mut sheet, &mut at, front);
         put_number(&mut sheet, &mut at, value);
     }
     put(&mut sheet, &mut at, b"))\n");
-    for route in routes {
-        put(&mut sheet, &mut at, b"(route");
-        for relay in route {
-            put(&mut sheet, &mut at, b" ");
-            put_number(&mut sheet, &mut at, relay);
-        }
-        put(&mut sheet, &mut at, b")\n");
+    for (route, over) in routes {
+        put_line(&mut sheet, &mut at, b"(route", &route);
+        put_line(&mut sheet, &mut at, b"(over", &over);
     }
     put(&mut sheet, &mut at, b"(kept ");
     put_number(&mut sheet, &mut at, kept);

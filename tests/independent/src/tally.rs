@@ -4,7 +4,7 @@ use std::collections::BTreeMap;
 use std::fmt::Debug;
 
 /// Every code that an operation can give; of the two that print, the printed numbers and 12.
-const CODES: [(&str, &[u32]); 10] = [
+const CODES: [(&str, &[u32]); 11] = [
     ("check", &[0, 3, 4, 5, 6, 7]),
     ("pair", &[0, 5, 6]),
     ("read", &[0, 2, 3, 4, 5, 6, 7, 8]),
@@ -13,6 +13,7 @@ const CODES: [(&str, &[u32]); 10] = [
     ("split", &[0, 3, 4, 5, 6, 7, 12]),
     ("cut", &[0, 3, 4, 5, 6, 7, 9, 12]),
     ("route", &[0, 3, 4, 5, 6, 7, 9, 10, 11, 12, 13]),
+    ("route_links", &[0, 3, 4, 5, 6, 7, 9, 10, 11, 12, 13]),
     ("plan", &[0, 1, 2, 3, 4, 5, 6, 7, 9, 10, 11, 12, 13]),
     ("keep", &[0, 1, 2, 3, 4, 5, 6, 7, 9, 12]),
 ];
@@ -51,7 +52,7 @@ impl Tally {
             let of = |code: &u32| self.codes.get(&(operation, *code)).copied().unwrap_or(0);
             missing.extend(codes.iter().filter(|code| of(code) == 0).map(|code| format!("{operation} {code}")));
             let list: Vec<String> = codes.iter().map(|code| format!("{code}: {}", of(code))).collect();
-            lines.push(format!("{operation:6} {}", list.join(", ")));
+            lines.push(format!("{operation:11} {}", list.join(", ")));
         }
         lines.extend(self.facts.iter().map(|((operation, fact), times)| format!("{times:9} {operation}: {fact}")));
         (lines, missing)

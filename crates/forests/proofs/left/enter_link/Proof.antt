@@ -1,6 +1,7 @@
--- A link is entered under its later place. Assumes nothing.
+-- A link is entered under its later place, and its earlier place is put beside. Assumes nothing.
 use Prim.Native.Nat.{min, max}
-use mathlib.Core.Path.{_≡_, _∙_, ap₂}
+use mathlib.Core.Path.{_≡_, _∙_, ap, ap₂}
+use lib.ListN.{set}
 use Rattle.forests.specs.Left.{laterAt, earlierAt}
 use Rattle.forests.proofs.LeftTableLaws.{entered-some, entered-none}
 use borrow.Author.Needs.{needs}
@@ -28,55 +29,72 @@ place-of-requires-2 c κs = search needs
 mul-forest-3 : tie.Need-mul-forest-3
 mul-forest-3 c = search needs
 
-shared-slice-read-forest-3 : tie.Need-shared-slice-read-forest-3
-shared-slice-read-forest-3 c = search needs
-
-later-requires : tie.Need-later-requires
-later-requires c κs = search needs
+slice-read-forest : tie.Need-slice-read-forest
+slice-read-forest c = search needs
 
 earlier-requires : tie.Need-earlier-requires
 earlier-requires c κs = search needs
 
-late : (c : tie.After-earlier)
+mul-forests : tie.Need-mul-forests
+mul-forests c = search needs
+
+slice-write-forests : tie.Need-slice-write-forests
+slice-write-forests c = search needs
+
+later-requires : tie.Need-later-requires
+later-requires c κs = search needs
+
+early : (c : tie.After-earlier)
+    → let a = c .before .before .before .before .before .before .before .before .before .before .before .args in
+    c .earlier .result .0 ≡ earlierAt (a .lows .now) (a .highs .now) (a .places .now) (a .i)
+early c =
+    let atPlaceOf2 = c .before .before in
+    let atPlaceOf = atPlaceOf2 .before .before in
+    c .earlier .ensures ∙ ap₂ min (atPlaceOf .place-of .ensures) (atPlaceOf2 .place-of2 .ensures)
+
+late : (c : tie.After-later)
     → let a = c .before .before .before .before .before .before .before .before .before .before .before .before .before .before .args in
-    c .before .later .result .0 ≡ laterAt (a .lows .now) (a .highs .now) (a .places .now) (a .i)
+    c .later .result .0 ≡ laterAt (a .lows .now) (a .highs .now) (a .places .now) (a .i)
 late c =
     let atPlaceOf2 = c .before .before .before .before .before in
     let atPlaceOf = atPlaceOf2 .before .before in
-    c .before .later .ensures ∙ ap₂ max (atPlaceOf .place-of .ensures) (atPlaceOf2 .place-of2 .ensures)
-
-early : (c : tie.After-earlier)
-    → let a = c .before .before .before .before .before .before .before .before .before .before .before .before .before .before .args in
-    c .earlier .result .0 ≡ earlierAt (a .lows .now) (a .highs .now) (a .places .now) (a .i)
-early c =
-    let atPlaceOf2 = c .before .before .before .before .before in
-    let atPlaceOf = atPlaceOf2 .before .before in
-    c .earlier .ensures ∙ ap₂ min (atPlaceOf .place-of .ensures) (atPlaceOf2 .place-of2 .ensures)
+    c .later .ensures ∙ ap₂ max (atPlaceOf .place-of .ensures) (atPlaceOf2 .place-of2 .ensures)
 
 put-left-requires : tie.Need-put-left-requires
 put-left-requires c κs =
     let v = late c in
     let p = c .before .before .before .before .before .before .before .before .before .before .before .before .before .before .pre in
-    (p .forest, rw v (p .some), rw v (p .index (c .before .before .before .if1 .taken)))
+    (p .forest, rw v (p .some), rw v (p .index (c .before .before .if1 .taken)), p .short)
 
 same-length : tie.Need-same-length
 same-length c = search needs
 
+same-length-2 : tie.Need-same-length-2
+same-length-2 c = search needs
+
 returns : tie.Need-returns
 returns c =
-    let atIf1 = c .before .before .before .before .before .before in
-    let start = atIf1 .before .before .before .before .before .before .before .before .before .before .before in
-    let a = start .args in
-    let both = c .before .before .before in
-    entered-some (a .n) (a .k) (a .i) (a .lows .now) (a .highs .now) (a .places .now) (a .forests .now) (a .table .now) _
-    (both .before .later .result .0) (both .earlier .result .0) (atIf1 .if1 .taken) (late both) (early both)
-    (c .before .before .put-left .ensures)
+    let atLater = c .before .before .before in
+    let atIf1 = atLater .before .before in
+    let atEarlier = atIf1 .before in
+    let start = atEarlier .before .before .before .before .before .before .before .before .before .before .before in
+    let a = start .args in (
+      entered-some (a .n) (a .k) (a .i) (a .lows .now) (a .highs .now) (a .places .now) (a .forests .now) (a .table .now) _
+          (atLater .later .result .0) (atIf1 .if1 .taken) (late atLater) (c .before .before .put-left .ensures),
+      ap (set (a .forests .now) (a .i)) (early atEarlier),
+    )
+
+same-length-3 : tie.Need-same-length-3
+same-length-3 c = search needs
 
 returns-2 : tie.Need-returns-2
 returns-2 c =
-    let a = c .before .before .before .before .before .before .before .before .before .before .before .args in
-    entered-none (a .n) (a .k) (a .i) (a .lows .now) (a .highs .now) (a .places .now) (a .forests .now) (a .table .now)
-    (c .if1 .left)
+    let atEarlier = c .before in
+    let a = atEarlier .before .before .before .before .before .before .before .before .before .before .before .args in (
+      entered-none (a .n) (a .k) (a .i) (a .lows .now) (a .highs .now) (a .places .now) (a .forests .now) (a .table .now)
+          (c .if1 .left),
+      ap (set (a .forests .now) (a .i)) (early atEarlier),
+    )
 
 pub enter-link-spec : {M : Type 1} → statement M
 enter-link-spec =
@@ -89,10 +107,14 @@ enter-link-spec =
     shared-slice-read-forest-2
     place-of-requires-2
     mul-forest-3
-    shared-slice-read-forest-3
-    later-requires
+    slice-read-forest
     earlier-requires
+    mul-forests
+    slice-write-forests
+    later-requires
     put-left-requires
     same-length
+    same-length-2
     returns
+    same-length-3
     returns-2)

@@ -106,7 +106,7 @@ fn operations(measure: &mut dyn Measure, kind: &'static str, net: &Network) {
 
 fn planned(measure: &mut dyn Measure, kind: &'static str, net: &Network, wish: Wish) {
     let (input, _) = against::input(net, wish);
-    let mut output = [0; 4608];
+    let mut output = [0; 9935];
     let length = library::plan(&input, &mut output).answer[0] as usize;
     assert_eq!(&output[..length], swift_text::plan(&input));
     measure.row(
@@ -114,6 +114,24 @@ fn planned(measure: &mut dyn Measure, kind: &'static str, net: &Network, wish: W
         net,
         "plan, k 2",
         &mut [&mut || run(library::plan(&input, &mut output)), &mut || run(swift_text::plan(&input))],
+    );
+}
+
+fn linked(measure: &mut dyn Measure, kind: &'static str, net: &Network, wish: Wish) {
+    let Network { n, lows, highs } = net;
+    let Wish { k, from, to } = wish;
+    let (most, size) = (usize::from(k), usize::from(*n));
+    let (mut counts, mut relays) = (vec![0; most], vec![0; size - 2 + 2 * most]);
+    let (mut links, mut scratch) = (vec![0; size - 2 + most], vec![0; most * size]);
+    let mut library = || library::route_links(*n, lows, highs, k, from, to, &mut counts, &mut relays, &mut links, &mut scratch);
+    assert_eq!(library().code, 0);
+    measure.row(
+        kind,
+        net,
+        &format!("route with links, k {k}"),
+        &mut [&mut || run(library()), &mut || {
+            run((swift::check(*n, lows, highs), swift::routes_with_links(*n, lows, highs, wish)))
+        }],
     );
 }
 
@@ -139,6 +157,7 @@ fn routes(measure: &mut dyn Measure, kind: &'static str, net: &Network) {
             ],
         );
         if k == 2 {
+            linked(measure, kind, net, wish);
             planned(measure, kind, net, wish);
         }
     }

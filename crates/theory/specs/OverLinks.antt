@@ -1,0 +1,109 @@
+-- The links of the routes are the links that join each relay of a route to the next: at each step the index is that of the one
+-- link of the table that does. From what the look-ups gave along the paths, and "at most one for each two".
+-- Over any order; then for the base and accepted networks.
+use Prim.Native.Nat.{ℕ, _≤_, _<_}
+use mathlib.Core.Bool.{Bool, true, false, _||_}
+use mathlib.Core.List.{List, [], _∷_, map}
+use mathlib.Core.Logic.{_≢_}
+use mathlib.Core.Path.{_≡_, refl, sym, _∙_, ap, fun-ext}
+use native.Mathlib.Omega.{arith}
+use lib.ListN.{length, getD}
+use Rattle.definitions.specs.Lists.{firstFrom}
+use Rattle.definitions.specs.Network.{isPair, joins, Accepted}
+use Rattle.definitions.specs.Order.{orderOf, placeOf, relayAt}
+use Rattle.definitions.specs.Forests.{leftEntry}
+use Rattle.definitions.specs.Route.{leftOf, routesBetween, routesOf}
+use Rattle.definitions.specs.Over.{oversBetween, entryOf, oversOf, OneLink, OverFrom, OverHolds}
+use Rattle.definitions.specs.Demand.{LinkOf, AlongFrom, Along}
+use Rattle.lists.specs.Searches.{first-holds}
+use Rattle.lists.specs.Maps.{map-map}
+use Rattle.lists.specs.Steps.{stepsOf, stepsOf-map}
+use Rattle.theory.specs.Accepted.{accepted}
+use Rattle.theory.specs.Links.{joins-sym, one-link}
+use Rattle.theory.specs.Arranged.{leftIn, Arranged, base-arranged}
+use Rattle.theory.specs.RelayTrees.{AliveBetween, places-differ}
+use Rattle.theory.specs.LeftEntries.{entryIn, EntryLink, entry-link-in, entry-joins-in}
+use Rattle.theory.specs.OverSteps.{over-steps}
+
+-- The link of the table that joins a and b; 0 if there is none.
+unfoldable pub pairLink : (lows highs : List ℕ) (a b : ℕ) → ℕ
+pairLink lows highs a b = firstFrom (joins lows highs a b) 0 (length lows)
+
+module _ (lows highs : List ℕ) where
+  joins-turn : (a b i : ℕ) → joins lows highs a b i ≡ joins lows highs b a i
+  unfolding joins
+  joins-turn a b i = go (isPair lows highs a b i) (isPair lows highs b a i)
+    where
+      go : (p q : Bool) → (p || q) ≡ (q || p)
+      go true true = refl
+      go true false = refl
+      go false true = refl
+      go false false = refl
+
+  pub pair-turn : (a b : ℕ) → pairLink lows highs a b ≡ pairLink lows highs b a
+  unfolding pairLink
+  pair-turn a b = ap (λ (test : ℕ → Bool). firstFrom test 0 (length lows)) (fun-ext (joins-turn a b))
+
+  -- It joins them, if some link does.
+  pair-joins : (a b i : ℕ) → i < length lows → joins lows highs a b i ≡ true
+      → (pairLink lows highs a b < length lows) × (joins lows highs a b (pairLink lows highs a b) ≡ true)
+  unfolding pairLink
+  pair-joins a b i h e =
+      let w = first-holds (joins lows highs a b) (length lows) 0 i (omega arith) (omega arith) e in
+      (omega (arith, w .upto), w .passes)
+
+  module _ (once : (a b i j : ℕ) → i < length lows → j < length lows → joins lows highs a b i ≡ true → joins lows highs a b j ≡ true → i ≡ j) where
+    pair-one : (a b i : ℕ) → i < length lows → joins lows highs a b i ≡ true → i ≡ pairLink lows highs a b
+    pair-one a b i h e =
+        let w = pair-joins a b i h e in
+        once a b i (pairLink lows highs a b) h (w .0) e (w .1)
+
+    -- The links of a route's steps hold, whichever links of the table it runs along.
+    over-from : (picked : ℕ → Type 0) (a : ℕ) (rest : List ℕ) → AlongFrom (LinkOf lows highs picked) a rest
+        → OverFrom lows highs a rest (stepsOf (pairLink lows highs) (a ∷ rest))
+    unfolding stepsOf
+    over-from picked a [] along = tt
+    over-from picked a (b ∷ rest) along =
+        let l = along .0 in
+        let w = pair-joins a b (l .0) (l .1) (l .2) in
+        ((w .0, w .1, pair-one a b), over-from picked b rest (along .1))
+
+    pub over-holds : (picked : ℕ → Type 0) (route : List ℕ) → 1 ≤ length route → Along (LinkOf lows highs picked) route
+        → OverHolds lows highs route (stepsOf (pairLink lows highs) route)
+    over-holds picked [] some along = omega arith
+    over-holds picked (a ∷ rest) some along = over-from picked a rest along
+
+module _ (order lows highs : List ℕ) (arranged : Arranged order lows highs) where
+  -- The link between the relays at two places.
+  abbrev pub placeLink : (x y : ℕ) → ℕ
+  placeLink x y = pairLink lows highs (relayAt order x) (relayAt order y)
+
+  -- Each look-up gives it.
+  pub look-gives : (h x : ℕ) → 0 < entryIn order lows highs h x .place
+      → entryIn order lows highs h x .link ≡ placeLink (entryIn order lows highs h x .place) x
+  unfolding leftEntry
+  look-gives h x some =
+      let e : EntryLink order lows highs h x (entryIn order lows highs h x .link) = entry-link-in order lows highs arranged h x some in
+      pair-one lows highs (arranged .once) (relayAt order (leftIn order lows highs h x)) (relayAt order x)
+      (entryIn order lows highs h x .link) (e .within) (entry-joins-in order lows highs arranged h x (entryIn order lows highs h x .link) e)
+
+  -- The links of the routes between two places.
+  pub overs-in : (k p q : ℕ) → p ≢ q → AliveBetween (leftIn order lows highs) k p q
+      → oversBetween (entryIn order lows highs) k p q ≡ map (stepsOf placeLink) (routesBetween (leftIn order lows highs) k p q)
+  unfolding leftEntry
+  overs-in k p q differ alive =
+      over-steps (entryIn order lows highs) placeLink
+      (λ x y. pair-turn lows highs (relayAt order x) (relayAt order y)) look-gives (arranged .laws) k p q differ alive
+
+-- The base: the links of Route's routes.
+pub overs-found : (n : ℕ) (lows highs : List ℕ) → Accepted n lows highs → (k from to : ℕ) → from < n → to < n → from ≢ to
+    → AliveBetween (leftOf n lows highs) k (placeOf (orderOf n lows highs) from) (placeOf (orderOf n lows highs) to)
+    → oversOf n lows highs k from to ≡ map (stepsOf (pairLink lows highs)) (routesOf n lows highs k from to)
+unfolding oversOf entryOf leftOf routesOf
+overs-found n lows highs ok k from to hf ht differ alive =
+    let order : List ℕ = orderOf n lows highs in
+    let routes : List (List ℕ) = routesBetween (leftIn order lows highs) k (placeOf order from) (placeOf order to) in
+    overs-in order lows highs (base-arranged n lows highs ok) k (placeOf order from) (placeOf order to)
+    (places-differ n lows highs from to hf ht differ) alive
+    ∙ ap (λ (f : List ℕ → List ℕ). map f routes) (fun-ext λ l. sym (stepsOf-map (pairLink lows highs) (relayAt order) l))
+    ∙ sym (map-map (stepsOf (pairLink lows highs)) (map (relayAt order)) routes)
