@@ -1,4 +1,4 @@
--- A side's list holds the paths of the definition, from the stores into it up to the whole sweep.
+-- A side's list holds the paths of the definition and the links between their places, from the stores into it up to the whole sweep.
 pub mod Side
 pub mod LinkStores
 pub mod Links

@@ -9,7 +9,8 @@ use borrow.Author.Tests.{eq-eqb, ne-eqb, lt-ltb, le-ltb}
 use Rattle.definitions.specs.Forests.{Entry}
 use Rattle.routes.specs.Sides.{Sides, sides, sweptIn}
 use Rattle.routes.specs.Writing.{written, writeFrom}
-use Rattle.routes.specs.Between.{aliveIn, betweenIn}
+use Rattle.routes.specs.WrittenLinks.{linksFrom}
+use Rattle.routes.specs.Between.{aliveIn, betweenIn, linksBetween}
 
 alive-at : (look : ℕ → ℕ → Entry) (k t v gap : ℕ) → t + suc gap ≡ v → (look k v .place ≡ 0 → ⊥) → aliveIn look k t (suc gap) ≡ aliveIn look k t gap
 unfolding aliveIn
@@ -50,3 +51,17 @@ module _ (look : ℕ → ℕ → Entry) (k p q : ℕ) (order counts relays count
   unfolding betweenIn
   between-rises more swept wrote =
       rw (le-ltb q p more) (wrote ∙ ap (λ (x : Sides). writeFrom (x .sideB) (x .sideA) order k 0 0 counts relays) swept)
+
+-- Their links.
+module _ (look : ℕ → ℕ → Entry) (k p q : ℕ) (links links′ a b a₁ b₁ : List ℕ) where
+  pub links-fall : q < p → sides a₁ b₁ ≡ sweptIn look k p q a b → links′ ≡ linksFrom a₁ b₁ k 0 0 links
+      → links′ ≡ linksBetween a b look k p q links
+  unfolding linksBetween
+  links-fall less swept wrote =
+      rw (lt-ltb q p less) (wrote ∙ ap (λ (x : Sides). linksFrom (x .sideA) (x .sideB) k 0 0 links) swept)
+
+  pub links-rise : p ≤ q → sides a₁ b₁ ≡ sweptIn look k q p a b → links′ ≡ linksFrom b₁ a₁ k 0 0 links
+      → links′ ≡ linksBetween a b look k p q links
+  unfolding linksBetween
+  links-rise more swept wrote =
+      rw (le-ltb q p more) (wrote ∙ ap (λ (x : Sides). linksFrom (x .sideB) (x .sideA) k 0 0 links) swept)
