@@ -120,7 +120,7 @@ module _ (n : ℕ) (lows highs : List ℕ) (k from to : ℕ) (counts relays link
           tree-tested n lows highs k from to (asked .accepted) (asked .one) (asked .few) (asked .source) (asked .goal) (asked .differ)
           table table′ ends (made .theTable)
 
-      go : (b : Bool) → oneTreeIn look k P Q ≡ b
+      go : (test : Bool) → oneTreeIn look k P Q ≡ test
           → pick (oneTreeIn look k P Q)
           (answered (all .countList) (all .relayList) (linksBetween a b look k P Q links) (done (all .upto ∷ [])))
           (answered counts relays links (refused 13 0))

@@ -1,7 +1,7 @@
--- Route's answer and its three lists afterwards are those of the definition, way by way: refused by the table check, refused by
--- the wish or the room, and answered. Assumes nothing.
+-- Route's answer and its lists afterwards, with or without links, are those of the definition, way by way: refused by the table
+-- check, refused by the wish or the room, and answered. Assumes nothing.
 use Prim.Native.Nat.{ℕ, zero, suc, _+_, _-_, _*_}
-use mathlib.Core.Bool.{Bool, true, false, _||_, not}
+use mathlib.Core.Bool.{Bool, true, false, _&&_, _||_, not}
 use mathlib.Core.List.{List, [], _∷_, map}
 use mathlib.Core.Logic.{_≢_}
 use mathlib.Core.Path.{_≡_, refl, sym, _∙_, ap, subst}
@@ -9,17 +9,19 @@ use native.Mathlib.Omega.{arith}
 use borrow.Author.Tests.{ltb-false, leb-false, eqb-false, ne-eqb}
 use lib.Dec.{eqb, ltb, leb}
 use lib.ListN.{length, getD}
+use lib.Seq.{sets}
 use Rattle.definitions.specs.Outcome.{pick, refused, done, Answer, refuseIf, andThen, ifDone}
 use Rattle.definitions.specs.Lists.{overwrite, zeroed, outside, joinAll, someBelow}
 use Rattle.definitions.specs.Network.{isPair, linkFault, linksCheck, tableCheck, Accepted}
-use Rattle.definitions.specs.Route.{routesOf, oneTreeOf, tooShort, routeAnswer, countsAfter, routeRelaysAfter, scratchUsed, scratchAfter}
+use Rattle.definitions.specs.Route.{routesOf, oneTreeOf, tooShort, routeUnless, scratchUsed}
+use Rattle.definitions.specs.Over.{oversOf}
 use Rattle.lists.specs.Tests.{or-false}
 use Rattle.lists.specs.Outcomes.{not-refused, then-done}
 use Rattle.network.specs.Answers.{refusalNumber, refusalPlace, refusalOf}
 use Rattle.network.specs.Refusals.{refusal-then}
 use Rattle.network.specs.declared.Refusal.{Refusal}
 use Rattle.network.specs.declared.Refusal.the-variants.{NotOneTree}
-use Rattle.routes.specs.Answers.{wishCheck, Answered, answered, treeAnswer, Routable}
+use Rattle.routes.specs.Answers.{wishCheck, Answered, answered, treeAnswer, shortFor, coreAnswer, coreCounts, coreRelays, coreLinks, coreScratch, Routable}
 
 -- Not refused by the test of one tree, which comes last and alone uses scratch.
 abbrev BeforeTree : Answer → Type 0
@@ -58,11 +60,12 @@ before-table n lows highs =
     before-refuse (outside 1 1000 n) 3 0 (refuseIf uneven 4 0 links) (λ e. omega arith)
     (before-refuse uneven 4 0 links (λ e. omega arith) (before-links n lows highs 0 (length lows)))
 
-before-wish : (n k from to countsLength relaysLength scratchLength : ℕ)
-    → BeforeTree (wishCheck n k from to countsLength relaysLength scratchLength)
+before-wish : (n k from to : ℕ) (asked : Bool) (countsLength relaysLength linksLength scratchLength : ℕ)
+    → BeforeTree (wishCheck n k from to asked countsLength relaysLength linksLength scratchLength)
 unfolding wishCheck
-before-wish n k from to countsLength relaysLength scratchLength =
-    let short : Bool = ltb countsLength k || (ltb relaysLength (n - 2 + 2 * k) || ltb scratchLength (k * n)) in
+before-wish n k from to asked countsLength relaysLength linksLength scratchLength =
+    let short : Bool =
+    (ltb countsLength k || (ltb relaysLength (n - 2 + 2 * k) || ltb scratchLength (k * n))) || (asked && ltb linksLength (n - 2 + k)) in
     let room : Answer = refuseIf short 12 0 (done []) in
     let same : Answer = refuseIf (eqb from to) 11 0 room in
     let range : Answer = refuseIf (leb n from || leb n to) 10 0 same in
@@ -77,30 +80,33 @@ unfolding refuseIf andThen
 refuse-then true number place rest next = refl
 refuse-then false number place rest next = refl
 
-module _ (n : ℕ) (lows highs : List ℕ) (k from to : ℕ) (counts relays scratch : List ℕ) where
-  -- What Route promises of its answer and the three lists afterwards.
-  abbrev pub Promised : (answer : Answer) (counts′ relays′ scratch′ : List ℕ) → Type 0
-  Promised answer counts′ relays′ scratch′ =
-      (answer ≡ routeAnswer n lows highs k from to counts relays scratch)
-      × ((counts′ ≡ countsAfter n lows highs k from to counts relays scratch)
-      × ((relays′ ≡ routeRelaysAfter n lows highs k from to counts relays scratch)
-      × (scratch′ ≡ scratchAfter n lows highs k from to counts relays scratch)))
+module _ (asked : Bool) (n : ℕ) (lows highs : List ℕ) (k from to : ℕ) (counts relays links scratch : List ℕ) where
+  -- What Route promises of its answer and the four lists afterwards.
+  abbrev pub Promised : (answer : Answer) (counts′ relays′ links′ scratch′ : List ℕ) → Type 0
+  Promised answer counts′ relays′ links′ scratch′ =
+      (answer ≡ coreAnswer asked n lows highs k from to counts relays links scratch)
+      × ((counts′ ≡ coreCounts asked n lows highs k from to counts relays links scratch)
+      × ((relays′ ≡ coreRelays asked n lows highs k from to counts relays links scratch)
+      × ((links′ ≡ coreLinks asked n lows highs k from to counts relays links scratch)
+      × (scratch′ ≡ coreScratch asked n lows highs k from to counts relays links scratch))))
 
   abbrev wish : Answer
-  wish = wishCheck n k from to (length counts) (length relays) (length scratch)
+  wish = wishCheck n k from to asked (length counts) (length relays) (length links) (length scratch)
 
   abbrev last : Answer
   last = refuseIf (not (oneTreeOf n lows highs k from to)) 13 0 (done (length (joinAll (routesOf n lows highs k from to)) ∷ []))
 
-  split-answer : routeAnswer n lows highs k from to counts relays scratch ≡ andThen (tableCheck n lows highs) (λ _. andThen wish (λ _. last))
-  unfolding routeAnswer wishCheck tooShort refuseIf andThen
+  split-answer : coreAnswer asked n lows highs k from to counts relays links scratch ≡ andThen (tableCheck n lows highs) (λ _. andThen wish (λ _. last))
+  unfolding coreAnswer routeUnless shortFor wishCheck tooShort refuseIf andThen
   split-answer = ap (λ (rest : Answer). andThen (tableCheck n lows highs) (λ _. rest)) inner
     where
       short : Bool
-      short = ltb (length counts) k || (ltb (length relays) (n - 2 + 2 * k) || ltb (length scratch) (k * n))
+      short =
+          (ltb (length counts) k || (ltb (length relays) (n - 2 + 2 * k) || ltb (length scratch) (k * n)))
+          || (asked && ltb (length links) (n - 2 + k))
 
       inner : refuseIf (outside 1 32 k) 9 0 (refuseIf (leb n from || leb n to) 10 0 (refuseIf (eqb from to) 11 0 (refuseIf short 12 0 last)))
-          ≡ andThen (wishCheck n k from to (length counts) (length relays) (length scratch)) (λ _. last)
+          ≡ andThen (wishCheck n k from to asked (length counts) (length relays) (length links) (length scratch)) (λ _. last)
       inner =
           ap (λ (x : Answer). refuseIf (outside 1 32 k) 9 0 (refuseIf (leb n from || leb n to) 10 0 (refuseIf (eqb from to) 11 0 x)))
           (refuse-then short 12 0 (done []) (λ _. last))
@@ -111,76 +117,77 @@ module _ (n : ℕ) (lows highs : List ℕ) (k from to : ℕ) (counts relays scra
           ∙ refuse-then (outside 1 32 k) 9 0 (refuseIf (leb n from || leb n to) 10 0 (refuseIf (eqb from to) 11 0 (refuseIf short 12 0 (done [])))) (λ _. last)
 
   -- A refusal before the test of one tree changes nothing.
-  stopped : (number place : ℕ) → number ≢ refusalNumber NotOneTree → routeAnswer n lows highs k from to counts relays scratch ≡ refused number place
-      → Promised (refused number place) counts relays scratch
-  unfolding countsAfter routeRelaysAfter scratchAfter ifDone scratchUsed
-  stopped number place other e = (sym e, (rw e, (rw e, rw (e, ne-eqb number (refusalNumber NotOneTree) other))))
+  stopped : (number place : ℕ) → number ≢ refusalNumber NotOneTree → coreAnswer asked n lows highs k from to counts relays links scratch ≡ refused number place
+      → Promised (refused number place) counts relays links scratch
+  unfolding coreCounts coreRelays coreLinks coreScratch ifDone scratchUsed
+  stopped number place other e = (sym e, (rw e, (rw e, (rw e, rw (e, ne-eqb number (refusalNumber NotOneTree) other)))))
 
   -- A refusal of one of the checks, which stands.
   refused-by : (refusal : Refusal) (check : Answer) → BeforeTree check → refusalOf refusal ≡ check
-      → routeAnswer n lows highs k from to counts relays scratch ≡ refusalOf refusal → Promised (refusalOf refusal) counts relays scratch
+      → coreAnswer asked n lows highs k from to counts relays links scratch ≡ refusalOf refusal → Promised (refusalOf refusal) counts relays links scratch
   refused-by refusal check before same e =
       let other : BeforeTree (refusalOf refusal) = subst BeforeTree (sym same) before in
       stopped (refusalNumber refusal) (refusalPlace refusal) other e
 
-  pub table-refused : (refusal : Refusal) → refusalOf refusal ≡ tableCheck n lows highs → Promised (refusalOf refusal) counts relays scratch
+  pub table-refused : (refusal : Refusal) → refusalOf refusal ≡ tableCheck n lows highs → Promised (refusalOf refusal) counts relays links scratch
   table-refused refusal e =
       refused-by refusal (tableCheck n lows highs) (before-table n lows highs) e
       (split-answer ∙ ap (λ (x : Answer). andThen x (λ _. andThen wish (λ _. last))) (sym e) ∙ refusal-then refusal (λ _. andThen wish (λ _. last)))
 
   module _ (ok : Accepted n lows highs) where
-    past-table : routeAnswer n lows highs k from to counts relays scratch ≡ andThen wish (λ _. last)
+    past-table : coreAnswer asked n lows highs k from to counts relays links scratch ≡ andThen wish (λ _. last)
     past-table = split-answer ∙ then-done (tableCheck n lows highs) (λ _. andThen wish (λ _. last)) [] ok
 
-    pub wish-refused : (refusal : Refusal) → refusalOf refusal ≡ wish → Promised (refusalOf refusal) counts relays scratch
+    pub wish-refused : (refusal : Refusal) → refusalOf refusal ≡ wish → Promised (refusalOf refusal) counts relays links scratch
     wish-refused refusal e =
-        refused-by refusal wish (before-wish n k from to (length counts) (length relays) (length scratch)) e
+        refused-by refusal wish (before-wish n k from to asked (length counts) (length relays) (length links) (length scratch)) e
         (past-table ∙ ap (λ (x : Answer). andThen x (λ _. last)) (sym e) ∙ refusal-then refusal (λ _. last))
 
     module _ (fine : wish ≡ done []) where
-      past-wish : routeAnswer n lows highs k from to counts relays scratch ≡ last
+      past-wish : coreAnswer asked n lows highs k from to counts relays links scratch ≡ last
       past-wish = past-table ∙ then-done wish (λ _. last) [] fine
 
-      pub route-answered : (answer : Answer) (counts′ relays′ scratch′ : List ℕ)
-          → answered counts′ relays′ answer ≡ treeAnswer n lows highs k from to counts relays → scratch′ ≡ zeroed scratch
-          → Promised answer counts′ relays′ scratch′
-      unfolding treeAnswer countsAfter routeRelaysAfter scratchAfter ifDone scratchUsed refuseIf
-      route-answered answer counts′ relays′ scratch′ e clear = go (oneTreeOf n lows highs k from to) refl
+      pub route-answered : (answer : Answer) (counts′ relays′ links′ scratch′ : List ℕ)
+          → answered counts′ relays′ links′ answer ≡ treeAnswer n lows highs k from to counts relays links → scratch′ ≡ zeroed scratch
+          → Promised answer counts′ relays′ links′ scratch′
+      unfolding treeAnswer coreCounts coreRelays coreLinks coreScratch ifDone scratchUsed refuseIf
+      route-answered answer counts′ relays′ links′ scratch′ e clear = go (oneTreeOf n lows highs k from to) refl
         where
-          go : (b : Bool) → oneTreeOf n lows highs k from to ≡ b → Promised answer counts′ relays′ scratch′
+          -- From what the core answers, and the lists due with it.
+          promised : (due : Answered) → answered counts′ relays′ links′ answer ≡ due
+              → coreAnswer asked n lows highs k from to counts relays links scratch ≡ due .answer
+              → (due .countList ≡ coreCounts asked n lows highs k from to counts relays links scratch)
+              → (due .relayList ≡ coreRelays asked n lows highs k from to counts relays links scratch)
+              → (due .linkList ≡ coreLinks asked n lows highs k from to counts relays links scratch)
+              → (zeroed scratch ≡ coreScratch asked n lows highs k from to counts relays links scratch)
+              → Promised answer counts′ relays′ links′ scratch′
+          promised due parts whole c r l x = (
+            ap (λ (x : Answered). x .answer) parts ∙ sym whole,
+            (
+              ap (λ (x : Answered). x .countList) parts ∙ c,
+              (ap (λ (x : Answered). x .relayList) parts ∙ r, (ap (λ (x : Answered). x .linkList) parts ∙ l, clear ∙ x)),
+            ),
+          )
+
+          go : (b : Bool) → oneTreeOf n lows highs k from to ≡ b → Promised answer counts′ relays′ links′ scratch′
           go true eb =
-              let parts : answered counts′ relays′ answer
-              ≡ answered (overwrite (map length (routesOf n lows highs k from to)) counts) (overwrite (joinAll (routesOf n lows highs k from to)) relays)
-              (done (length (joinAll (routesOf n lows highs k from to)) ∷ [])) = e ∙ rw eb in
-              let whole : routeAnswer n lows highs k from to counts relays scratch
-              ≡ done (length (joinAll (routesOf n lows highs k from to)) ∷ []) = past-wish ∙ rw eb in (
-                ap (λ (x : Answered). x .answer) parts ∙ sym whole,
-                (
-                  ap (λ (x : Answered). x .countList) parts ∙ rw whole,
-                  (
-                    ap (λ (x : Answered). x .relayList) parts ∙ rw whole,
-                    clear ∙ rw whole,
-                  ),
-                ),
-              )
+              let routes = routesOf n lows highs k from to in
+              let due : Answered =
+              answered (overwrite (map length routes) counts) (overwrite (joinAll routes) relays)
+              (sets links 0 (joinAll (oversOf n lows highs k from to))) (done (length (joinAll routes) ∷ [])) in
+              let whole : coreAnswer asked n lows highs k from to counts relays links scratch ≡ done (length (joinAll routes) ∷ []) =
+              past-wish ∙ rw eb in
+              promised due (e ∙ rw eb) whole (rw whole) (rw whole) (rw whole) (rw whole)
           go false eb =
-              let parts : answered counts′ relays′ answer ≡ answered counts relays (refused 13 0) = e ∙ rw eb in
-              let whole : routeAnswer n lows highs k from to counts relays scratch ≡ refused 13 0 = past-wish ∙ rw eb in (
-                ap (λ (x : Answered). x .answer) parts ∙ sym whole,
-                (
-                  ap (λ (x : Answered). x .countList) parts ∙ rw whole,
-                  (
-                    ap (λ (x : Answered). x .relayList) parts ∙ rw whole,
-                    clear ∙ rw whole,
-                  ),
-                ),
-              )
+              let whole : coreAnswer asked n lows highs k from to counts relays links scratch ≡ refused 13 0 = past-wish ∙ rw eb in
+              promised (answered counts relays links (refused 13 0)) (e ∙ rw eb) whole (rw whole) (rw whole) (rw whole) (rw whole)
 
       -- What is passed is what Route asks.
       pub wish-passed : Routable n lows highs k from to counts relays scratch
       unfolding wishCheck outside
       wish-passed =
-          let short : Bool = ltb (length counts) k || (ltb (length relays) (n - 2 + 2 * k) || ltb (length scratch) (k * n)) in
+          let lent : Bool = ltb (length counts) k || (ltb (length relays) (n - 2 + 2 * k) || ltb (length scratch) (k * n)) in
+          let short : Bool = lent || (asked && ltb (length links) (n - 2 + k)) in
           let room : Answer = refuseIf short 12 0 (done []) in
           let same : Answer = refuseIf (eqb from to) 11 0 room in
           let range : Answer = refuseIf (leb n from || leb n to) 10 0 same in
@@ -190,7 +197,8 @@ module _ (n : ℕ) (lows highs : List ℕ) (k from to : ℕ) (counts relays scra
           let four = not-refused short 12 0 (done []) [] (three .1) in
           let inK = or-false (ltb k 1) (ltb 32 k) (one .0) in
           let ends = or-false (leb n from) (leb n to) (two .0) in
-          let rooms = or-false (ltb (length counts) k) (ltb (length relays) (n - 2 + 2 * k) || ltb (length scratch) (k * n)) (four .0) in
+          let rooms = or-false (ltb (length counts) k) (ltb (length relays) (n - 2 + 2 * k) || ltb (length scratch) (k * n))
+          (or-false lent (asked && ltb (length links) (n - 2 + k)) (four .0) .0) in
           let later = or-false (ltb (length relays) (n - 2 + 2 * k)) (ltb (length scratch) (k * n)) (rooms .1) in
           record {
             accepted = ok;

@@ -1,6 +1,6 @@
 -- `answer` meets its contract. Assumes nothing.
 use Rattle.routes.proofs.Answers.Inner.{answer-some, answer-none}
-use Rattle.routes.specs.Side.{tableLeft}
+use Rattle.routes.specs.Side.{tableEntry}
 use borrow.Author.Needs.{needs}
 use Rattle.routes.proofs.accepted.answer.Statement.{statement}
 use Rattle.routes.proofs.accepted.answer.Tie as tie
@@ -30,8 +30,8 @@ returns c =
     let atOneTree = atIf1 .before in
     let start = atOneTree .before .before .before .before .before .before .before in
     let a = start .args in
-    answer-some (a .a .now) (a .b .now) (tableLeft (a .table .now) (a .n)) (a .k) (a .p .0) (a .q .0) (a .order .now) (a .counts .now)
-    (a .relays .now)
+    answer-some (a .a .now) (a .b .now) (tableEntry (a .table .now) (a .ends .now) (a .n)) (a .k) (a .p .0) (a .q .0) (a .order .now) (a .counts .now)
+    (a .relays .now) (a .links .now)
     (atOneTree .one-tree .result) (atOneTree .one-tree .ensures) (atBetween .between .last .1 .1 .1 .1 .1 .1 .1 .1 .0)
     (atBetween .between .last .1 .1 .1 .1 .1 .1 .1 .1 .1 .0) (atBetween .between .result)
     (atIf1 .if1 .taken) (atBetween .between .ensures)
@@ -39,8 +39,8 @@ returns c =
 returns-2 : tie.Need-returns-2
 returns-2 c =
     let a = c .before .before .before .before .before .before .before .before .args in
-    answer-none (a .a .now) (a .b .now) (tableLeft (a .table .now) (a .n)) (a .k) (a .p .0) (a .q .0) (a .order .now) (a .counts .now)
-    (a .relays .now)
+    answer-none (a .a .now) (a .b .now) (tableEntry (a .table .now) (a .ends .now) (a .n)) (a .k) (a .p .0) (a .q .0) (a .order .now) (a .counts .now)
+    (a .relays .now) (a .links .now)
     (c .before .one-tree .result) (c .before .one-tree .ensures) (c .if1 .left)
 
 pub answer-spec : {M : Type 1} → statement M

@@ -93,14 +93,47 @@ returns-9 : tie.Need-returns-9
 unfolding wishCheck outside refuseIf
 returns-9 c =
     simp (
-      le-ltb _ _ (c .before .before .before .before .before .before .before .if1 .left),
-      le-ltb _ _ (c .before .before .before .before .before .before .if2 .left),
-      lt-leb _ _ (c .before .before .before .before .before .if3 .left),
-      lt-leb _ _ (c .before .before .before .before .if4 .left),
-      ne-eqb _ _ (c .before .before .before .if5 .left),
-      le-ltb _ _ (c .before .before .if6 .left),
-      le-ltb _ _ (c .before .if7 .left),
-      le-ltb _ _ (c .if8 .left),
+      le-ltb _ _ (c .before .before .before .before .before .before .before .before .before .if1 .left),
+      le-ltb _ _ (c .before .before .before .before .before .before .before .before .if2 .left),
+      lt-leb _ _ (c .before .before .before .before .before .before .before .if3 .left),
+      lt-leb _ _ (c .before .before .before .before .before .before .if4 .left),
+      ne-eqb _ _ (c .before .before .before .before .before .if5 .left),
+      le-ltb _ _ (c .before .before .before .before .if6 .left),
+      le-ltb _ _ (c .before .before .before .if7 .left),
+      le-ltb _ _ (c .before .before .if8 .left),
+      c .before .if9 .taken,
+      lt-ltb _ _ (c .if10 .taken),
+    )
+
+returns-10 : tie.Need-returns-10
+unfolding wishCheck outside refuseIf
+returns-10 c =
+    simp (
+      le-ltb _ _ (c .before .before .before .before .before .before .before .before .before .if1 .left),
+      le-ltb _ _ (c .before .before .before .before .before .before .before .before .if2 .left),
+      lt-leb _ _ (c .before .before .before .before .before .before .before .if3 .left),
+      lt-leb _ _ (c .before .before .before .before .before .before .if4 .left),
+      ne-eqb _ _ (c .before .before .before .before .before .if5 .left),
+      le-ltb _ _ (c .before .before .before .before .if6 .left),
+      le-ltb _ _ (c .before .before .before .if7 .left),
+      le-ltb _ _ (c .before .before .if8 .left),
+      c .before .if9 .taken,
+      le-ltb _ _ (c .if10 .left),
+    )
+
+returns-11 : tie.Need-returns-11
+unfolding wishCheck outside refuseIf
+returns-11 c =
+    simp (
+      le-ltb _ _ (c .before .before .before .before .before .before .before .before .if1 .left),
+      le-ltb _ _ (c .before .before .before .before .before .before .before .if2 .left),
+      lt-leb _ _ (c .before .before .before .before .before .before .if3 .left),
+      lt-leb _ _ (c .before .before .before .before .before .if4 .left),
+      ne-eqb _ _ (c .before .before .before .before .if5 .left),
+      le-ltb _ _ (c .before .before .before .if6 .left),
+      le-ltb _ _ (c .before .before .if7 .left),
+      le-ltb _ _ (c .before .if8 .left),
+      c .if9 .left,
     )
 
 pub wish-check-spec : {M : Type 1} → statement M
@@ -119,4 +152,6 @@ wish-check-spec =
     returns-7
     mul-if8
     returns-8
-    returns-9)
+    returns-9
+    returns-10
+    returns-11)
