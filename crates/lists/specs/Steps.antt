@@ -1,8 +1,10 @@
 -- What stands between each entry of a list and the next. Assumes nothing.
-use Prim.Native.Nat.{ℕ}
+use Prim.Native.Nat.{ℕ, suc, _+_, _≤_, _<_}
 use mathlib.Core.List.{List, [], _∷_, _++_, map, reverse, reverseAux, reverseAux-eq}
 use mathlib.Core.Path.{_≡_, refl, sym, _∙_, ap}
-use lib.ListN.{length}
+use native.Mathlib.Omega.{arith}
+use lib.ListN.{length, getD, length-append}
+use Rattle.definitions.specs.Lists.{joinAll}
 
 -- f of each entry and the next.
 unfoldable pub stepsOf : (f : ℕ → ℕ → ℕ) (list : List ℕ) → List ℕ
@@ -14,6 +16,24 @@ pub length-stepsOf : (f : ℕ → ℕ → ℕ) (x : ℕ) (rest : List ℕ) → l
 unfolding stepsOf
 length-stepsOf f x [] = refl
 length-stepsOf f x (y ∷ rest) = rw (length-stepsOf f y rest)
+
+-- Lists with an entry each have one step less each.
+pub length-all-steps : (f : ℕ → ℕ → ℕ) (lists : List (List ℕ)) → ((i : ℕ) → i < length lists → 1 ≤ length (getD lists i []))
+    → length (joinAll (map (stepsOf f) lists)) + length lists ≡ length (joinAll lists)
+unfolding joinAll
+length-all-steps f [] some = refl
+length-all-steps f (list ∷ lists) some =
+    omega (
+      arith,
+      length-append (stepsOf f list) (joinAll (map (stepsOf f) lists)),
+      length-append list (joinAll lists),
+      one-less list (some 0 (omega arith)),
+      length-all-steps f lists (λ i less. some (suc i) (omega arith)),
+    )
+  where
+    one-less : (list : List ℕ) → 1 ≤ length list → length (stepsOf f list) + 1 ≡ length list
+    one-less [] some = absurd (omega arith)
+    one-less (x ∷ rest) some = omega (arith, length-stepsOf f x rest)
 
 -- Of a mapped list.
 pub stepsOf-map : (f : ℕ → ℕ → ℕ) (g : ℕ → ℕ) (list : List ℕ) → stepsOf f (map g list) ≡ stepsOf (λ a b. f (g a) (g b)) list

@@ -1,27 +1,28 @@
 -- The links of the routes are the links that join each relay of a route to the next: at each step the index is that of the one
 -- link of the table that does. From what the look-ups gave along the paths, and "at most one for each two".
 -- Over any order; then for the base and accepted networks.
-use Prim.Native.Nat.{ℕ, _≤_, _<_}
+use Prim.Native.Nat.{ℕ, _+_, _-_, _≤_, _<_}
 use mathlib.Core.Bool.{Bool, true, false, _||_}
 use mathlib.Core.List.{List, [], _∷_, map}
 use mathlib.Core.Logic.{_≢_}
 use mathlib.Core.Path.{_≡_, refl, sym, _∙_, ap, fun-ext}
 use native.Mathlib.Omega.{arith}
-use lib.ListN.{length, getD}
-use Rattle.definitions.specs.Lists.{firstFrom}
+use lib.ListN.{length}
+use Rattle.definitions.specs.Lists.{firstFrom, joinAll}
 use Rattle.definitions.specs.Network.{isPair, joins, Accepted}
 use Rattle.definitions.specs.Order.{orderOf, placeOf, relayAt}
-use Rattle.definitions.specs.Forests.{leftEntry}
-use Rattle.definitions.specs.Route.{leftOf, routesBetween, routesOf}
+use Rattle.definitions.specs.Forests.{leftEntry, forestsOf, marksOf}
+use Rattle.definitions.specs.Route.{leftOf, routesBetween, routesOf, oneTreeOf}
 use Rattle.definitions.specs.Over.{oversBetween, entryOf, oversOf, OneLink, OverFrom, OverHolds}
 use Rattle.definitions.specs.Demand.{LinkOf, AlongFrom, Along}
 use Rattle.lists.specs.Searches.{first-holds}
 use Rattle.lists.specs.Maps.{map-map}
-use Rattle.lists.specs.Steps.{stepsOf, stepsOf-map}
-use Rattle.theory.specs.Accepted.{accepted}
-use Rattle.theory.specs.Links.{joins-sym, one-link}
+use Rattle.lists.specs.Steps.{stepsOf, stepsOf-map, length-all-steps}
 use Rattle.theory.specs.Arranged.{leftIn, Arranged, base-arranged}
-use Rattle.theory.specs.RelayTrees.{AliveBetween, places-differ}
+use Rattle.theory.specs.RelayTrees.{AliveBetween, places-differ, one-tree-alive, one-tree-test}
+use Rattle.theory.specs.ForestBound.{forests-at}
+use Rattle.theory.specs.Columns.{mark-entry}
+use Rattle.theory.specs.RelayRoutes.{routes-hold}
 use Rattle.theory.specs.LeftEntries.{entryIn, EntryLink, entry-link-in, entry-joins-in}
 use Rattle.theory.specs.OverSteps.{over-steps}
 
@@ -107,3 +108,24 @@ overs-found n lows highs ok k from to hf ht differ alive =
     (places-differ n lows highs from to hf ht differ) alive
     ∙ ap (λ (f : List ℕ → List ℕ). map f routes) (fun-ext λ l. sym (stepsOf-map (pairLink lows highs) (relayAt order) l))
     ∙ sym (map-map (stepsOf (pairLink lows highs)) (map (relayAt order)) routes)
+
+-- The base, from Route's test of one tree.
+module _ (n : ℕ) (lows highs : List ℕ) (ok : Accepted n lows highs) (k from to : ℕ) (hf : from < n) (ht : to < n) (differ : from ≢ to)
+    (tree : oneTreeOf n lows highs k from to ≡ true) where
+  pub tree-between : AliveBetween (leftOf n lows highs) k (placeOf (orderOf n lows highs) from) (placeOf (orderOf n lows highs) to)
+  tree-between =
+      one-tree-alive n lows highs ok (forestsOf n lows highs) (forests-at n lows highs) k from to hf ht differ .0
+      (one-tree-test n lows highs ok (forestsOf n lows highs) (forests-at n lows highs) k from to hf ht differ .1 tree)
+
+  -- On each route one link less than relays: n − 2 + k at most in all.
+  pub overs-fit : 1 ≤ k → length (joinAll (oversOf n lows highs k from to)) ≤ n - 2 + k
+  overs-fit one =
+      let routes : List (List ℕ) = routesOf n lows highs k from to in
+      let holds = routes-hold n lows highs ok k one (marksOf n lows highs k) (mark-entry n lows highs k) from to hf ht differ tree-between in
+      omega (
+        arith,
+        ap (λ (l : List (List ℕ)). length (joinAll l)) (overs-found n lows highs ok k from to hf ht differ tree-between),
+        length-all-steps (pairLink lows highs) routes (λ i less. omega (arith, holds .each i (omega (arith, holds .number)) .long)),
+        holds .number,
+        holds .written,
+      )

@@ -23,22 +23,25 @@ same-length-3 c = search needs
 same-length-4 : tie.Need-same-length-4
 same-length-4 c = search needs
 
+same-length-5 : tie.Need-same-length-5
+same-length-5 c = search needs
+
 returns : tie.Need-returns
 returns c =
-    let atBetween = c .before .before .before .before .before .before .before .before in
-    let atIf1 = atBetween .before .before .before .before .before in
+    let atBetween = c .before .before .before .before .before .before .before .before .before .before in
+    let atIf1 = atBetween .before .before .before .before .before .before in
     let atOneTree = atIf1 .before in
-    let start = atOneTree .before .before .before .before .before .before .before in
+    let start = atOneTree .before .before .before .before .before .before .before .before .before in
     let a = start .args in
     answer-some (a .a .now) (a .b .now) (tableEntry (a .table .now) (a .ends .now) (a .n)) (a .k) (a .p .0) (a .q .0) (a .order .now) (a .counts .now)
     (a .relays .now) (a .links .now)
-    (atOneTree .one-tree .result) (atOneTree .one-tree .ensures) (atBetween .between .last .1 .1 .1 .1 .1 .1 .1 .1 .0)
-    (atBetween .between .last .1 .1 .1 .1 .1 .1 .1 .1 .1 .0) (atBetween .between .result)
-    (atIf1 .if1 .taken) (atBetween .between .ensures)
+    (atOneTree .one-tree .result) (atOneTree .one-tree .ensures) (atBetween .between .last .1 .1 .1 .1 .1 .1 .1 .1 .1 .0)
+    (atBetween .between .last .1 .1 .1 .1 .1 .1 .1 .1 .1 .1 .0) (atBetween .between .last .1 .1 .1 .1 .1 .1 .1 .1 .1 .1 .1 .0) (atBetween .between .result)
+    (atIf1 .if1 .taken) (atBetween .between .ensures .0) (atBetween .between .ensures .1)
 
 returns-2 : tie.Need-returns-2
 returns-2 c =
-    let a = c .before .before .before .before .before .before .before .before .args in
+    let a = c .before .before .before .before .before .before .before .before .before .before .args in
     answer-none (a .a .now) (a .b .now) (tableEntry (a .table .now) (a .ends .now) (a .n)) (a .k) (a .p .0) (a .q .0) (a .order .now) (a .counts .now)
     (a .relays .now) (a .links .now)
     (c .before .one-tree .result) (c .before .one-tree .ensures) (c .if1 .left)
@@ -53,5 +56,6 @@ answer-spec =
     same-length-2
     same-length-3
     same-length-4
+    same-length-5
     returns
     returns-2)

@@ -33,7 +33,10 @@ same-length-4 : tie.Need-same-length-4
 same-length-4 c = search needs
 
 returns : tie.Need-returns
-returns c = search needs
+returns c =
+    let atLeft = c .before .before .before .before in
+    let s = atLeft .before .before .before .before .before .before .before .before .before .before .scan in
+    record { theOrder = s .ensures .theOrder; thePlaces = s .ensures .thePlaces; theTable = atLeft .left-table .ensures }
 
 pub prepare-spec : {M : Type 1} → statement M
 prepare-spec =

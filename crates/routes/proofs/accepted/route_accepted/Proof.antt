@@ -9,9 +9,9 @@ is-small-requires c κs = search needs
 
 route-small-requires : tie.Need-route-small-requires
 route-small-requires c κs =
-    let case = c .before .before .before in
+    let case = c .before .before .before .before in
     let small = small-sizes _ _ (case .before .is-small .ensures) (case .if1 .taken) in
-    (c .before .before .before .before .before .before .before .before .before .before .pre, small .0, small .1)
+    (c .before .before .before .before .before .before .before .before .before .before .before .before .pre, small .0, small .1)
 
 route-large-requires : tie.Need-route-large-requires
 route-large-requires c κs = search needs
@@ -37,6 +37,12 @@ same-length-5 c = search needs
 same-length-6 : tie.Need-same-length-6
 same-length-6 c = search needs
 
+same-length-7 : tie.Need-same-length-7
+same-length-7 c = search needs
+
+same-length-8 : tie.Need-same-length-8
+same-length-8 c = search needs
+
 returns-2 : tie.Need-returns-2
 returns-2 c = search needs
 
@@ -50,8 +56,10 @@ route-accepted-spec =
     same-length
     same-length-2
     same-length-3
-    returns
     same-length-4
+    returns
     same-length-5
     same-length-6
+    same-length-7
+    same-length-8
     returns-2)

@@ -40,15 +40,15 @@ slice-aggregate-route-in-5 c = search needs
 
 route-in-requires : tie.Need-route-in-requires
 route-in-requires c κs =
-    let atNoPaths2 = c .before .before .before .before .before .before .before .before in
+    let atNoPaths2 = c .before .before .before .before .before .before .before .before .before in
     let atNoPaths = atNoPaths2 .before in
     let atNoLinks = atNoPaths .before in
     let atNoRelays2 = atNoLinks .before in
     let atNoRelays = atNoRelays2 .before in
-    let s = atNoRelays .before .before .before .before .before .before in
+    let s = atNoRelays .before .before .before .before .before .before .before in
     let t = accepted (s .args .n) (s .args .lows .now) (s .args .highs .now) (s .pre .accepted) in (
       s .pre,
-      route-arrays 1000 3000 (priorStart + 1001) (s .args .n) (t .few) (t .short) (omega (arith, t .few))
+      route-arrays 1000 3000 (priorStart + 2002) (s .args .n) (t .few) (t .short) (omega (arith, t .few))
           (atNoRelays .relay-copies .ensures) (atNoRelays2 .relay-copies2 .ensures) (atNoLinks .link-zeros .ensures)
           (atNoPaths .side-for-1000-relays .ensures) (atNoPaths2 .side-for-1000-relays2 .ensures),
     )
@@ -61,6 +61,9 @@ same-length-2 c = search needs
 
 same-length-3 : tie.Need-same-length-3
 same-length-3 c = search needs
+
+same-length-4 : tie.Need-same-length-4
+same-length-4 c = search needs
 
 returns : tie.Need-returns
 returns c = search needs
@@ -83,4 +86,5 @@ route-large-spec =
     same-length
     same-length-2
     same-length-3
+    same-length-4
     returns)

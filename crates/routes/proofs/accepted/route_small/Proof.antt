@@ -39,14 +39,14 @@ slice-aggregate-route-in-5 c = search needs
 
 route-in-requires : tie.Need-route-in-requires
 route-in-requires c κs =
-    let atFewPaths2 = c .before .before .before .before .before .before .before .before in
+    let atFewPaths2 = c .before .before .before .before .before .before .before .before .before in
     let atFewPaths = atFewPaths2 .before in
     let atFewLinks = atFewPaths .before in
     let atFewRelays2 = atFewLinks .before in
     let atFewRelays = atFewRelays2 .before in
-    let s = atFewRelays .before .before .before .before .before .before in (
+    let s = atFewRelays .before .before .before .before .before .before .before in (
       s .pre .0,
-      route-arrays 128 384 (priorStart + 129) (s .args .n) (s .pre .1) (s .pre .2) (omega (arith, s .pre .1))
+      route-arrays 128 384 (priorStart + 258) (s .args .n) (s .pre .1) (s .pre .2) (omega (arith, s .pre .1))
           (atFewRelays .few-relay-copies .ensures) (atFewRelays2 .few-relay-copies2 .ensures) (atFewLinks .few-link-zeros .ensures)
           (atFewPaths .side-for-128-relays .ensures) (atFewPaths2 .side-for-128-relays2 .ensures),
     )
@@ -59,6 +59,9 @@ same-length-2 c = search needs
 
 same-length-3 : tie.Need-same-length-3
 same-length-3 c = search needs
+
+same-length-4 : tie.Need-same-length-4
+same-length-4 c = search needs
 
 returns : tie.Need-returns
 returns c = search needs
@@ -81,4 +84,5 @@ route-small-spec =
     same-length
     same-length-2
     same-length-3
+    same-length-4
     returns)

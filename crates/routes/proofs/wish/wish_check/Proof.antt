@@ -89,6 +89,12 @@ returns-8 c =
       lt-ltb _ _ (c .if8 .taken),
     )
 
+sub-if10 : tie.Need-sub-if10
+sub-if10 c = omega arith
+
+add-if10 : tie.Need-add-if10
+add-if10 c = omega arith
+
 returns-9 : tie.Need-returns-9
 unfolding wishCheck outside refuseIf
 returns-9 c =
@@ -152,6 +158,8 @@ wish-check-spec =
     returns-7
     mul-if8
     returns-8
+    sub-if10
+    add-if10
     returns-9
     returns-10
     returns-11)
