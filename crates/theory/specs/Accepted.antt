@@ -12,6 +12,7 @@ use Rattle.definitions.specs.Outcome.{pick, done, refuseIf}
 use Rattle.definitions.specs.Lists.{outside, someBelow}
 use Rattle.definitions.specs.Network.{isPair, linkFault, linksCheck, tableCheck, Accepted}
 use Rattle.lists.specs.Outcomes.{not-refused, refuse-not}
+use Rattle.lists.specs.SameOutcomes.{done-same}
 use Rattle.lists.specs.Tests.{or-false, or-neither, and-both, and-all}
 use Rattle.lists.specs.Below.{below-none, none-below}
 
@@ -73,6 +74,24 @@ good-links n lows highs i (suc count) h =
     let none : fault ≡ 0 = no-fault n lows highs i (getD lows i 0) (getD highs i 0) (h i (omega arith) (omega arith)) in
     refuse-not (ltb 0 fault) fault i (linksCheck n lows highs (i + 1) count) (le-ltb 0 fault (omega arith))
     ∙ good-links n lows highs (i + 1) count (λ j p q. h j (omega arith) (omega arith))
+
+-- A table check that is done has accepted.
+links-done : (n : ℕ) (lows highs : List ℕ) (i count : ℕ) (values : List ℕ) → linksCheck n lows highs i count ≡ done values → values ≡ []
+unfolding linksCheck
+links-done n lows highs i zero values e = sym (done-same [] values e)
+links-done n lows highs i (suc count) values e =
+    let fault = linkFault n lows highs i (getD lows i 0) (getD highs i 0) in
+    links-done n lows highs (i + 1) count values
+    (not-refused (ltb 0 fault) fault i (linksCheck n lows highs (i + 1) count) values e .1)
+
+pub check-accepts : (n : ℕ) (lows highs values : List ℕ) → tableCheck n lows highs ≡ done values → Accepted n lows highs
+unfolding tableCheck
+check-accepts n lows highs values e =
+    let check = linksCheck n lows highs 0 (length lows) in
+    let wrong = not (eqb (length lows) (length highs)) || ltb 3000 (length lows) in
+    let three = not-refused (outside 1 1000 n) 3 0 (refuseIf wrong 4 0 check) values e in
+    let four = not-refused wrong 4 0 check values (three .1) in
+    e ∙ ap done (links-done n lows highs 0 (length lows) values (four .1))
 
 -- Of each link the low relay is below the high one.
 abbrev pub LowBelowHigh : (lows highs : List ℕ) → Type 0

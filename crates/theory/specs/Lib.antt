@@ -32,6 +32,7 @@ pub mod PlaceRoutes
 pub mod SweepRoutes
 pub mod RelayRoutes
 pub mod RouteAnswer
+pub mod RoutePassed
 pub mod Certificate
 pub mod DemandThree
 pub mod Mesh
