@@ -4,3 +4,4 @@ pub mod OneTree
 pub mod Accepted
 pub mod Inner
 pub mod Refusals
+pub mod Lent

@@ -1,65 +1,15 @@
--- `route` meets its contract. Assumes nothing.
-use Rattle.routes.proofs.Answers.Refusals.{table-refused, wish-refused, wish-passed, route-answered}
-use Rattle.routes.specs.Answers.{routeOutcome}
-use Rattle.network.specs.Answers.{checkOutcome}
-use Rattle.theory.specs.Accepted.{accepted}
-use mathlib.Core.Path.{sym, _∙_, ap}
+-- `route` meets its contract: the core without a list of links. Assumes nothing.
+use mathlib.Core.Path.{_∙_}
+use Rattle.routes.proofs.Answers.Lent.{alone-answer, alone-counts, alone-relays, alone-scratch}
 use borrow.Author.Needs.{needs}
 use Rattle.routes.proofs.route.Statement.{statement}
 use Rattle.routes.proofs.route.Tie as tie
 
-table-check-requires : tie.Need-table-check-requires
-table-check-requires c κs = search needs
+slice-aggregate-route-core : tie.Need-slice-aggregate-route-core
+slice-aggregate-route-core c = search needs
 
-enum-known-refusal : tie.Need-enum-known-refusal
-enum-known-refusal c = search needs
-
-enum-told : tie.Need-enum-told
-enum-told c = search needs
-
-wish-check-requires : tie.Need-wish-check-requires
-wish-check-requires c κs =
-    let start = c .before .before .before .before .before .before .before .before in
-    let a = start .args in
-    accepted (a .n) (a .lows .now) (a .highs .now)
-    (sym (c .before .before .table-check .ensures) ∙ ap checkOutcome (c .enum-told .given .1)) .few
-
-enum-known-refusal-2 : tie.Need-enum-known-refusal-2
-enum-known-refusal-2 c = search needs
-
-enum-told-2 : tie.Need-enum-told-2
-enum-told-2 c = search needs
-
-route-accepted-requires : tie.Need-route-accepted-requires
-route-accepted-requires c κs =
-    let atEnumTold2 = c .before .before .before in
-    let atWishCheck = atEnumTold2 .before .before in
-    let atEnumTold = atWishCheck .before in
-    let atTableCheck = atEnumTold .before .before in
-    let start = atTableCheck .before .before .before .before .before .before in
-    let a = start .args in
-    wish-passed (a .n) (a .lows .now) (a .highs .now) (a .k) (a .from) (a .to) (a .counts .now) (a .relays .now) (a .scratch .now)
-    (sym (atTableCheck .table-check .ensures) ∙ ap checkOutcome (atEnumTold .enum-told .given .1))
-    (sym (atWishCheck .wish-check .ensures) ∙ ap checkOutcome (atEnumTold2 .enum-told2 .given .1))
-
-returns : tie.Need-returns
-returns c =
-    let atTableCheck = c .before .before .before in
-    let start = atTableCheck .before .before .before .before .before .before in
-    let a = start .args in
-    table-refused (a .n) (a .lows .now) (a .highs .now) (a .k) (a .from) (a .to) (a .counts .now) (a .relays .now) (a .scratch .now)
-    (c .before .refusal .given .0 .0) (sym (ap checkOutcome (c .before .refusal .given .1)) ∙ atTableCheck .table-check .ensures)
-
-returns-2 : tie.Need-returns-2
-returns-2 c =
-    let atWishCheck = c .before .before .before in
-    let atEnumTold = atWishCheck .before in
-    let atTableCheck = atEnumTold .before .before in
-    let start = atTableCheck .before .before .before .before .before .before in
-    let a = start .args in
-    wish-refused (a .n) (a .lows .now) (a .highs .now) (a .k) (a .from) (a .to) (a .counts .now) (a .relays .now) (a .scratch .now)
-    (sym (atTableCheck .table-check .ensures) ∙ ap checkOutcome (atEnumTold .enum-told .given .1))
-    (c .before .refusal2 .given .0 .0) (sym (ap checkOutcome (c .before .refusal2 .given .1)) ∙ atWishCheck .wish-check .ensures)
+route-core-requires : tie.Need-route-core-requires
+route-core-requires c κs = search needs
 
 same-length : tie.Need-same-length
 same-length c = search needs
@@ -70,37 +20,27 @@ same-length-2 c = search needs
 same-length-3 : tie.Need-same-length-3
 same-length-3 c = search needs
 
-returns-3 : tie.Need-returns-3
-returns-3 c =
-    let atRouteAccepted = c .before .before .before .before .before .before in
-    let atEnumTold2 = atRouteAccepted .before .before .before .before in
-    let atWishCheck = atEnumTold2 .before .before in
-    let atEnumTold = atWishCheck .before in
-    let atTableCheck = atEnumTold .before .before in
-    let start = atTableCheck .before .before .before .before .before .before in
-    let a = start .args in
-    let called = atRouteAccepted .route-accepted in
-    route-answered (a .n) (a .lows .now) (a .highs .now) (a .k) (a .from) (a .to) (a .counts .now) (a .relays .now) (a .scratch .now)
-    (sym (atTableCheck .table-check .ensures) ∙ ap checkOutcome (atEnumTold .enum-told .given .1))
-    (sym (atWishCheck .wish-check .ensures) ∙ ap checkOutcome (atEnumTold2 .enum-told2 .given .1))
-    (routeOutcome (called .result)) (called .last .1 .1 .1 .1 .1 .1 .0) (called .last .1 .1 .1 .1 .1 .1 .1 .0)
-    (called .last .1 .1 .1 .1 .1 .1 .1 .1 .0)
-    (called .ensures .0) (called .ensures .1)
+returns : tie.Need-returns
+returns c =
+    let called = c .before .before .before .before .before .before .before .route-core in
+    let a = c .before .before .before .before .before .before .before .before .before .before .before .before .before .before .before .before .before .args in (
+      called .ensures .0 ∙ alone-answer (a .n) (a .lows .now) (a .highs .now) (a .k) (a .from) (a .to) (a .counts .now) (a .relays .now) (a .scratch .now) _,
+      (
+        called .ensures .1 .0 ∙ alone-counts (a .n) (a .lows .now) (a .highs .now) (a .k) (a .from) (a .to) (a .counts .now) (a .relays .now) (a .scratch .now) _,
+        (
+          called .ensures .1 .1 .0 ∙ alone-relays (a .n) (a .lows .now) (a .highs .now) (a .k) (a .from) (a .to) (a .counts .now) (a .relays .now) (a .scratch .now) _,
+          called .ensures .1 .1 .1 .1 ∙ alone-scratch (a .n) (a .lows .now) (a .highs .now) (a .k) (a .from) (a .to) (a .counts .now) (a .relays .now) (a .scratch .now) _,
+        ),
+      ),
+    )
 
 pub route-spec : {M : Type 1} → statement M
 route-spec =
     tie.close
     (tie.spec
-    table-check-requires
-    enum-known-refusal
-    enum-told
-    wish-check-requires
-    enum-known-refusal-2
-    enum-told-2
-    route-accepted-requires
-    returns
-    returns-2
+    slice-aggregate-route-core
+    route-core-requires
     same-length
     same-length-2
     same-length-3
-    returns-3)
+    returns)
