@@ -6,9 +6,11 @@ pub mod Reach
 pub mod Planned
 pub mod Refusals
 pub mod Routes
+pub mod Overs
 pub mod Longest
 pub mod Promise
 pub mod Front
 pub mod ReadStage
 pub mod Into
+pub mod LinkRooms
 pub mod Stages

@@ -1,15 +1,16 @@
 -- The planner never prints more bytes than its output has room for. Rests on demand 3, which bounds the relays of all the routes.
-use Prim.Native.Nat.{ℕ, _+_, _*_, _≤_, _<_}
+use Prim.Native.Nat.{ℕ, suc, _+_, _*_, _^_, _≤_, _<_}
 use mathlib.Core.List.{List, [], _∷_, _++_, map}
-use mathlib.Core.Path.{_≡_, refl}
+use mathlib.Core.Path.{_≡_, refl, sym, _∙_}
+use native.Mathlib.Nat.{mul-suc}
 use native.Mathlib.Omega.{arith}
 use lib.Dec.{eqb}
 use lib.ListN.{length, length-append, length-map}
 use Rattle.definitions.specs.Outcome.{Outcome, refused, done}
 use Rattle.definitions.specs.Lists.{joinAll}
-use Rattle.definitions.specs.Network.{Accepted}
 use Rattle.definitions.specs.Forests.{markOf, forestsOf, marksOf}
 use Rattle.definitions.specs.Route.{routesOf}
+use Rattle.definitions.specs.Over.{oversOf}
 use Rattle.definitions.specs.Form.{bytes, decimal, writeForm}
 use Rattle.definitions.specs.Text.{Network, endForm}
 use Rattle.definitions.specs.Plan.{
@@ -21,6 +22,7 @@ use Rattle.definitions.specs.Plan.{
   outputRoom,
   planned,
   spaced,
+  numbersLine,
   routeLines,
   sheetText,
   printed,
@@ -32,38 +34,50 @@ use Rattle.theory.specs.Accepted.{accepted}
 use Rattle.theory.specs.ForestBound.{forests-length}
 use Rattle.text_theory.specs.Decimal.{length-decimal-at-most}
 use Rattle.text_theory.specs.Spans.{span, AllBelow, written-span}
+use Rattle.sheet.specs.SheetLines.{line-length}
 use Rattle.sheet.specs.Planned.{route-passed, keptOf, SheetFor, PlannedSheet, planned-sheet}
 use Rattle.sheet.specs.Refusals.{Printable, planned-printable}
 use Rattle.sheet.specs.Routes.{length-routes, routes-below, routes-of}
+use Rattle.sheet.specs.Overs.{length-overs, overs-written, overs-below}
 
 -- The lines of a sheet.
 below-second : (bound : ℕ) (l k : List ℕ) → AllBelow bound (l ++ k) → AllBelow bound l × AllBelow bound k
 below-second bound [] k h = (tt, h)
 below-second bound (x ∷ l) k h = let rest = below-second bound l k (h .1) in ((h .0, rest .0), rest .1)
 
-spaced-length : (route : List ℕ) → AllBelow 1000 route → length (spaced route) ≤ 4 * length route
+-- Numbers of at most `more` + 1 digits, each behind a space.
+spaced-length : (more : ℕ) (numbers : List ℕ) → AllBelow (10 ^ suc more) numbers → length (spaced numbers) ≤ (2 + more) * length numbers
 unfolding spaced
-spaced-length [] h = omega arith
-spaced-length (r ∷ route) h =
+spaced-length more [] h = omega arith
+spaced-length more (x ∷ numbers) h =
     omega (
       arith,
-      length-append (decimal r) (spaced route),
-      length-decimal-at-most 2 r (h .0),
-      spaced-length route (h .1),
+      length-append (decimal x) (spaced numbers),
+      length-decimal-at-most more x (h .0),
+      mul-suc (2 + more) (length numbers),
+      spaced-length more numbers (h .1),
     )
 
-lines-length : (routes : List (List ℕ)) → AllBelow 1000 (joinAll routes)
-    → length (routeLines routes) ≤ 8 * length routes + 4 * length (joinAll routes)
+-- The two lines of each route: 8 bytes and 4 for each relay, 7 bytes and 5 for each link.
+lines-length : (routes overs : List (List ℕ)) → length overs ≡ length routes → AllBelow 1000 (joinAll routes) → AllBelow 10000 (joinAll overs)
+    → length (routeLines routes overs) ≤ 15 * length routes + (4 * length (joinAll routes) + 5 * length (joinAll overs))
 unfolding routeLines joinAll
-lines-length [] h = omega arith
-lines-length (route ∷ routes) h =
-    let both = below-second 1000 route (joinAll routes) h in
+lines-length [] overs same relays links = omega arith
+lines-length (route ∷ routes) [] same relays links = absurd (omega arith)
+lines-length (route ∷ routes) (over ∷ overs) same relays links =
+    let here = below-second 1000 route (joinAll routes) relays in
+    let there = below-second 10000 over (joinAll overs) links in
     omega (
       arith,
-      length-append (spaced route) (bytes ")\n" ++ routeLines routes),
+      length-append (numbersLine (bytes "(route") route) (numbersLine (bytes "(over") over ++ routeLines routes overs),
+      length-append (numbersLine (bytes "(over") over) (routeLines routes overs),
+      line-length (bytes "(route") route,
+      line-length (bytes "(over") over,
       length-append route (joinAll routes),
-      spaced-length route (both .0),
-      lines-length routes (both .1),
+      length-append over (joinAll overs),
+      spaced-length 2 route (here .0),
+      spaced-length 3 over (there .0),
+      lines-length routes overs (omega arith) (here .1) (there .1),
     )
 
 kept-few : (k : ℕ) (network : Network) → keptOf k network ≤ length (network .lows)
@@ -78,20 +92,21 @@ kept-few k network =
       forests-length n (network .lows) (network .highs),
     )
 
--- A sheet: its line has at most 39 bytes, the routes' lines 8 each and 4 for each relay, the two last lines 12 and 6.
+-- A sheet: its line has at most 39 bytes, the two lines of each route 15 and 4 for each relay and 5 for each link, the two last lines
+-- 12 and 6: 39 + 32 × 15 + 4 × 1,062 + 5 × 1,030 + 12 + 6 = 9,935 bytes.
 sheet-length : (from to k : ℕ) (network : Network) (sheet : Sheet)
-    → Accepted (network .relays) (network .lows) (network .highs) → from < 10000 → to < 10000
-    → SheetFor from to k network sheet → length (sheetText sheet) ≤ outputRoom
+    → from < 10000 → to < 10000 → SheetFor from to k network sheet → length (sheetText sheet) ≤ outputRoom
 unfolding outputRoom sheetText span sheetForm keptForm endForm
-sheet-length from to k network sheet good smallFrom smallTo given =
+sheet-length from to k network sheet smallFrom smallTo given =
     let n = network .relays in
     let lows = network .lows in
     let highs = network .highs in
     let routes = routesOf n lows highs k from to in
+    let overs = oversOf n lows highs k from to in
     let kept = keptOf k network in
-    let table = accepted n lows highs good in
-    let passed = route-passed n lows highs k from to (room 32) (room 1062) (room 32000) (given .answer) good (given .routed) in
-    let written = routes-of n lows highs k from to good passed .written in
+    let passed = route-passed n lows highs k from to (room 32) (room 1062) (room 32000) (given .answer) (given .routed) in
+    let table = accepted n lows highs (passed .accepted) in
+    let written = routes-of n lows highs k from to passed .written in
     let first = writeForm sheetForm (from ∷ to ∷ k ∷ []) in
     let third = writeForm keptForm (kept ∷ []) in
     let last = writeForm endForm [] in
@@ -101,14 +116,17 @@ sheet-length from to k network sheet good smallFrom smallTo given =
       table .few,
       passed .starts,
       passed .few,
-      length-append first (routeLines routes ++ (third ++ last)),
-      length-append (routeLines routes) (third ++ last),
+      length-append first (routeLines routes overs ++ (third ++ last)),
+      length-append (routeLines routes overs) (third ++ last),
       length-append third last,
       written-span 3 sheetForm (from ∷ to ∷ k ∷ []) (smallFrom, (smallTo, (omega (arith, passed .few), tt))),
       written-span 3 keptForm (kept ∷ []) (omega (arith, table .short, kept-few k network), tt),
       written-span 3 endForm [] tt,
-      lines-length routes (routes-below 1000 n lows highs k from to (table .some) (table .few)),
+      lines-length routes overs (length-overs n lows highs k from to passed ∙ sym (length-routes n lows highs k from to))
+          (routes-below 1000 n lows highs k from to (table .some) (table .few))
+          (overs-below n lows highs k from to passed 10000 (omega (arith, table .short))),
       length-routes n lows highs k from to,
+      overs-written n lows highs k from to passed,
     ))
 
 -- The line of a refusal has at most 22 bytes.
@@ -126,5 +144,4 @@ plan-length input = go (planned input) (planned-printable input) (planned-sheet 
     go (refused number place) given _ = omega (arith, refused-length number place given)
     go (done sheet) _ behind =
         let found = behind sheet refl in
-        sheet-length (found .from) (found .to) (found .k) (found .network) sheet (found .asked .accepted)
-        (found .smallFrom) (found .smallTo) (found .given)
+        sheet-length (found .from) (found .to) (found .k) (found .network) sheet (found .smallFrom) (found .smallTo) (found .given)

@@ -1,19 +1,18 @@
 -- What stands behind a sheet: the wish, the network that was read, and what Cut and Route answered.
 -- Assumes nothing.
 use Prim.Native.Nat.{ℕ, _+_, _≤_, _<_}
-use mathlib.Core.Bool.{Bool, true, false, _||_, not}
+use mathlib.Core.Bool.{Bool, true, false}
 use mathlib.Core.List.{List, [], _∷_, map}
-use mathlib.Core.Logic.{_≢_}
 use mathlib.Core.Path.{_≡_, refl, sym, _∙_, ap}
 use native.Mathlib.Omega.{arith}
-use lib.Dec.{eqb, ltb, leb}
+use lib.Dec.{eqb, ltb}
 use lib.ListN.{length, getD, drop}
-use borrow.Author.Tests.{eqb-false, leb-false, not-false}
 use Rattle.definitions.specs.Outcome.{pick, done, refuseIf}
-use Rattle.definitions.specs.Lists.{outside, count, total, joinAll}
+use Rattle.definitions.specs.Lists.{outside, count, total}
 use Rattle.definitions.specs.Network.{tableCheck, Accepted}
 use Rattle.definitions.specs.Forests.{forestsOf, markOf, marksOf, cutAnswer}
-use Rattle.definitions.specs.Route.{routesOf, oneTreeOf, tooShort, routeAnswer}
+use Rattle.definitions.specs.Route.{routesOf, tooShort, routeAnswer}
+use Rattle.definitions.specs.Over.{oversOf}
 use Rattle.definitions.specs.Form.{reads, scanForm}
 use Rattle.definitions.specs.Text.{Network, readNetwork}
 use Rattle.definitions.specs.Plan.{wishForm, Sheet, room, sheetFor, planned}
@@ -21,46 +20,17 @@ use Rattle.definitions.specs.SheetPromise.{Asked}
 use Rattle.lists.specs.Outcomes.{not-refused, then-done}
 use Rattle.lists.specs.SameOutcomes.{done-same, done-then}
 use Rattle.lists.specs.Ranges.{inside-range}
-use Rattle.lists.specs.Tests.{or-false}
+use Rattle.theory.specs.RoutePassed.{RoutePassed, unless-passed}
 use Rattle.text_theory.specs.Forms.{Fits, wish-line}
 use Rattle.text_theory.specs.NetworkLines.{read-line}
 use Rattle.text_theory.specs.RoundTrip.{on-scan-done, written-read}
 
 -- What Route passed before it answered.
-pub record RoutePassed (n : ℕ) (lows highs : List ℕ) (k from to : ℕ) : Type 0 where
-  pub some : 1 ≤ k
-  pub few : k ≤ 32
-  pub starts : from < n
-  pub ends : to < n
-  pub differ : from ≢ to
-  pub oneTree : oneTreeOf n lows highs k from to ≡ true
-
-pub route-passed : (n : ℕ) (lows highs : List ℕ) (k from to : ℕ) (counts relays scratch values : List ℕ) → Accepted n lows highs
+pub route-passed : (n : ℕ) (lows highs : List ℕ) (k from to : ℕ) (counts relays scratch values : List ℕ)
     → routeAnswer n lows highs k from to counts relays scratch ≡ done values → RoutePassed n lows highs k from to
 unfolding routeAnswer
-route-passed n lows highs k from to counts relays scratch values table e =
-    let answered = done (length (joinAll (routesOf n lows highs k from to)) ∷ []) in
-    let last = refuseIf (not (oneTreeOf n lows highs k from to)) 13 0 answered in
-    let fitting = refuseIf (tooShort n k counts relays scratch) 12 0 last in
-    let differing = refuseIf (eqb from to) 11 0 fitting in
-    let ending = refuseIf (leb n from || leb n to) 10 0 differing in
-    let first : refuseIf (outside 1 32 k) 9 0 ending ≡ done values =
-    sym (then-done (tableCheck n lows highs) (λ _. refuseIf (outside 1 32 k) 9 0 ending) [] table) ∙ e in
-    let nine = not-refused (outside 1 32 k) 9 0 ending values first in
-    let ten = not-refused (leb n from || leb n to) 10 0 differing values (nine .1) in
-    let eleven = not-refused (eqb from to) 11 0 fitting values (ten .1) in
-    let twelve = not-refused (tooShort n k counts relays scratch) 12 0 last values (eleven .1) in
-    let thirteen = not-refused (not (oneTreeOf n lows highs k from to)) 13 0 answered values (twelve .1) in
-    let range = inside-range 1 32 k (nine .0) in
-    let within = or-false (leb n from) (leb n to) (ten .0) in
-    record {
-      some = range .0;
-      few = range .1;
-      starts = leb-false n from (within .0);
-      ends = leb-false n to (within .1);
-      differ = eqb-false from to (eleven .0);
-      oneTree = not-false (oneTreeOf n lows highs k from to) (thirteen .0);
-    }
+route-passed n lows highs k from to counts relays scratch values e =
+    unless-passed (tooShort n k counts relays scratch) n lows highs k from to values e .1
 
 -- Cut's answer is the count of ones.
 marks-ones : (k : ℕ) (forests : List ℕ) → total (map (markOf k) forests) ≡ count (eqb 1) (map (markOf k) forests)
@@ -102,6 +72,7 @@ sheetOf from to k network kept =
       to = to;
       k = k;
       routes = routesOf (network .relays) (network .lows) (network .highs) k from to;
+      overs = oversOf (network .relays) (network .lows) (network .highs) k from to;
       kept = kept;
     }
 

@@ -1,5 +1,5 @@
 -- The planner's promise, `SheetPromise`: every input gets a sheet whose routes never meet, or the line of the first refusal met.
--- Rests on demand 3, which the routes of a sheet meet.
+-- Rests on demand 3, which the routes of a sheet meet, and on the links found along them.
 use Prim.Native.Nat.{ℕ}
 use mathlib.Core.List.{List}
 use mathlib.Core.Logic.{_⊎_, inl, inr}
@@ -7,7 +7,6 @@ use mathlib.Core.Path.{_≡_, refl, _∙_, ap, subst}
 use native.Mathlib.Omega.{arith}
 use lib.ListN.{getD, drop}
 use Rattle.definitions.specs.Outcome.{Outcome, refused, done, andThen}
-use Rattle.definitions.specs.Network.{Accepted}
 use Rattle.definitions.specs.Forests.{marksOf, cutAnswer}
 use Rattle.definitions.specs.Route.{routeAnswer}
 use Rattle.definitions.specs.Form.{departs, reads, scanForm}
@@ -31,18 +30,18 @@ use Rattle.text_theory.specs.Refusals.{on-scan-refused}
 use Rattle.sheet.specs.Planned.{route-passed, sheetOf, keptOf, SheetFor, wish-read, wish-asked, planned-sheet}
 use Rattle.sheet.specs.Refusals.{Printable, planned-printable}
 use Rattle.sheet.specs.Routes.{routes-of}
+use Rattle.sheet.specs.Overs.{length-overs, overs-hold}
 
--- A sheet for an accepted network holds.
-sheet-holds : (from to k : ℕ) (network : Network) (sheet : Sheet)
-    → Accepted (network .relays) (network .lows) (network .highs) → SheetFor from to k network sheet
+-- A sheet for a network holds.
+sheet-holds : (from to k : ℕ) (network : Network) (sheet : Sheet) → SheetFor from to k network sheet
     → SheetHolds (network .lows) (network .highs) (marksOf (network .relays) (network .lows) (network .highs) k)
     (sheetOf from to k network (keptOf k network))
-sheet-holds from to k network sheet good given =
+sheet-holds from to k network sheet given =
     let n = network .relays in
     let lows = network .lows in
     let highs = network .highs in
-    let passed = route-passed n lows highs k from to (room 32) (room 1062) (room 32000) (given .answer) good (given .routed) in
-    let routes = routes-of n lows highs k from to good passed in
+    let passed = route-passed n lows highs k from to (room 32) (room 1062) (room 32000) (given .answer) (given .routed) in
+    let routes = routes-of n lows highs k from to passed in
     record {
       some = passed .some;
       few = passed .few;
@@ -50,6 +49,8 @@ sheet-holds from to k network sheet good given =
       differ = passed .differ;
       each = routes .each;
       apart = routes .apart;
+      manyOvers = length-overs n lows highs k from to passed;
+      over = overs-hold n lows highs k from to passed;
       kept = refl;
     }
 
@@ -134,5 +135,5 @@ sheet-promise input = go (planned input) refl
           network = network;
           asked = found .asked;
           text = ap (printed sheetText) e ∙ ap sheetText (found .given .sheetIs);
-          holds = sheet-holds (found .from) (found .to) (found .k) network sheet (found .asked .accepted) (found .given);
+          holds = sheet-holds (found .from) (found .to) (found .k) network sheet (found .given);
         })

@@ -14,7 +14,7 @@ use Rattle.definitions.specs.Outcome.{Outcome, andThen}
 use Rattle.definitions.specs.Lists.{outside}
 use Rattle.definitions.specs.Network.{tableCheck, Accepted}
 use Rattle.definitions.specs.Forests.{cutAnswer}
-use Rattle.definitions.specs.Route.{oneTreeOf, tooShort, routeAnswer}
+use Rattle.definitions.specs.Route.{oneTreeOf, routeUnless, tooShort, routeAnswer}
 use Rattle.definitions.specs.Form.{Item, scanForm, onScan}
 use Rattle.definitions.specs.Text.{Network, readNetwork}
 use Rattle.definitions.specs.Plan.{wishForm, room, sheetFor, planned}
@@ -64,7 +64,7 @@ cut-printable n lows highs k good =
 
 route-printable : (n : ℕ) (lows highs : List ℕ) (k from to : ℕ) → Accepted n lows highs
     → RefusedAs Printable (routeAnswer n lows highs k from to (room 32) (room 1062) (room 32000))
-unfolding routeAnswer
+unfolding routeAnswer routeUnless
 route-printable n lows highs k from to good =
     rw (then-done (tableCheck n lows highs) _ [] good)
     (refuse-as Printable (outside 1 32 k) 9 0 _ (λ _. printable 9 0 (omega arith) (omega arith) refl refl)

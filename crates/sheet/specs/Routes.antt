@@ -9,20 +9,18 @@ use lib.ListN.{length, getD, length-map, List·getD-eq-default}
 use borrow.Author.Tests.{ltb-true, ltb-false}
 use Rattle.definitions.specs.Outcome.{pick}
 use Rattle.definitions.specs.Lists.{joinAll}
-use Rattle.definitions.specs.Network.{Accepted}
 use Rattle.definitions.specs.Order.{orderOf, placeOf, relayAt}
-use Rattle.definitions.specs.Forests.{forestsOf, marksOf}
+use Rattle.definitions.specs.Forests.{marksOf}
 use Rattle.definitions.specs.Sweep.{slotRoute, sweepRoutes}
 use Rattle.definitions.specs.Route.{leftOf, routesBetween, routesOf}
 use Rattle.theory.specs.PlaceSweep.{sweep}
 use Rattle.theory.specs.Ordering.{order-length, order-at}
-use Rattle.theory.specs.ForestBound.{forests-at}
 use Rattle.theory.specs.Columns.{mark-entry}
 use Rattle.theory.specs.SweepRoutes.{sweep-length}
-use Rattle.theory.specs.RelayTrees.{one-tree-alive, one-tree-test}
 use Rattle.theory.specs.RelayRoutes.{RelayRoutes, routes-hold}
+use Rattle.theory.specs.OverLinks.{tree-between}
+use Rattle.theory.specs.RoutePassed.{RoutePassed}
 use Rattle.text_theory.specs.Spans.{AllBelow}
-use Rattle.sheet.specs.Planned.{RoutePassed}
 
 length-sweepRoutes : (left : ℕ → ℕ → ℕ) (k s t : ℕ) → length (sweepRoutes left k s t) ≡ k
 unfolding sweepRoutes
@@ -52,11 +50,11 @@ below-map : (bound : ℕ) (f : ℕ → ℕ) → ((x : ℕ) → f x < bound) → 
 below-map bound f h [] = tt
 below-map bound f h (x ∷ l) = (h x, below-map bound f h l)
 
-below-joined : (bound : ℕ) (f : ℕ → ℕ) → ((x : ℕ) → f x < bound) → (lists : List (List ℕ))
-    → AllBelow bound (joinAll (map (map f) lists))
+pub below-joined : (bound : ℕ) (f : List ℕ → List ℕ) → ((l : List ℕ) → AllBelow bound (f l)) → (lists : List (List ℕ))
+    → AllBelow bound (joinAll (map f lists))
 unfolding joinAll
 below-joined bound f h [] = tt
-below-joined bound f h (l ∷ lists) = below-append bound (map f l) _ (below-map bound f h l) (below-joined bound f h lists)
+below-joined bound f h (l ∷ lists) = below-append bound (f l) _ (h l) (below-joined bound f h lists)
 
 relay-below : (n : ℕ) (lows highs : List ℕ) → 1 ≤ n → (v : ℕ) → relayAt (orderOf n lows highs) v < n
 unfolding relayAt
@@ -73,16 +71,15 @@ pub routes-below : (bound n : ℕ) (lows highs : List ℕ) (k from to : ℕ) →
 unfolding routesOf
 routes-below bound n lows highs k from to some few =
     let order = orderOf n lows highs in
-    below-joined bound (relayAt order) (λ v. omega (arith, relay-below n lows highs some v))
+    below-joined bound (map (relayAt order)) (below-map bound (relayAt order) (λ v. omega (arith, relay-below n lows highs some v)))
     (routesBetween (leftOf n lows highs) k (placeOf order from) (placeOf order to))
 
 -- What holds of them, where Route answers: k routes along kept links that share only their ends, with at most n − 2 + 2k relays.
-pub routes-of : (n : ℕ) (lows highs : List ℕ) (k from to : ℕ) → Accepted n lows highs → RoutePassed n lows highs k from to
+pub routes-of : (n : ℕ) (lows highs : List ℕ) (k from to : ℕ) → RoutePassed n lows highs k from to
     → RelayRoutes n lows highs (marksOf n lows highs k) k from to (routesOf n lows highs k from to)
-routes-of n lows highs k from to good passed =
+routes-of n lows highs k from to passed =
+    let good = passed .accepted in
     let starts = passed .starts in
     let ends = passed .ends in
-    let forests = forestsOf n lows highs in
-    let tree = one-tree-test n lows highs good forests (forests-at n lows highs) k from to starts ends (passed .differ) .1 (passed .oneTree) in
     routes-hold n lows highs good k (passed .some) (marksOf n lows highs k) (mark-entry n lows highs k) from to starts ends (passed .differ)
-    (one-tree-alive n lows highs good forests (forests-at n lows highs) k from to starts ends (passed .differ) .0 tree)
+    (tree-between n lows highs good k from to starts ends (passed .differ) (passed .oneTree))

@@ -1,6 +1,7 @@
--- The lines of a sheet by their parts, and how a list of routes is printed route by route and relay by relay. Assumes nothing.
-use Prim.Native.Nat.{ℕ, suc, _+_, _-_, _≤_, _<_}
-use mathlib.Core.List.{List, [], _∷_, _++_, append-assoc, append-nil}
+-- The lines of a sheet by their parts, and how the routes and their links are printed route by route and number by number.
+-- Assumes nothing.
+use Prim.Native.Nat.{ℕ, suc, _+_, _-_, _≤_, _<_, pred}
+use mathlib.Core.List.{List, [], _∷_, _++_, map, append-assoc, append-nil}
 use mathlib.Core.Path.{_≡_, _∙_, ap}
 use native.Mathlib.Numerals.{add-one}
 use native.Mathlib.Omega.{arith}
@@ -10,15 +11,15 @@ use Rattle.definitions.specs.Demand.{cutUp}
 use Rattle.definitions.specs.Form.{bytes, Item, word, numeral, decimal, writeForm}
 use Rattle.definitions.specs.Lists.{total}
 use Rattle.definitions.specs.Text.{endForm}
-use Rattle.definitions.specs.Plan.{sheetForm, keptForm, spaced, routeLines}
+use Rattle.definitions.specs.Plan.{sheetForm, keptForm, spaced, numbersLine, routeLines}
 use Rattle.lists.specs.Front.{drop-take}
 use Rattle.text.specs.Scans.{pairForm}
 
--- The wish, the routes, the count of kept links, and the end.
-unfoldable pub sheetLines : (from to k : ℕ) (routes : List (List ℕ)) (kept : ℕ) → List ℕ
-sheetLines from to k routes kept =
+-- The wish, the routes with their links, the count of kept links, and the end.
+unfoldable pub sheetLines : (from to k : ℕ) (routes overs : List (List ℕ)) (kept : ℕ) → List ℕ
+sheetLines from to k routes overs kept =
     writeForm sheetForm (from ∷ to ∷ k ∷ []) ++
-    (routeLines routes ++ (writeForm keptForm (kept ∷ []) ++ writeForm endForm []))
+    (routeLines routes overs ++ (writeForm keptForm (kept ∷ []) ++ writeForm endForm []))
 
 -- The form of a line of one number.
 abbrev pub singleForm : (front back : List ℕ) → List Item
@@ -37,10 +38,10 @@ pub wish-written : (from to k : ℕ)
 unfolding writeForm sheetForm
 wish-written from to k = simp (append-nil, append-assoc)
 
-pub route-written : (route : List ℕ)
-    → routeLines (route ∷ []) ≡ bytes "(route" ++ (spaced route ++ bytes ")\n")
+pub route-written : (route over : List ℕ)
+    → routeLines (route ∷ []) (over ∷ []) ≡ numbersLine (bytes "(route") route ++ numbersLine (bytes "(over") over
 unfolding routeLines
-route-written route = simp append-nil
+route-written route over = simp append-nil
 
 -- Their lengths.
 pub single-length : (front back : List ℕ) (x : ℕ)
@@ -53,76 +54,103 @@ pub wish-length : (from to k : ℕ)
     + (length (decimal k) + 3)
 wish-length from to k = ap length (wish-written from to k) ∙ simp length-append
 
-pub route-length : (route : List ℕ) → length (routeLines (route ∷ [])) ≡ 6 + (length (spaced route) + 2)
-route-length route = ap length (route-written route) ∙ simp length-append (omega arith)
+pub line-length : (name numbers : List ℕ) → length (numbersLine name numbers) ≡ length name + (length (spaced numbers) + 2)
+unfolding numbersLine
+line-length name numbers = simp length-append
 
-pub sheet-lengths : (from to k : ℕ) (routes : List (List ℕ)) (kept : ℕ)
-    → length (sheetLines from to k routes kept)
+pub route-length : (route over : List ℕ)
+    → length (routeLines (route ∷ []) (over ∷ []))
+    ≡ length (numbersLine (bytes "(route") route) + length (numbersLine (bytes "(over") over)
+route-length route over = ap length (route-written route over) ∙ simp length-append
+
+pub sheet-lengths : (from to k : ℕ) (routes overs : List (List ℕ)) (kept : ℕ)
+    → length (sheetLines from to k routes overs kept)
     ≡ length (writeForm sheetForm (from ∷ to ∷ k ∷ []))
-    + (length (routeLines routes) + (length (writeForm keptForm (kept ∷ [])) + length (writeForm endForm [])))
+    + (length (routeLines routes overs) + (length (writeForm keptForm (kept ∷ [])) + length (writeForm endForm [])))
 unfolding sheetLines
-sheet-lengths from to k routes kept = simp length-append
+sheet-lengths from to k routes overs kept = simp length-append
 
--- The first of the relays that are left.
-spaced-first : (r : ℕ) (route : List ℕ)
-    → spaced (r ∷ route) ≡ writeForm (word (bytes " ") ∷ numeral ∷ []) (r ∷ []) ++ spaced route
+-- The first of the numbers that are left.
+spaced-first : (x : ℕ) (numbers : List ℕ)
+    → spaced (x ∷ numbers) ≡ writeForm (word (bytes " ") ∷ numeral ∷ []) (x ∷ []) ++ spaced numbers
 unfolding spaced writeForm
-spaced-first r route = rw (append-nil (decimal r))
+spaced-first x numbers = rw (append-nil (decimal x))
 
-pub relays-step : (relays : List ℕ) (i last : ℕ) → i < last → last ≤ length relays
-    → spaced (slice i last relays)
-    ≡ writeForm (word (bytes " ") ∷ numeral ∷ []) (getD relays i 0 ∷ []) ++ spaced (slice (i + 1) last relays)
-relays-step relays i last h within =
-    rw (slice-cons i last relays 0 h within, add-one i) (spaced-first (getD relays i 0) (slice (suc i) last relays))
+pub numbers-step : (list : List ℕ) (i last : ℕ) → i < last → last ≤ length list
+    → spaced (slice i last list)
+    ≡ writeForm (word (bytes " ") ∷ numeral ∷ []) (getD list i 0 ∷ []) ++ spaced (slice (i + 1) last list)
+numbers-step list i last h within =
+    rw (slice-cons i last list 0 h within, add-one i) (spaced-first (getD list i 0) (slice (suc i) last list))
 
-pub relays-length : (relays : List ℕ) (i last : ℕ) → i < last → last ≤ length relays
-    → length (spaced (slice i last relays))
-    ≡ length (writeForm (word (bytes " ") ∷ numeral ∷ []) (getD relays i 0 ∷ [])) + length (spaced (slice (i + 1) last relays))
-relays-length relays i last h within = ap length (relays-step relays i last h within) ∙ simp length-append
+pub numbers-length : (list : List ℕ) (i last : ℕ) → i < last → last ≤ length list
+    → length (spaced (slice i last list))
+    ≡ length (writeForm (word (bytes " ") ∷ numeral ∷ []) (getD list i 0 ∷ [])) + length (spaced (slice (i + 1) last list))
+numbers-length list i last h within = ap length (numbers-step list i last h within) ∙ simp length-append
 
 slice-past : (list : List ℕ) (i last : ℕ) → last ≤ i → slice i last list ≡ []
 slice-past list i last h = drop-of-length-le (take last list) {i = i} (omega (arith, length-take last list))
 
-pub relays-end : (relays : List ℕ) (i last : ℕ) → last ≤ i → spaced (slice i last relays) ≡ []
+pub numbers-end : (list : List ℕ) (i last : ℕ) → last ≤ i → spaced (slice i last list) ≡ []
 unfolding spaced
-relays-end relays i last h = ap spaced (slice-past relays i last h)
+numbers-end list i last h = ap spaced (slice-past list i last h)
 
--- The routes that are left, from the i-th of k on, whose relays begin at `first`.
+-- Of the routes that are left, from the i-th of k on: the relays, which begin at `first`, and the links, which begin at `start`.
 unfoldable pub routesLeft : (i k first : ℕ) (counts relays : List ℕ) → List (List ℕ)
 routesLeft i k first counts relays = cutUp (slice i k counts) (drop first relays)
 
-lines-first : (route : List ℕ) (routes : List (List ℕ))
-    → routeLines (route ∷ routes) ≡ routeLines (route ∷ []) ++ routeLines routes
+unfoldable pub oversLeft : (i k start : ℕ) (counts links : List ℕ) → List (List ℕ)
+oversLeft i k start counts links = cutUp (map pred (slice i k counts)) (drop start links)
+
+lines-first : (route over : List ℕ) (routes overs : List (List ℕ))
+    → routeLines (route ∷ routes) (over ∷ overs) ≡ routeLines (route ∷ []) (over ∷ []) ++ routeLines routes overs
 unfolding routeLines
-lines-first route routes = rw (append-assoc (spaced route) (bytes ")\n") (routeLines routes))
+lines-first route over routes overs = simp (append-nil, append-assoc)
 
--- The first of them.
-pub routes-step : (i k first : ℕ) (counts relays : List ℕ) → i < k → k ≤ length counts
-    → routeLines (routesLeft i k first counts relays)
-    ≡ routeLines (slice first (first + getD counts i 0) relays ∷ [])
-    ++ routeLines (routesLeft (i + 1) k (first + getD counts i 0) counts relays)
-unfolding routesLeft cutUp
-routes-step i k first counts relays h within =
-    let size = getD counts i 0 in
+part-is : (first size : ℕ) (list : List ℕ) → slice first (first + size) list ≡ take size (drop first list)
+part-is first size list =
     let same : first + size - first ≡ size = omega arith in
-    let part : slice first (first + size) relays ≡ take size (drop first relays) =
-    drop-take first (first + size) relays ∙ ap (λ (n : ℕ). take n (drop first relays)) same in
-    rw (slice-cons i k counts 0 h within, part, add-one i, ← drop-drop size first relays)
-    (lines-first (take size (drop first relays)) (cutUp (slice (suc i) k counts) (drop size (drop first relays))))
+    drop-take first (first + size) list ∙ ap (λ (n : ℕ). take n (drop first list)) same
 
-pub routes-length : (i k first : ℕ) (counts relays : List ℕ) → i < k → k ≤ length counts
-    → length (routeLines (routesLeft i k first counts relays))
-    ≡ length (routeLines (slice first (first + getD counts i 0) relays ∷ []))
-    + length (routeLines (routesLeft (i + 1) k (first + getD counts i 0) counts relays))
-routes-length i k first counts relays h within = ap length (routes-step i k first counts relays h within) ∙ simp length-append
+module _ (i k first start : ℕ) (counts relays links : List ℕ) where
+  -- The first of them, with so many links.
+  module _ (steps : ℕ) (few : steps ≡ pred (getD counts i 0)) (h : i < k) (within : k ≤ length counts) where
+    pub routes-step : routeLines (routesLeft i k first counts relays) (oversLeft i k start counts links)
+        ≡ routeLines (slice first (first + getD counts i 0) relays ∷ []) (slice start (start + steps) links ∷ [])
+        ++ routeLines (routesLeft (i + 1) k (first + getD counts i 0) counts relays) (oversLeft (i + 1) k (start + steps) counts links)
+    unfolding routesLeft oversLeft cutUp
+    routes-step =
+        let size = getD counts i 0 in
+        rw (
+          few,
+          slice-cons i k counts 0 h within,
+          part-is first size relays,
+          part-is start (pred size) links,
+          add-one i,
+          ← drop-drop size first relays,
+          ← drop-drop (pred size) start links,
+        )
+        (lines-first (take size (drop first relays)) (take (pred size) (drop start links))
+        (cutUp (slice (suc i) k counts) (drop size (drop first relays)))
+        (cutUp (map pred (slice (suc i) k counts)) (drop (pred size) (drop start links))))
 
-pub routes-end : (i k first : ℕ) (counts relays : List ℕ) → k ≤ i → routeLines (routesLeft i k first counts relays) ≡ []
-unfolding routesLeft cutUp routeLines
-routes-end i k first counts relays h =
-    ap (λ (sizes : List ℕ). routeLines (cutUp sizes (drop first relays))) (slice-past counts i k h)
+    pub routes-length : length (routeLines (routesLeft i k first counts relays) (oversLeft i k start counts links))
+        ≡ length (routeLines (slice first (first + getD counts i 0) relays ∷ []) (slice start (start + steps) links ∷ []))
+        + length
+        (routeLines (routesLeft (i + 1) k (first + getD counts i 0) counts relays) (oversLeft (i + 1) k (start + steps) counts links))
+    routes-length = ap length routes-step ∙ simp length-append
 
--- How many relays they have.
-pub sizes-step : (i k : ℕ) (counts : List ℕ) → i < k → k ≤ length counts
-    → total (slice i k counts) ≡ getD counts i 0 + total (slice (i + 1) k counts)
-unfolding total
-sizes-step i k counts h within = rw (add-one i) (ap total (slice-cons i k counts 0 h within))
+  pub routes-end : k ≤ i → routeLines (routesLeft i k first counts relays) (oversLeft i k start counts links) ≡ []
+  unfolding routesLeft oversLeft cutUp routeLines
+  routes-end h =
+      ap (λ (sizes : List ℕ). routeLines (cutUp sizes (drop first relays)) (cutUp (map pred sizes) (drop start links)))
+      (slice-past counts i k h)
+
+-- How many relays they have, and how many links.
+module _ (i k : ℕ) (counts : List ℕ) (h : i < k) (within : k ≤ length counts) where
+  pub sizes-step : total (slice i k counts) ≡ getD counts i 0 + total (slice (i + 1) k counts)
+  unfolding total
+  sizes-step = rw (add-one i) (ap total (slice-cons i k counts 0 h within))
+
+  pub steps-step : total (map pred (slice i k counts)) ≡ pred (getD counts i 0) + total (map pred (slice (i + 1) k counts))
+  unfolding total
+  steps-step = rw (add-one i) (ap (λ (sizes : List ℕ). total (map pred sizes)) (slice-cons i k counts 0 h within))

@@ -1,5 +1,5 @@
 -- The planner stage by stage: the wish, Read, Cut, Route, and what each answer makes of the sheet. Assumes nothing.
-use Prim.Native.Nat.{ℕ, _-_, _≤_}
+use Prim.Native.Nat.{ℕ, _-_, _≤_, pred}
 use mathlib.Core.List.{List, [], _∷_, map}
 use mathlib.Core.Path.{_≡_, sym, _∙_, ap, ap₂}
 use native.Mathlib.Omega.{arith}
@@ -8,7 +8,8 @@ use lib.Seq.{take-all}
 use Rattle.definitions.specs.Outcome.{Outcome, done, andThen}
 use Rattle.definitions.specs.Lists.{overwrite, total, joinAll}
 use Rattle.definitions.specs.Forests.{cutAnswer}
-use Rattle.definitions.specs.Route.{routesOf, routeAnswer, countsAfter, routeRelaysAfter}
+use Rattle.definitions.specs.Route.{routesOf, routeAnswer}
+use Rattle.definitions.specs.Over.{oversOf, routeLinksAnswer, routeLinksCounts, routeLinksRelays, routeLinksLinks}
 use Rattle.definitions.specs.Demand.{cutUp}
 use Rattle.definitions.specs.Form.{departs, reads, scanForm, onScan}
 use Rattle.definitions.specs.Text.{Network, readNetwork, readAnswer}
@@ -26,7 +27,10 @@ use Rattle.sheet.specs.Front.{longer}
 use Rattle.sheet.specs.SheetLines.{sheetLines}
 use Rattle.sheet.specs.Planned.{sheetOf}
 use Rattle.sheet.specs.ReadStage.{networkOf, stage-refused, network-refused, ReadTable, whole-put}
+use Rattle.sheet.specs.Refusals.{length-room}
 use Rattle.sheet.specs.Routes.{length-routes}
+use Rattle.sheet.specs.Overs.{over-lengths}
+use Rattle.sheet.specs.LinkRooms.{links-answer, links-passed}
 
 -- Route, behind Cut's count.
 unfoldable pub routeStage : (from to k : ℕ) (network : Network) (kept : ℕ) → Outcome Sheet
@@ -58,38 +62,52 @@ module _ (n : ℕ) (lows highs : List ℕ) (from to k kept : ℕ) where
   unfolding sheetFor routeStage
   cut-done e = then-done (cutAnswer n lows highs k (room 3000)) _ (kept ∷ []) e
 
--- Route's two lists after a success: as many counts as routes, and the relays of all of them, from which the counts cut the
--- routes again.
+-- The lists of Route with links after a success: as many counts as routes, the relays of all of them, from which the counts cut the
+-- routes again, and their links, from which one less each time cuts them.
 module _
     (n : ℕ)
     (lows highs : List ℕ)
     (k from to : ℕ)
-    (counts relays scratch values : List ℕ)
-    (answer : routeAnswer n lows highs k from to counts relays scratch ≡ done values)
+    (counts relays links scratch values : List ℕ)
+    (answer : routeLinksAnswer n lows highs k from to counts relays links scratch ≡ done values)
   where
-    counts-are : countsAfter n lows highs k from to counts relays scratch ≡ overwrite (map length (routesOf n lows highs k from to)) counts
-    unfolding countsAfter
-    counts-are = if-done (routeAnswer n lows highs k from to counts relays scratch) values _ _ answer
+    counts-are : routeLinksCounts n lows highs k from to counts relays links scratch
+        ≡ overwrite (map length (routesOf n lows highs k from to)) counts
+    unfolding routeLinksCounts
+    counts-are = if-done (routeLinksAnswer n lows highs k from to counts relays links scratch) values _ _ answer
 
-    relays-are : routeRelaysAfter n lows highs k from to counts relays scratch ≡ overwrite (joinAll (routesOf n lows highs k from to)) relays
-    unfolding routeRelaysAfter
-    relays-are = if-done (routeAnswer n lows highs k from to counts relays scratch) values _ _ answer
+    relays-are : routeLinksRelays n lows highs k from to counts relays links scratch
+        ≡ overwrite (joinAll (routesOf n lows highs k from to)) relays
+    unfolding routeLinksRelays
+    relays-are = if-done (routeLinksAnswer n lows highs k from to counts relays links scratch) values _ _ answer
+
+    links-are : routeLinksLinks n lows highs k from to counts relays links scratch
+        ≡ overwrite (joinAll (oversOf n lows highs k from to)) links
+    unfolding routeLinksLinks
+    links-are = if-done (routeLinksAnswer n lows highs k from to counts relays links scratch) values _ _ answer
 
     sizes-count : length (map length (routesOf n lows highs k from to)) ≡ k
     sizes-count = length-map (routesOf n lows highs k from to) length ∙ length-routes n lows highs k from to
 
-    first-counts : take k (countsAfter n lows highs k from to counts relays scratch) ≡ map length (routesOf n lows highs k from to)
+    first-counts : take k (routeLinksCounts n lows highs k from to counts relays links scratch)
+        ≡ map length (routesOf n lows highs k from to)
     first-counts =
         ap (take k) counts-are
         ∙ take-overwrite (map length (routesOf n lows highs k from to)) counts k (omega (arith, sizes-count))
         ∙ take-all k (map length (routesOf n lows highs k from to)) (omega (arith, sizes-count))
 
-    pub counts-room : k ≤ length (countsAfter n lows highs k from to counts relays scratch)
+    first-steps : map pred (take k (routeLinksCounts n lows highs k from to counts relays links scratch))
+        ≡ map length (oversOf n lows highs k from to)
+    first-steps =
+        ap (map pred) first-counts
+        ∙ sym (over-lengths n lows highs k from to (links-passed n lows highs k from to counts relays links scratch values answer))
+
+    pub counts-room : k ≤ length (routeLinksCounts n lows highs k from to counts relays links scratch)
     counts-room =
         omega (arith, sizes-count, longer (map length (routesOf n lows highs k from to)) counts, ap length counts-are)
 
-    pub relays-room : total (take k (countsAfter n lows highs k from to counts relays scratch))
-        ≤ length (routeRelaysAfter n lows highs k from to counts relays scratch)
+    pub relays-room : total (take k (routeLinksCounts n lows highs k from to counts relays links scratch))
+        ≤ length (routeLinksRelays n lows highs k from to counts relays links scratch)
     relays-room =
         omega (
           arith,
@@ -99,49 +117,76 @@ module _
           ap length relays-are,
         )
 
-    pub routes-cut : cutUp (take k (countsAfter n lows highs k from to counts relays scratch)) (routeRelaysAfter n lows highs k from to counts relays scratch)
+    pub links-room : total (map pred (take k (routeLinksCounts n lows highs k from to counts relays links scratch)))
+        ≤ length (routeLinksLinks n lows highs k from to counts relays links scratch)
+    links-room =
+        omega (
+          arith,
+          ap total first-steps,
+          total-lengths (oversOf n lows highs k from to),
+          longer (joinAll (oversOf n lows highs k from to)) links,
+          ap length links-are,
+        )
+
+    pub routes-cut : cutUp (take k (routeLinksCounts n lows highs k from to counts relays links scratch))
+        (routeLinksRelays n lows highs k from to counts relays links scratch)
         ≡ routesOf n lows highs k from to
     unfolding overwrite
     routes-cut = ap₂ cutUp first-counts relays-are ∙ cut-up (routesOf n lows highs k from to) _
 
--- Route was called with the planner's own lists: it refused, or its two lists give the lines of the sheet.
-pub record Routed (from to k n : ℕ) (lows highs : List ℕ) (kept : ℕ) (counts relays : List ℕ) : Type 0 where
+    pub overs-cut : cutUp (map pred (take k (routeLinksCounts n lows highs k from to counts relays links scratch)))
+        (routeLinksLinks n lows highs k from to counts relays links scratch)
+        ≡ oversOf n lows highs k from to
+    unfolding overwrite
+    overs-cut = ap₂ cutUp first-steps links-are ∙ cut-up (oversOf n lows highs k from to) _
+
+-- Route with links was called with the planner's own lists: it refused, or its three lists give the lines of the sheet.
+pub record Routed (from to k n : ℕ) (lows highs : List ℕ) (kept : ℕ) (counts relays links : List ℕ) : Type 0 where
   pub sizes : k ≤ length counts
   pub within : total (take k counts) ≤ length relays
-  pub lines : printed sheetText (routeStage from to k (networkOf n lows highs) kept) ≡ sheetLines from to k (cutUp (take k counts) relays) kept
+  pub linked : total (map pred (take k counts)) ≤ length links
+  pub lines : printed sheetText (routeStage from to k (networkOf n lows highs) kept)
+      ≡ sheetLines from to k (cutUp (take k counts) relays) (cutUp (map pred (take k counts)) links) kept
 
 module _
     (n : ℕ)
     (lows highs : List ℕ)
     (from to k kept : ℕ)
-    (counts relays scratch : List ℕ)
+    (counts relays links scratch : List ℕ)
     (countsAre : counts ≡ room 32)
     (relaysAre : relays ≡ room 1062)
+    (linksAre : links ≡ room 1030)
     (scratchIs : scratch ≡ room 32000)
   where
-    with-rooms : (outcome : Outcome (List ℕ)) → routeAnswer n lows highs k from to counts relays scratch ≡ outcome
+    with-rooms : (outcome : Outcome (List ℕ)) → routeLinksAnswer n lows highs k from to counts relays links scratch ≡ outcome
         → routeAnswer n lows highs k from to (room 32) (room 1062) (room 32000) ≡ outcome
-    with-rooms outcome e = rw (← countsAre, ← relaysAre, ← scratchIs) e
+    with-rooms outcome e =
+        let roomy : 1030 ≤ length links = omega (arith, ap length linksAre, length-room 1030) in
+        rw (← countsAre, ← relaysAre, ← scratchIs)
+        (sym (links-answer n lows highs k from to counts relays links scratch roomy) ∙ e)
 
-    pub routes-refused : (refusal : Refusal) → routeAnswer n lows highs k from to counts relays scratch ≡ refusalOf refusal
+    pub routes-refused : (refusal : Refusal) → routeLinksAnswer n lows highs k from to counts relays links scratch ≡ refusalOf refusal
         → routeStage from to k (networkOf n lows highs) kept ≡ refusalOf refusal
     routes-refused refusal e = route-refused n lows highs from to k kept refusal (with-rooms (refusalOf refusal) e)
 
-    pub routes-written : (values countsNow relaysNow : List ℕ)
-        → routeAnswer n lows highs k from to counts relays scratch ≡ done values
-        → countsNow ≡ countsAfter n lows highs k from to counts relays scratch
-        → relaysNow ≡ routeRelaysAfter n lows highs k from to counts relays scratch
-        → Routed from to k n lows highs kept countsNow relaysNow
+    pub routes-written : (values countsNow relaysNow linksNow : List ℕ)
+        → routeLinksAnswer n lows highs k from to counts relays links scratch ≡ done values
+        → countsNow ≡ routeLinksCounts n lows highs k from to counts relays links scratch
+        → relaysNow ≡ routeLinksRelays n lows highs k from to counts relays links scratch
+        → linksNow ≡ routeLinksLinks n lows highs k from to counts relays links scratch
+        → Routed from to k n lows highs kept countsNow relaysNow linksNow
     unfolding printed sheetText sheetLines
-    routes-written values countsNow relaysNow e countsOf relaysOf =
-        rw (countsOf, relaysOf)
+    routes-written values countsNow relaysNow linksNow e countsOf relaysOf linksOf =
+        rw (countsOf, relaysOf, linksOf)
         (record {
-          sizes = counts-room n lows highs k from to counts relays scratch values e;
-          within = relays-room n lows highs k from to counts relays scratch values e;
+          sizes = counts-room n lows highs k from to counts relays links scratch values e;
+          within = relays-room n lows highs k from to counts relays links scratch values e;
+          linked = links-room n lows highs k from to counts relays links scratch values e;
           lines =
               ap (printed sheetText) (route-done n lows highs from to k kept values (with-rooms (done values) e))
-              ∙ ap (λ (routes : List (List ℕ)). sheetLines from to k routes kept)
-              (sym (routes-cut n lows highs k from to counts relays scratch values e));
+              ∙ ap₂ (λ (routes overs : List (List ℕ)). sheetLines from to k routes overs kept)
+              (sym (routes-cut n lows highs k from to counts relays links scratch values e))
+              (sym (overs-cut n lows highs k from to counts relays links scratch values e));
         })
 
 -- Read, and the stages behind it.

@@ -1,4 +1,4 @@
--- `sheet::print::put_route` meets its contract: a word, the relays, and a word. Assumes nothing.
+-- `sheet::print::put_route` meets its contract: a line with the relays, and a line with the links. Assumes nothing.
 use native.Mathlib.Omega.{arith}
 use lib.Seq.{slice}
 use denote.Ref.{now}
@@ -8,56 +8,46 @@ use borrow.Author.Needs.{needs}
 use Rattle.sheet.proofs.print.put_route.Statement.{statement}
 use Rattle.sheet.proofs.print.put_route.Tie as tie
 
-slice-aggregate-put-word : tie.Need-slice-aggregate-put-word
-slice-aggregate-put-word c = search needs
+slice-aggregate-put-line : tie.Need-slice-aggregate-put-line
+slice-aggregate-put-line c = search needs
 
-put-word-requires : tie.Need-put-word-requires
-put-word-requires c κs =
-    let a = c .before .before .before .before .args in
-    omega (arith, route-length (slice (a .first) (a .last) (now (a .relays))), c .before .before .before .before .pre .1)
-
-put-relays-requires : tie.Need-put-relays-requires
-put-relays-requires c κs =
-    let atPutWord = c .before .before .before in
-    let start = atPutWord .before .before .before .before .before in
+put-line-requires : tie.Need-put-line-requires
+put-line-requires c κs =
+    let start = c .before .before .before .before .before in
     let a = start .args in
-    let one = atPutWord .put-word .ensures in
-    (start .pre .0, omega (arith, route-length (slice (a .first) (a .last) (now (a .relays))), start .pre .1, one .ends, one .same))
+    let both = route-length (slice (a .first) (a .last) (now (a .relays))) (slice (a .start) (a .stop) (now (a .links))) in
+    (start .pre .0, omega (arith, both, start .pre .1 .1))
 
-slice-aggregate-put-word-2 : tie.Need-slice-aggregate-put-word-2
-slice-aggregate-put-word-2 c = search needs
+slice-aggregate-put-line-2 : tie.Need-slice-aggregate-put-line-2
+slice-aggregate-put-line-2 c = search needs
 
-put-word-requires-2 : tie.Need-put-word-requires-2
-put-word-requires-2 c κs =
-    let atPutRelays = c .before .before .before .before in
-    let atPutWord = atPutRelays .before .before .before .before in
-    let start = atPutWord .before .before .before .before .before in
+put-line-requires-2 : tie.Need-put-line-requires-2
+put-line-requires-2 c κs =
+    let atPutLine = c .before .before .before .before in
+    let start = atPutLine .before .before .before .before .before .before in
     let a = start .args in
-    let one = atPutWord .put-word .ensures in
-    let two = atPutRelays .put-relays .ensures in
-    omega (arith, route-length (slice (a .first) (a .last) (now (a .relays))), start .pre .1, one .ends, one .same, two .ends, two .same)
+    let both = route-length (slice (a .first) (a .last) (now (a .relays))) (slice (a .start) (a .stop) (now (a .links))) in
+    let one = atPutLine .put-line .ensures in
+    (start .pre .1 .0, omega (arith, both, start .pre .1 .1, one .ends, one .same))
 
 same-length : tie.Need-same-length
 same-length c = search needs
 
 returns : tie.Need-returns
 returns c =
-    let atPutRelays = c .before .before .before .before .before .before .before in
-    let atPutWord = atPutRelays .before .before .before .before in
-    let start = atPutWord .before .before .before .before .before in
+    let atPutLine = c .before .before .before .before .before .before .before in
+    let start = atPutLine .before .before .before .before .before .before in
     let a = start .args in
-    rw (route-written (slice (a .first) (a .last) (now (a .relays))))
-    (put-append _ _ _ _ _ _ _ _ (atPutWord .put-word .ensures)
-    (put-append _ _ _ _ _ _ _ _ (atPutRelays .put-relays .ensures) (c .before .before .put-word2 .ensures)))
+    rw (route-written (slice (a .first) (a .last) (now (a .relays))) (slice (a .start) (a .stop) (now (a .links))))
+    (put-append _ _ _ _ _ _ _ _ (atPutLine .put-line .ensures) (c .before .before .put-line2 .ensures))
 
 pub put-route-spec : {M : Type 1} → statement M
 put-route-spec =
     tie.close
     (tie.spec
-    slice-aggregate-put-word
-    put-word-requires
-    put-relays-requires
-    slice-aggregate-put-word-2
-    put-word-requires-2
+    slice-aggregate-put-line
+    put-line-requires
+    slice-aggregate-put-line-2
+    put-line-requires-2
     same-length
     returns)

@@ -1,8 +1,10 @@
 -- `sheet::print::put_routes` meets its contract. The loop's invariant: writing all the routes is writing those that are left.
 -- Assumes nothing.
-use Prim.Native.Nat.{_+_, _-_, _≤_}
+use Prim.Native.Nat.{_+_, _-_, _≤_, pred}
+use mathlib.Core.List.{map}
 use mathlib.Core.Path.{subst}
 use native.Mathlib.Omega.{arith}
+use borrow.Author.Needs.{needs}
 use denote.Ref.{now}
 use lib.ListN.{length, take}
 use lib.Seq.{slice}
@@ -10,49 +12,64 @@ use Rattle.definitions.specs.Demand.{cutUp}
 use Rattle.definitions.specs.Lists.{total}
 use Rattle.definitions.specs.Plan.{routeLines}
 use Rattle.sheet.specs.Going.{Going, going-start, going-step, going-end}
-use Rattle.sheet.specs.SheetLines.{routesLeft, routes-step, routes-length, routes-end, sizes-step}
+use Rattle.sheet.specs.SheetLines.{routesLeft, oversLeft, routes-step, routes-length, routes-end, sizes-step, steps-step}
 use Rattle.sheet.proofs.print.put_routes.Statement.{statement}
 use Rattle.sheet.proofs.print.put_routes.Tie as tie
 
 abbrev Inv-loop : tie.InvT-loop
-Inv-loop output₀ at k counts relays i₀ first₀ p₀ output i first p =
-    (i ≤ k) × (first + total (slice i k counts) ≤ length relays)
-    × Going output₀ at (routeLines (cutUp (take k counts) relays)) output p (routeLines (routesLeft i k first counts relays))
+Inv-loop output₀ at k counts relays links i₀ first₀ start₀ p₀ output i first start p =
+    (i ≤ k) × (first + total (slice i k counts) ≤ length relays) × (start + total (map pred (slice i k counts)) ≤ length links)
+    × Going output₀ at (routeLines (cutUp (take k counts) relays) (cutUp (map pred (take k counts)) links)) output p
+    (routeLines (routesLeft i k first counts relays) (oversLeft i k start counts links))
 
 abbrev μ-loop : tie.MeasureT-loop
-μ-loop output₀ at k counts relays i₀ first₀ p₀ output i first p = k - i
+μ-loop output₀ at k counts relays links i₀ first₀ start₀ p₀ output i first start p = k - i
 
 loop-holds : tie.Need-loop-holds Inv-loop μ-loop
-unfolding routesLeft
+unfolding routesLeft oversLeft
 loop-holds c =
-    let a = c .before .before .before .args in
-    (omega arith, omega (arith, c .before .before .before .pre .1 .0), going-start _ _ _)
+    let start = c .before .before .before .before in
+    (omega arith, omega (arith, start .pre .1 .0), omega (arith, start .pre .1 .1 .0), going-start _ _ _)
 
 mul-size : tie.Need-mul-size Inv-loop μ-loop
-mul-size c = omega (arith, c .before .before .before .before .before .pre .0)
+mul-size c = omega (arith, c .before .before .before .before .before .before .pre .0)
 
 shared-slice-read-size : tie.Need-shared-slice-read-size Inv-loop μ-loop
-shared-slice-read-size c = omega (arith, c .before .before .before .before .before .before .pre .0)
+shared-slice-read-size c = omega (arith, c .before .before .before .before .before .before .before .pre .0)
 
 cast-size : tie.Need-cast-size Inv-loop μ-loop
-cast-size c = omega (arith, c .shared-slice-known3 .given (c .before .before .loop .i))
+cast-size c = omega (arith, c .shared-slice-known4 .given (c .before .before .loop .i))
 
 add-last : tie.Need-add-last Inv-loop μ-loop
 add-last c =
-    let start = c .before .before .before .before .before .before in
+    let start = c .before .before .before .before .before .before .before in
     let a = start .args in
     let at = c .before .before .loop in
     omega (arith, at .inv .1, sizes-step (at .i) (a .k) (a .counts .now) (omega arith) (start .pre .0))
 
+steps-requires : tie.Need-steps-requires Inv-loop μ-loop
+steps-requires c κs = search needs
+
+add-stop : tie.Need-add-stop Inv-loop μ-loop
+add-stop c =
+    let start = c .before .before .before .before .before .before .before .before in
+    let a = start .args in
+    let at = c .before .before .before .loop in
+    omega (arith, at .inv .2, steps-step (at .i) (a .k) (a .counts .now) (omega arith) (start .pre .0), c .steps .ensures)
+
 put-route-requires : tie.Need-put-route-requires Inv-loop μ-loop
 put-route-requires c κs =
-    let atLoop = c .before .before .before in
-    let start = atLoop .before .before .before .before in
+    let few = c .before .steps .ensures in
+    let start = c .before .before .before .before .before .before .before .before .before in
     let a = start .args in
-    let at = atLoop .loop in
+    let at = c .before .before .before .before .loop in
     let sizes = sizes-step (at .i) (a .k) (a .counts .now) (omega arith) (start .pre .0) in
-    let step = routes-length (at .i) (a .k) (at .first) (a .counts .now) (a .relays .now) (omega arith) (start .pre .0) in
-    ((omega arith, omega (arith, at .inv .1)), omega (arith, at .inv .2 .ends, at .inv .2 .same, start .pre .1 .1))
+    let links = steps-step (at .i) (a .k) (a .counts .now) (omega arith) (start .pre .0) in
+    let whole = routes-length (at .i) (a .k) (at .first) (at .start) (a .counts .now) (a .relays .now) (a .links .now) _ few
+    (omega arith) (start .pre .0) in (
+      (omega arith, omega (arith, at .inv .1)),
+      ((omega arith, omega (arith, at .inv .2)), omega (arith, at .inv .3 .ends, at .inv .3 .same, start .pre .1 .1 .1)),
+    )
 
 add-i : tie.Need-add-i Inv-loop μ-loop
 add-i c = omega arith
@@ -62,28 +79,30 @@ loop-less c = omega arith
 
 loop-again : tie.Need-loop-again Inv-loop μ-loop
 loop-again c =
-    let atLoop = c .before .before .before .before .before .before in
-    let start = atLoop .before .before .before .before in
+    let few = c .before .before .before .before .steps .ensures in
+    let start = c .before .before .before .before .before .before .before .before .before .before .before .before in
     let a = start .args in
-    let at = atLoop .loop in
-    let sizes = sizes-step (at .i) (a .k) (a .counts .now) (omega arith) (start .pre .0) in (
+    let at = c .before .before .before .before .before .before .before .loop in
+    let sizes = sizes-step (at .i) (a .k) (a .counts .now) (omega arith) (start .pre .0) in
+    let links = steps-step (at .i) (a .k) (a .counts .now) (omega arith) (start .pre .0) in (
       omega arith,
       omega (arith, at .inv .1),
-      going-step _ _ _ _ _ _ _ _ _ _ (at .inv .2)
-          (routes-step (at .i) (a .k) (at .first) (a .counts .now) (a .relays .now) (omega arith) (start .pre .0))
+      omega (arith, at .inv .2),
+      going-step _ _ _ _ _ _ _ _ _ _ (at .inv .3)
+          (routes-step (at .i) (a .k) (at .first) (at .start) (a .counts .now) (a .relays .now) (a .links .now) _ few (omega arith) (start .pre .0))
           (c .before .before .put-route .ensures),
     )
 
 same-length : tie.Need-same-length Inv-loop μ-loop
-same-length c = c .before .loop .inv .2 .same
+same-length c = c .before .loop .inv .3 .same
 
 returns : tie.Need-returns Inv-loop μ-loop
 returns c =
-    let a = c .before .before .before .before .before .args in
+    let a = c .before .before .before .before .before .before .args in
     let at = c .before .loop in
     going-end _ _ _ _ _
-    (subst (Going (now (a .output)) (a .at) (routeLines (cutUp (take (a .k) (now (a .counts))) (now (a .relays)))) (at .output) (at .p))
-    (routes-end (at .i) (a .k) (at .first) (now (a .counts)) (now (a .relays)) (omega arith)) (at .inv .2))
+    (subst (Going (now (a .output)) (a .at) _ (at .output) (at .p))
+    (routes-end (at .i) (a .k) (at .first) (at .start) (now (a .counts)) (now (a .relays)) (now (a .links)) (omega arith)) (at .inv .3))
 
 pub put-routes-spec : {M : Type 1} → statement M
 put-routes-spec =
@@ -96,6 +115,8 @@ put-routes-spec =
     shared-slice-read-size
     cast-size
     add-last
+    steps-requires
+    add-stop
     put-route-requires
     add-i
     loop-less

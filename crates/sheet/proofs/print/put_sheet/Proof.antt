@@ -1,4 +1,6 @@
 -- `sheet::print::put_sheet` meets its contract: its four parts, one behind the other. Assumes nothing.
+use Prim.Native.Nat.{pred}
+use mathlib.Core.List.{map}
 use native.Mathlib.Omega.{arith}
 use denote.Ref.{now}
 use lib.ListN.{take}
@@ -11,28 +13,34 @@ use Rattle.sheet.proofs.print.put_sheet.Tie as tie
 
 put-wish-requires : tie.Need-put-wish-requires
 put-wish-requires c κs =
-    let a = c .before .before .before .before .args in
-    let whole = sheet-lengths (a .from) (a .to) (a .k) (cutUp (take (a .k) (now (a .counts))) (now (a .relays))) (a .kept) in
-    let room = c .before .before .before .before .pre .1 .1 in
+    let a = c .before .before .before .before .before .args in
+    let whole = sheet-lengths (a .from) (a .to) (a .k) (cutUp (take (a .k) (now (a .counts))) (now (a .relays)))
+    (cutUp (map pred (take (a .k) (now (a .counts)))) (now (a .links))) (a .kept) in
+    let room = c .before .before .before .before .before .pre .1 .1 .1 in
     omega arith
 
 put-routes-requires : tie.Need-put-routes-requires
 put-routes-requires c κs =
     let atPutWish = c .before .before .before in
-    let start = atPutWish .before .before .before .before .before in
+    let start = atPutWish .before .before .before .before .before .before in
     let a = start .args in
-    let whole = sheet-lengths (a .from) (a .to) (a .k) (cutUp (take (a .k) (now (a .counts))) (now (a .relays))) (a .kept) in
-    let room = start .pre .1 .1 in
+    let whole = sheet-lengths (a .from) (a .to) (a .k) (cutUp (take (a .k) (now (a .counts))) (now (a .relays)))
+    (cutUp (map pred (take (a .k) (now (a .counts)))) (now (a .links))) (a .kept) in
+    let room = start .pre .1 .1 .1 in
     let one = atPutWish .put-wish .ensures in
-    (start .pre .0, (start .pre .1 .0, omega (arith, one .ends, one .same)))
+    (start .pre .0, (start .pre .1 .0, (start .pre .1 .1 .0, omega (arith, one .ends, one .same))))
 
 put-kept-requires : tie.Need-put-kept-requires
 put-kept-requires c κs =
-    let a = c .before .before .before .before .before .before .before .before .before .before .before .before .args in
-    let whole = sheet-lengths (a .from) (a .to) (a .k) (cutUp (take (a .k) (now (a .counts))) (now (a .relays))) (a .kept) in
-    let room = c .before .before .before .before .before .before .before .before .before .before .before .before .pre .1 .1 in
-    let one = c .before .before .before .before .before .before .before .put-wish .ensures in
-    let two = c .before .before .before .put-routes .ensures in
+    let atPutRoutes = c .before .before .before in
+    let atPutWish = atPutRoutes .before .before .before .before in
+    let start = atPutWish .before .before .before .before .before .before in
+    let a = start .args in
+    let whole = sheet-lengths (a .from) (a .to) (a .k) (cutUp (take (a .k) (now (a .counts))) (now (a .relays)))
+    (cutUp (map pred (take (a .k) (now (a .counts)))) (now (a .links))) (a .kept) in
+    let room = start .pre .1 .1 .1 in
+    let one = atPutWish .put-wish .ensures in
+    let two = atPutRoutes .put-routes .ensures in
     omega (arith, one .ends, one .same, two .ends, two .same)
 
 put-end-requires : tie.Need-put-end-requires
@@ -40,10 +48,11 @@ put-end-requires c κs =
     let atPutKept = c .before .before .before in
     let atPutRoutes = atPutKept .before .before .before .before in
     let atPutWish = atPutRoutes .before .before .before .before in
-    let start = atPutWish .before .before .before .before .before in
+    let start = atPutWish .before .before .before .before .before .before in
     let a = start .args in
-    let whole = sheet-lengths (a .from) (a .to) (a .k) (cutUp (take (a .k) (now (a .counts))) (now (a .relays))) (a .kept) in
-    let room = start .pre .1 .1 in
+    let whole = sheet-lengths (a .from) (a .to) (a .k) (cutUp (take (a .k) (now (a .counts))) (now (a .relays)))
+    (cutUp (map pred (take (a .k) (now (a .counts)))) (now (a .links))) (a .kept) in
+    let room = start .pre .1 .1 .1 in
     let one = atPutWish .put-wish .ensures in
     let two = atPutRoutes .put-routes .ensures in
     let three = atPutKept .put-kept .ensures in

@@ -1,4 +1,4 @@
--- `sheet::print::put_relays` meets its contract. The loop's invariant: writing all the relays is writing those that are left.
+-- `sheet::print::put_numbers` meets its contract. The loop's invariant: writing all the numbers is writing those that are left.
 -- Assumes nothing.
 use Prim.Native.Nat.{ℕ, _-_, _≤_}
 use mathlib.Core.List.{List}
@@ -9,28 +9,28 @@ use denote.Ref.{now}
 use lib.Seq.{slice}
 use Rattle.definitions.specs.Plan.{spaced}
 use Rattle.sheet.specs.Going.{Going, going-start, going-step, going-end}
-use Rattle.sheet.specs.SheetLines.{relays-step, relays-length, relays-end}
-use Rattle.sheet.proofs.print.put_relays.Statement.{statement}
-use Rattle.sheet.proofs.print.put_relays.Tie as tie
+use Rattle.sheet.specs.SheetLines.{numbers-step, numbers-length, numbers-end}
+use Rattle.sheet.proofs.print.put_numbers.Statement.{statement}
+use Rattle.sheet.proofs.print.put_numbers.Tie as tie
 
 abbrev Inv-loop : tie.InvT-loop
-Inv-loop output₀ at relays first last i₀ p₀ space output i p =
-    (i ≤ last) × Going output₀ at (spaced (slice first last relays)) output p (spaced (slice i last relays))
+Inv-loop output₀ at list first last i₀ p₀ space output i p =
+    (i ≤ last) × Going output₀ at (spaced (slice first last list)) output p (spaced (slice i last list))
 
 abbrev μ-loop : tie.MeasureT-loop
-μ-loop output₀ at relays first last i₀ p₀ space output i p = last - i
+μ-loop output₀ at list first last i₀ p₀ space output i p = last - i
 
 loop-holds : tie.Need-loop-holds Inv-loop μ-loop
 loop-holds c = (c .before .before .pre .0 .0, going-start _ _ _)
 
-mul-relay : tie.Need-mul-relay Inv-loop μ-loop
-mul-relay c = search needs
+mul-number : tie.Need-mul-number Inv-loop μ-loop
+mul-number c = search needs
 
-shared-slice-read-relay : tie.Need-shared-slice-read-relay Inv-loop μ-loop
-shared-slice-read-relay c = omega (arith, c .before .before .before .before .before .pre .0 .1)
+shared-slice-read-number : tie.Need-shared-slice-read-number Inv-loop μ-loop
+shared-slice-read-number c = omega (arith, c .before .before .before .before .before .pre .0 .1)
 
-cast-relay : tie.Need-cast-relay Inv-loop μ-loop
-cast-relay c = omega (arith, c .shared-slice-known2 .given (c .before .before .loop .i))
+cast-number : tie.Need-cast-number Inv-loop μ-loop
+cast-number c = omega (arith, c .shared-slice-known2 .given (c .before .before .loop .i))
 
 slice-aggregate-put-word-number : tie.Need-slice-aggregate-put-word-number Inv-loop μ-loop
 slice-aggregate-put-word-number c = refl
@@ -41,7 +41,7 @@ put-word-number-requires c κs =
     let start = atLoop .before .before .before in
     let a = start .args in
     let at = atLoop .loop in
-    let step = relays-length (a .relays .now) (at .i) (a .last) (omega arith) (start .pre .0 .1) in
+    let step = numbers-length (a .list .now) (at .i) (a .last) (omega arith) (start .pre .0 .1) in
     omega (arith, at .inv .1 .ends, at .inv .1 .same, start .pre .1)
 
 add-i : tie.Need-add-i Inv-loop μ-loop
@@ -58,7 +58,7 @@ loop-again c =
     let at = atLoop .loop in (
       omega arith,
       going-step _ _ _ _ _ _ _ _ _ _ (at .inv .1)
-          (relays-step (a .relays .now) (at .i) (a .last) (omega arith) (start .pre .0 .1))
+          (numbers-step (a .list .now) (at .i) (a .last) (omega arith) (start .pre .0 .1))
           (c .before .before .put-word-number .ensures),
     )
 
@@ -71,19 +71,19 @@ returns c =
     let a = start .args in
     let at = c .before .loop in
     going-end _ _ _ _ _
-    (subst (λ (rest : List ℕ). Going (now (a .output)) (a .at) (spaced (slice (a .first) (a .last) (now (a .relays)))) (at .output) (at .p) rest)
-    (relays-end (now (a .relays)) (at .i) (a .last) (omega arith)) (at .inv .1))
+    (subst (λ (rest : List ℕ). Going (now (a .output)) (a .at) (spaced (slice (a .first) (a .last) (now (a .list)))) (at .output) (at .p) rest)
+    (numbers-end (now (a .list)) (at .i) (a .last) (omega arith)) (at .inv .1))
 
-pub put-relays-spec : {M : Type 1} → statement M
-put-relays-spec =
+pub put-numbers-spec : {M : Type 1} → statement M
+put-numbers-spec =
     tie.close
     (tie.spec
     Inv-loop
     μ-loop
     loop-holds
-    mul-relay
-    shared-slice-read-relay
-    cast-relay
+    mul-number
+    shared-slice-read-number
+    cast-number
     slice-aggregate-put-word-number
     put-word-number-requires
     add-i

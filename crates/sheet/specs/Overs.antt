@@ -1,0 +1,92 @@
+-- The links of a sheet's routes: k lists of indices of the table, each one shorter than its route, and each index that of the one
+-- link at its step. Rests on demand 3, which bounds the relays of all the routes.
+use Prim.Native.Nat.{ℕ, zero, suc, _+_, _-_, _≤_, _<_, pred}
+use mathlib.Core.Bool.{Bool, true, false}
+use mathlib.Core.List.{List, [], _∷_, map}
+use mathlib.Core.Path.{_≡_, refl, sym, _∙_, ap, ap₂, subst}
+use native.Mathlib.Omega.{arith}
+use lib.ListN.{length, getD, length-map}
+use Rattle.definitions.specs.Outcome.{pick}
+use Rattle.definitions.specs.Lists.{firstFrom, joinAll}
+use Rattle.definitions.specs.Network.{joins}
+use Rattle.definitions.specs.Forests.{marksOf}
+use Rattle.definitions.specs.Route.{routesOf}
+use Rattle.definitions.specs.Over.{oversOf, OverHolds}
+use Rattle.definitions.specs.Demand.{Kept}
+use Rattle.lists.specs.Maps.{getD-map}
+use Rattle.lists.specs.Steps.{stepsOf, length-stepsOf}
+use Rattle.theory.specs.Accepted.{accepted}
+use Rattle.theory.specs.Links.{one-link}
+use Rattle.theory.specs.OverLinks.{pairLink, over-holds, overs-found, tree-between, overs-fit}
+use Rattle.theory.specs.RoutePassed.{RoutePassed}
+use Rattle.text_theory.specs.Spans.{AllBelow}
+use Rattle.sheet.specs.Routes.{length-routes, below-joined, routes-of}
+
+-- The steps of a list are one fewer than its entries.
+steps-lengths : (f : ℕ → ℕ → ℕ) (lists : List (List ℕ)) → map length (map (stepsOf f) lists) ≡ map pred (map length lists)
+unfolding stepsOf
+steps-lengths f [] = refl
+steps-lengths f ([] ∷ lists) = ap (λ (sizes : List ℕ). 0 ∷ sizes) (steps-lengths f lists)
+steps-lengths f ((x ∷ rest) ∷ lists) = ap₂ _∷_ (length-stepsOf f x rest) (steps-lengths f lists)
+
+-- No index is beyond the table.
+first-within : (test : ℕ → Bool) (i count : ℕ) → firstFrom test i count ≤ i + count
+unfolding firstFrom
+first-within test i zero = omega arith
+first-within test i (suc count) = go (test i) (first-within test (suc i) count)
+  where
+    go : (b : Bool) → firstFrom test (suc i) count ≤ suc i + count → pick b i (firstFrom test (suc i) count) ≤ i + suc count
+    go true less = omega arith
+    go false less = omega arith
+
+pair-within : (lows highs : List ℕ) (a b : ℕ) → pairLink lows highs a b ≤ length lows
+unfolding pairLink
+pair-within lows highs a b = omega (arith, first-within (joins lows highs a b) 0 (length lows))
+
+below-steps : (bound : ℕ) (f : ℕ → ℕ → ℕ) → ((a b : ℕ) → f a b < bound) → (l : List ℕ) → AllBelow bound (stepsOf f l)
+unfolding stepsOf
+below-steps bound f h [] = tt
+below-steps bound f h (a ∷ []) = tt
+below-steps bound f h (a ∷ b ∷ rest) = (h a b, below-steps bound f h (b ∷ rest))
+
+module _ (n : ℕ) (lows highs : List ℕ) (k from to : ℕ) (passed : RoutePassed n lows highs k from to) where
+  overs-are : oversOf n lows highs k from to ≡ map (stepsOf (pairLink lows highs)) (routesOf n lows highs k from to)
+  overs-are =
+      let good = passed .accepted in
+      let starts = passed .starts in
+      let ends = passed .ends in
+      overs-found n lows highs good k from to starts ends (passed .differ)
+      (tree-between n lows highs good k from to starts ends (passed .differ) (passed .oneTree))
+
+  pub length-overs : length (oversOf n lows highs k from to) ≡ k
+  length-overs =
+      ap length overs-are
+      ∙ length-map (routesOf n lows highs k from to) (stepsOf (pairLink lows highs))
+      ∙ length-routes n lows highs k from to
+
+  pub over-lengths : map length (oversOf n lows highs k from to) ≡ map pred (map length (routesOf n lows highs k from to))
+  over-lengths = ap (map length) overs-are ∙ steps-lengths (pairLink lows highs) (routesOf n lows highs k from to)
+
+  pub overs-written : length (joinAll (oversOf n lows highs k from to)) ≤ n - 2 + k
+  overs-written =
+      overs-fit n lows highs (passed .accepted) k from to (passed .starts) (passed .ends) (passed .differ) (passed .oneTree) (passed .some)
+
+  pub overs-below : (bound : ℕ) → length lows < bound → AllBelow bound (joinAll (oversOf n lows highs k from to))
+  overs-below bound few =
+      subst (λ (overs : List (List ℕ)). AllBelow bound (joinAll overs)) (sym overs-are)
+      (below-joined bound (stepsOf (pairLink lows highs))
+      (below-steps bound (pairLink lows highs) (λ a b. omega (arith, pair-within lows highs a b)))
+      (routesOf n lows highs k from to))
+
+  -- At each step of a route the index is that of the one link there.
+  pub overs-hold : (i : ℕ) → i < k
+      → OverHolds lows highs (getD (routesOf n lows highs k from to) i []) (getD (oversOf n lows highs k from to) i [])
+  overs-hold i h =
+      let routes = routesOf n lows highs k from to in
+      let holds = routes-of n lows highs k from to passed .each i h in
+      let over : getD (oversOf n lows highs k from to) i [] ≡ stepsOf (pairLink lows highs) (getD routes i []) =
+      ap (λ (overs : List (List ℕ)). getD overs i []) overs-are
+      ∙ getD-map (stepsOf (pairLink lows highs)) routes i [] [] (omega (arith, length-routes n lows highs k from to)) in
+      subst (OverHolds lows highs (getD routes i [])) (sym over)
+      (over-holds lows highs (one-link n lows highs (accepted n lows highs (passed .accepted))) (Kept (marksOf n lows highs k))
+      (getD routes i []) (omega (arith, holds .long)) (holds .along))
