@@ -5,6 +5,7 @@ ghost use Rattle.definitions.specs.Network.{pairAnswer, tableCheck};
 ghost use Rattle.definitions.specs.Text.{readAnswer, lowsAfter, highsAfter, writeAnswer, bufferAfter};
 ghost use Rattle.definitions.specs.Order.{orderAnswer, relaysAfter, placesAfter};
 ghost use Rattle.definitions.specs.Forests.{splitAnswer, forestsAfter, cutAnswer, marksAfter};
+ghost use Rattle.definitions.specs.Over.{routeLinksAnswer, routeLinksCounts, routeLinksRelays, routeLinksLinks, routeLinksScratch};
 ghost use Rattle.definitions.specs.Route.{routeAnswer, countsAfter, routeRelaysAfter, scratchAfter};
 ghost use Rattle.definitions.specs.Plan.{planText, printAnswer, outputAfter};
 ghost use Rattle.definitions.specs.Lease.{keepText};
@@ -172,6 +173,44 @@ pub extern "C" fn nolkisei_route(
         (now (scratch .entry)) ⌝ }
 {
     match routes::route(n, lows, highs, k, from, to, counts, relays, scratch) {
+        RouteAnswer::Written(total) => report::give(total as u64, 0, answer),
+        RouteAnswer::Refused(refusal) => report::refuse(refusal, answer),
+    }
+}
+
+// Route with links: k routes between two relays, and the indices of the links of each.
+#[no_mangle]
+pub extern "C" fn nolkisei_route_links(
+    n: u16,
+    lows: &[u16],
+    highs: &[u16],
+    k: u16,
+    from: u16,
+    to: u16,
+    counts: &mut [u16],
+    relays: &mut [u16],
+    links: &mut [u16],
+    scratch: &mut [u16],
+    answer: &mut [u64; 2],
+) -> u32
+    ensures answer { λ r. ⌜ reported
+        (routeLinksAnswer n (now (lows .entry)) (now (highs .entry)) k from to (now (counts .entry)) (now (relays .entry))
+        (now (links .entry)) (now (scratch .entry)))
+        ≡ (r, now (answer .exit)) ⌝ }
+    ensures counts { λ _. ⌜ now (counts .exit)
+        ≡ routeLinksCounts n (now (lows .entry)) (now (highs .entry)) k from to (now (counts .entry)) (now (relays .entry))
+        (now (links .entry)) (now (scratch .entry)) ⌝ }
+    ensures relays { λ _. ⌜ now (relays .exit)
+        ≡ routeLinksRelays n (now (lows .entry)) (now (highs .entry)) k from to (now (counts .entry)) (now (relays .entry))
+        (now (links .entry)) (now (scratch .entry)) ⌝ }
+    ensures links { λ _. ⌜ now (links .exit)
+        ≡ routeLinksLinks n (now (lows .entry)) (now (highs .entry)) k from to (now (counts .entry)) (now (relays .entry))
+        (now (links .entry)) (now (scratch .entry)) ⌝ }
+    ensures scratch { λ _. ⌜ now (scratch .exit)
+        ≡ routeLinksScratch n (now (lows .entry)) (now (highs .entry)) k from to (now (counts .entry)) (now (relays .entry))
+        (now (links .entry)) (now (scratch .entry)) ⌝ }
+{
+    match routes::route_links(n, lows, highs, k, from, to, counts, relays, links, scratch) {
         RouteAnswer::Written(total) => report::give(total as u64, 0, answer),
         RouteAnswer::Refused(refusal) => report::refuse(refusal, answer),
     }

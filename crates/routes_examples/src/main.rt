@@ -1,25 +1,27 @@
 // Runs Route on document 01's examples, on the networks where planners went astray, and on bad input, and prints a line for
-// each: the network, the wish, the answer, and the three lent lists afterwards, which held nines before.
+// each: the network, the wish, the answer, and the three lent lists afterwards, which held nines before. Then Route with links.
 use routes::RouteAnswer;
 use show::show_list;
 use show::show_number;
 use show::show_refusal;
 
+mod linked;
+
 // Two ends and the number of routes between them.
-struct Wish {
-    from: u16,
-    to: u16,
-    k: u16,
+pub(crate) struct Wish {
+    pub from: u16,
+    pub to: u16,
+    pub k: u16,
 }
 
-fn show_wish(label: &[u8], wish: Wish) {
+pub(crate) fn show_wish(label: &[u8], wish: Wish) {
     io::write_all(1, label);
     show_number(b" ", wish.from as usize);
     show_number(b" ", wish.to as usize);
     show_number(b" ", wish.k as usize);
 }
 
-fn show_answer(answer: RouteAnswer) {
+pub(crate) fn show_answer(answer: RouteAnswer) {
     match answer {
         RouteAnswer::Written(count) => {
             show_number(b" written ", count);
@@ -184,4 +186,6 @@ fn main() {
     bad_wishes();
     short_lists();
     parts();
+    linked::examples();
+    linked::short_lists();
 }
