@@ -13,6 +13,7 @@ use Rattle.definitions.specs.Lists.{has, count, position}
 use Rattle.definitions.specs.Network.{linked}
 use Rattle.definitions.specs.Order.{weight, nextRelay, placeNext, placedAfter, allRelays, firstRelay}
 use Rattle.definitions.specs.Demand.{NoRepeat}
+use Rattle.lists.specs.Tests.{or-none}
 use Rattle.lists.specs.Members.{has-at, has-append}
 use Rattle.lists.specs.Counting.{count-append}
 use Rattle.lists.specs.Positions.{position-which, position-at}
@@ -59,11 +60,7 @@ module _ (n : ℕ) (lows highs : List ℕ) where
   pub has-same : (k r : ℕ) → (r ≡ following n lows highs k → ⊥)
       → has (placed n lows highs (suc k)) r ≡ has (placed n lows highs k) r
   has-same k r h =
-      has-suc k r ∙ rw (ne-eqb (following n lows highs k) r (λ e. h (sym e))) (or-false (has (placed n lows highs k) r))
-    where
-      or-false : (a : Bool) → (a || false) ≡ a
-      or-false true = refl
-      or-false false = refl
+      has-suc k r ∙ rw (ne-eqb (following n lows highs k) r (λ e. h (sym e))) (or-none (has (placed n lows highs k) r))
 
   pub has-new : (k : ℕ) → has (placed n lows highs (suc k)) (following n lows highs k) ≡ true
   has-new k =

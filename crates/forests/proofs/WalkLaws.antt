@@ -12,7 +12,7 @@ use lib.Seq.{getD-set-same, getD-set-other}
 use Rattle.definitions.specs.Outcome.{pick}
 use Rattle.definitions.specs.Lists.{someBelow}
 use Rattle.definitions.specs.Network.{isPair, joins}
-use Rattle.lists.specs.Tests.{and-false}
+use Rattle.lists.specs.Tests.{and-false, or-none}
 use Rattle.lists.specs.Below.{none-below}
 use Rattle.lists.specs.Stretches.{some-skip, and-skip}
 use Rattle.theory.specs.Accepted.{ProperTable}
@@ -26,10 +26,6 @@ pick-eq x y a b e = rw (eq-eqb x y e)
 
 pub pick-ne : {A : Type 0} (x y : ℕ) (a b : A) → (x ≡ y → ⊥) → pick (eqb x y) a b ≡ b
 pick-ne x y a b e = rw (ne-eqb x y e)
-
-or-false : (a : Bool) → (a || false) ≡ a
-or-false true = refl
-or-false false = refl
 
 and-true : (a : Bool) → (a && true) ≡ a
 and-true true = refl
@@ -55,7 +51,7 @@ module _ (lows highs : List ℕ) (x : ℕ) where
       go : (a : Bool) → eqb (getD lows j 0) x ≡ a → (b : Bool) → eqb (getD highs j 0) x ≡ b → (a || b) ≡ true
           → ((a && eqb (getD highs j 0) r) || (eqb (getD lows j 0) r && b)) ≡ eqb (pick a (getD highs j 0) (getD lows j 0)) r
       go true p true q e = absurd (omega (arith, eqb-true (getD lows j 0) x p, eqb-true (getD highs j 0) x q))
-      go true p false q e = rw (and-false (eqb (getD lows j 0) r)) (or-false (eqb (getD highs j 0) r))
+      go true p false q e = rw (and-false (eqb (getD lows j 0) r)) (or-none (eqb (getD highs j 0) r))
       go false p true q e = and-true (eqb (getD lows j 0) r)
       go false p false q e = absurd (true≢false (sym e))
 

@@ -14,6 +14,13 @@ unfolding refuseIf
 refuse-same true number place one other same = refl
 refuse-same false number place one other same = same refl
 
+-- Two ways to go on that give the same after a success.
+pub then-same : {A B : Type 0} (outcome : Outcome A) (one other : A → Outcome B) → ((value : A) → outcome ≡ done value → one value ≡ other value)
+    → andThen outcome one ≡ andThen outcome other
+unfolding andThen
+then-same (refused number place) one other same = refl
+then-same (done value) one other same = same value refl
+
 pub done-same : {A : Type 0} (a b : A) → done a ≡ done b → a ≡ b
 done-same a b e = cc
 

@@ -91,3 +91,13 @@ unfolding largest
 largest-same f g zero same = refl
 largest-same f g (suc k) same =
     rw (same (suc k) (omega arith) (omega arith), largest-same f g k (λ i one le. same i one (omega arith)))
+
+-- What it finds is not beyond its range.
+pub first-within : (test : ℕ → Bool) (i count : ℕ) → firstFrom test i count ≤ i + count
+unfolding firstFrom
+first-within test i zero = omega arith
+first-within test i (suc count) = go (test i) (first-within test (suc i) count)
+  where
+    go : (b : Bool) → firstFrom test (suc i) count ≤ suc i + count → pick b i (firstFrom test (suc i) count) ≤ i + suc count
+    go true less = omega arith
+    go false less = omega arith

@@ -1,7 +1,7 @@
 -- What stands between each entry of a list and the next. Assumes nothing.
-use Prim.Native.Nat.{ℕ, suc, _+_, _≤_, _<_}
+use Prim.Native.Nat.{ℕ, suc, _+_, _≤_, _<_, pred}
 use mathlib.Core.List.{List, [], _∷_, _++_, map, reverse, reverseAux, reverseAux-eq}
-use mathlib.Core.Path.{_≡_, refl, sym, _∙_, ap}
+use mathlib.Core.Path.{_≡_, refl, sym, _∙_, ap, ap₂}
 use native.Mathlib.Omega.{arith}
 use lib.ListN.{length, getD, length-append}
 use Rattle.definitions.specs.Lists.{joinAll}
@@ -16,6 +16,13 @@ pub length-stepsOf : (f : ℕ → ℕ → ℕ) (x : ℕ) (rest : List ℕ) → l
 unfolding stepsOf
 length-stepsOf f x [] = refl
 length-stepsOf f x (y ∷ rest) = rw (length-stepsOf f y rest)
+
+-- A list has one step less than entries.
+pub lengths-stepsOf : (f : ℕ → ℕ → ℕ) (lists : List (List ℕ)) → map length (map (stepsOf f) lists) ≡ map pred (map length lists)
+unfolding stepsOf
+lengths-stepsOf f [] = refl
+lengths-stepsOf f ([] ∷ lists) = ap (λ (sizes : List ℕ). 0 ∷ sizes) (lengths-stepsOf f lists)
+lengths-stepsOf f ((x ∷ rest) ∷ lists) = ap₂ _∷_ (length-stepsOf f x rest) (lengths-stepsOf f lists)
 
 -- Lists with an entry each have one step less each.
 pub length-all-steps : (f : ℕ → ℕ → ℕ) (lists : List (List ℕ)) → ((i : ℕ) → i < length lists → 1 ≤ length (getD lists i []))

@@ -26,6 +26,14 @@ pub or-neither : (a b : Bool) → a ≡ false → b ≡ false → (a || b) ≡ f
 or-neither true b p q = absurd (true≢false p)
 or-neither false b p q = q
 
+pub or-none : (a : Bool) → (a || false) ≡ a
+or-none true = refl
+or-none false = refl
+
+pub or-turn : (a b : Bool) → (a || b) ≡ (b || a)
+or-turn true b = sym (or-right b true refl)
+or-turn false b = sym (or-none b)
+
 pub or-assoc : (a b c : Bool) → (a || (b || c)) ≡ ((a || b) || c)
 or-assoc true b c = refl
 or-assoc false b c = refl

@@ -1,40 +1,30 @@
 -- Route with links, called with a list of at least 1,030 links, which is long enough for every network and every k: it answers as
 -- Route does. Assumes nothing.
 use Prim.Native.Nat.{ℕ, _+_, _-_, _≤_}
-use mathlib.Core.Bool.{Bool, true, false, _||_, not}
+use mathlib.Core.Bool.{Bool, false, _||_, not}
 use mathlib.Core.List.{List, [], _∷_}
-use mathlib.Core.Path.{_≡_, refl, _∙_, ap}
+use mathlib.Core.Path.{_≡_, _∙_, ap}
 use native.Mathlib.Omega.{arith}
 use borrow.Author.Tests.{le-ltb}
 use lib.Dec.{eqb, ltb, leb}
 use lib.ListN.{length}
-use Rattle.definitions.specs.Outcome.{Outcome, refused, done, Answer, refuseIf, andThen}
+use Rattle.definitions.specs.Outcome.{done, Answer, refuseIf}
 use Rattle.definitions.specs.Lists.{outside, joinAll}
 use Rattle.definitions.specs.Network.{tableCheck}
 use Rattle.definitions.specs.Route.{routesOf, oneTreeOf, tooShort, routeUnless, routeAnswer}
 use Rattle.definitions.specs.Over.{linksTooShort, routeLinksAnswer}
-use Rattle.lists.specs.SameOutcomes.{refuse-same}
+use Rattle.lists.specs.SameOutcomes.{refuse-same, then-same}
+use Rattle.lists.specs.Tests.{or-none}
 use Rattle.lists.specs.Ranges.{inside-range}
 use Rattle.theory.specs.Accepted.{check-accepts, accepted}
 use Rattle.theory.specs.RoutePassed.{RoutePassed, unless-passed}
-
--- Two ways to go on that give the same after a success.
-then-same : {A B : Type 0} (outcome : Outcome A) (one other : A → Outcome B) → ((value : A) → outcome ≡ done value → one value ≡ other value)
-    → andThen outcome one ≡ andThen outcome other
-unfolding andThen
-then-same (refused number place) one other same = refl
-then-same (done value) one other same = same value refl
 
 module _ (n : ℕ) (lows highs : List ℕ) (k from to : ℕ) (counts relays links scratch : List ℕ) where
   links-fit : n ≤ 1000 → k ≤ 32 → 1030 ≤ length links → linksTooShort n k counts relays links scratch ≡ tooShort n k counts relays scratch
   unfolding linksTooShort
   links-fit few most roomy =
       let fits : ltb (length links) (n - 2 + k) ≡ false = le-ltb (length links) (n - 2 + k) (omega arith) in
-      ap (λ (b : Bool). tooShort n k counts relays scratch || b) fits ∙ go (tooShort n k counts relays scratch)
-    where
-      go : (short : Bool) → (short || false) ≡ short
-      go true = refl
-      go false = refl
+      ap (λ (b : Bool). tooShort n k counts relays scratch || b) fits ∙ or-none (tooShort n k counts relays scratch)
 
   pub links-answer : 1030 ≤ length links
       → routeLinksAnswer n lows highs k from to counts relays links scratch ≡ routeAnswer n lows highs k from to counts relays scratch

@@ -1,20 +1,19 @@
 -- The links of a sheet's routes: k lists of indices of the table, each one shorter than its route, and each index that of the one
 -- link at its step. Rests on demand 3, which bounds the relays of all the routes.
-use Prim.Native.Nat.{ℕ, zero, suc, _+_, _-_, _≤_, _<_, pred}
-use mathlib.Core.Bool.{Bool, true, false}
+use Prim.Native.Nat.{ℕ, _+_, _-_, _≤_, _<_, pred}
 use mathlib.Core.List.{List, [], _∷_, map}
-use mathlib.Core.Path.{_≡_, refl, sym, _∙_, ap, ap₂, subst}
+use mathlib.Core.Path.{_≡_, sym, _∙_, ap, subst}
 use native.Mathlib.Omega.{arith}
 use lib.ListN.{length, getD, length-map}
-use Rattle.definitions.specs.Outcome.{pick}
-use Rattle.definitions.specs.Lists.{firstFrom, joinAll}
+use Rattle.definitions.specs.Lists.{joinAll}
 use Rattle.definitions.specs.Network.{joins}
 use Rattle.definitions.specs.Forests.{marksOf}
 use Rattle.definitions.specs.Route.{routesOf}
 use Rattle.definitions.specs.Over.{oversOf, OverHolds}
 use Rattle.definitions.specs.Demand.{Kept}
+use Rattle.lists.specs.Searches.{first-within}
 use Rattle.lists.specs.Maps.{getD-map}
-use Rattle.lists.specs.Steps.{stepsOf, length-stepsOf}
+use Rattle.lists.specs.Steps.{stepsOf, lengths-stepsOf}
 use Rattle.theory.specs.Accepted.{accepted}
 use Rattle.theory.specs.Links.{one-link}
 use Rattle.theory.specs.OverLinks.{pairLink, over-holds, overs-found, tree-between, overs-fit}
@@ -22,23 +21,7 @@ use Rattle.theory.specs.RoutePassed.{RoutePassed}
 use Rattle.text_theory.specs.Spans.{AllBelow}
 use Rattle.sheet.specs.Routes.{length-routes, below-joined, routes-of}
 
--- The steps of a list are one fewer than its entries.
-steps-lengths : (f : ℕ → ℕ → ℕ) (lists : List (List ℕ)) → map length (map (stepsOf f) lists) ≡ map pred (map length lists)
-unfolding stepsOf
-steps-lengths f [] = refl
-steps-lengths f ([] ∷ lists) = ap (λ (sizes : List ℕ). 0 ∷ sizes) (steps-lengths f lists)
-steps-lengths f ((x ∷ rest) ∷ lists) = ap₂ _∷_ (length-stepsOf f x rest) (steps-lengths f lists)
-
 -- No index is beyond the table.
-first-within : (test : ℕ → Bool) (i count : ℕ) → firstFrom test i count ≤ i + count
-unfolding firstFrom
-first-within test i zero = omega arith
-first-within test i (suc count) = go (test i) (first-within test (suc i) count)
-  where
-    go : (b : Bool) → firstFrom test (suc i) count ≤ suc i + count → pick b i (firstFrom test (suc i) count) ≤ i + suc count
-    go true less = omega arith
-    go false less = omega arith
-
 pair-within : (lows highs : List ℕ) (a b : ℕ) → pairLink lows highs a b ≤ length lows
 unfolding pairLink
 pair-within lows highs a b = omega (arith, first-within (joins lows highs a b) 0 (length lows))
@@ -65,7 +48,7 @@ module _ (n : ℕ) (lows highs : List ℕ) (k from to : ℕ) (passed : RoutePass
       ∙ length-routes n lows highs k from to
 
   pub over-lengths : map length (oversOf n lows highs k from to) ≡ map pred (map length (routesOf n lows highs k from to))
-  over-lengths = ap (map length) overs-are ∙ steps-lengths (pairLink lows highs) (routesOf n lows highs k from to)
+  over-lengths = ap (map length) overs-are ∙ lengths-stepsOf (pairLink lows highs) (routesOf n lows highs k from to)
 
   pub overs-written : length (joinAll (oversOf n lows highs k from to)) ≤ n - 2 + k
   overs-written =

@@ -15,6 +15,7 @@ use Rattle.definitions.specs.Forests.{leftEntry, forestsOf, marksOf}
 use Rattle.definitions.specs.Route.{leftOf, routesBetween, routesOf, oneTreeOf}
 use Rattle.definitions.specs.Over.{oversBetween, entryOf, oversOf, OneLink, OverFrom, OverHolds}
 use Rattle.definitions.specs.Demand.{LinkOf, AlongFrom, Along}
+use Rattle.lists.specs.Tests.{or-turn}
 use Rattle.lists.specs.Searches.{first-holds}
 use Rattle.lists.specs.Maps.{map-map}
 use Rattle.lists.specs.Steps.{stepsOf, stepsOf-map, length-all-steps}
@@ -33,13 +34,7 @@ pairLink lows highs a b = firstFrom (joins lows highs a b) 0 (length lows)
 module _ (lows highs : List ℕ) where
   joins-turn : (a b i : ℕ) → joins lows highs a b i ≡ joins lows highs b a i
   unfolding joins
-  joins-turn a b i = go (isPair lows highs a b i) (isPair lows highs b a i)
-    where
-      go : (p q : Bool) → (p || q) ≡ (q || p)
-      go true true = refl
-      go true false = refl
-      go false true = refl
-      go false false = refl
+  joins-turn a b i = or-turn (isPair lows highs a b i) (isPair lows highs b a i)
 
   pub pair-turn : (a b : ℕ) → pairLink lows highs a b ≡ pairLink lows highs b a
   unfolding pairLink

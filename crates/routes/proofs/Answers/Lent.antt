@@ -14,7 +14,7 @@ use Rattle.definitions.specs.Lists.{overwrite, zeroed, joinAll}
 use Rattle.definitions.specs.Route.{tooShort, routesOf, routeUnless, routeAnswer, countsAfter, routeRelaysAfter, scratchUsed, scratchAfter}
 use Rattle.definitions.specs.Over.{oversOf, linksTooShort, routeLinksAnswer, routeLinksCounts, routeLinksRelays, routeLinksLinks, routeLinksScratch}
 use Rattle.lists.specs.Stores.{sets-overwrite}
-use Rattle.lists.specs.Tests.{or-false}
+use Rattle.lists.specs.Tests.{or-false, or-none}
 use Rattle.theory.specs.RoutePassed.{unless-passed}
 use Rattle.theory.specs.OverLinks.{overs-fit}
 use Rattle.routes.specs.Answers.{shortFor, coreAnswer, coreCounts, coreRelays, coreLinks, coreScratch}
@@ -24,11 +24,7 @@ module _ (n : ℕ) (lows highs : List ℕ) (k from to : ℕ) (counts relays scra
   module _ (links : List ℕ) where
     short-alone : shortFor false n k counts relays links scratch ≡ tooShort n k counts relays scratch
     unfolding shortFor
-    short-alone = go (tooShort n k counts relays scratch)
-      where
-        go : (b : Bool) → (b || false) ≡ b
-        go true = refl
-        go false = refl
+    short-alone = or-none (tooShort n k counts relays scratch)
 
     pub alone-answer : coreAnswer false n lows highs k from to counts relays links scratch ≡ routeAnswer n lows highs k from to counts relays scratch
     unfolding coreAnswer routeAnswer
