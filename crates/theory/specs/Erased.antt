@@ -1,6 +1,6 @@
 -- A look-up that gives more than places makes the same sweep: of its slots the places alone are the slots of the sweep over
 -- places. Over any look-up whose paths start at the place that they are to start at.
-use Prim.Native.Nat.{ℕ, zero, suc, _+_, pred}
+use Prim.Native.Nat.{ℕ, zero, suc, pred}
 use mathlib.Core.Bool.{Bool, true, false, _&&_, _||_}
 use mathlib.Core.List.{List, [], _∷_, map, tail}
 use mathlib.Core.Path.{_≡_, refl, sym, _∙_, ap, ap₂, fun-ext}

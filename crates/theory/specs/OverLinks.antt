@@ -2,10 +2,10 @@
 -- link of the table that does. From what the look-ups gave along the paths, and "at most one for each two".
 -- Over any order; then for the base and accepted networks.
 use Prim.Native.Nat.{ℕ, _+_, _-_, _≤_, _<_}
-use mathlib.Core.Bool.{Bool, true, false, _||_}
+use mathlib.Core.Bool.{Bool, true}
 use mathlib.Core.List.{List, [], _∷_, map}
 use mathlib.Core.Logic.{_≢_}
-use mathlib.Core.Path.{_≡_, refl, sym, _∙_, ap, fun-ext}
+use mathlib.Core.Path.{_≡_, sym, _∙_, ap, fun-ext}
 use native.Mathlib.Omega.{arith}
 use lib.ListN.{length}
 use Rattle.definitions.specs.Lists.{firstFrom, joinAll}
@@ -13,7 +13,7 @@ use Rattle.definitions.specs.Network.{isPair, joins, Accepted}
 use Rattle.definitions.specs.Order.{orderOf, placeOf, relayAt}
 use Rattle.definitions.specs.Forests.{leftEntry, forestsOf, marksOf}
 use Rattle.definitions.specs.Route.{leftOf, routesBetween, routesOf, oneTreeOf}
-use Rattle.definitions.specs.Over.{oversBetween, entryOf, oversOf, OneLink, OverFrom, OverHolds}
+use Rattle.definitions.specs.Over.{oversBetween, entryOf, oversOf, OverFrom, OverHolds}
 use Rattle.definitions.specs.Demand.{LinkOf, AlongFrom, Along}
 use Rattle.lists.specs.Tests.{or-turn}
 use Rattle.lists.specs.Searches.{first-holds}

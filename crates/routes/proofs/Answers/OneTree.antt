@@ -6,7 +6,7 @@ use mathlib.Core.Path.{_≡_, refl, sym, _∙_, subst}
 use native.Mathlib.Decide.{ℕ-discrete, decLt}
 use native.Mathlib.Omega.{arith}
 use lib.Dec.{eqb}
-use borrow.Author.Tests.{eqb-false, eq-eqb, ne-eqb, lt-ltb, le-ltb}
+use borrow.Author.Tests.{eqb-false, ne-eqb, lt-ltb, le-ltb}
 use Rattle.definitions.specs.Outcome.{pick}
 use Rattle.definitions.specs.Forests.{oneTree, Entry}
 use Rattle.lists.specs.Searches.{clash}
