@@ -5,7 +5,7 @@ use network::Place;
 ghost use mathlib.Core.Path.{_≡_};
 ghost use Prim.Native.Nat.{_-_, _<_, pred};
 ghost use lib.ListN.{getD, set};
-ghost use Rattle.routes.specs.Side.{entryOf, linkEntry, tableEntry, endIn, secondIn, linkIn, priorIn, priorLinkIn, setPath, setPrior, extendPath, advance, trade, tradeAt, tradeFrom};
+ghost use Rattle.routes.specs.Side.{entryOf, linkEntry, tableEntry, endIn, secondIn, linkIn, priorIn, priorLinkIn, setPath, setPrior, extendPath, trade, tradeAt, tradeFrom};
 
 // Where the last but ones start, behind the ends of the indices 0 to 32.
 const SECONDS: usize = 33;
@@ -127,7 +127,7 @@ fn set_prior(side: &mut [u16], x: Place, prior: Place, link: u16)
 }
 
 // Path j goes on from its end v to left(j, v).
-fn extend(side: &mut [u16], table: &[u16], ends: &[u16], n: u16, v: Place, j: u16)
+pub(crate) fn extend(side: &mut [u16], table: &[u16], ends: &[u16], n: u16, v: Place, j: u16)
     ensures { λ _. ⌜ now (side .exit)
         ≡ extendPath (tableEntry (now (table .entry)) (now (ends .entry)) n) (v .0) j (now (side .entry)) ⌝ }
 {
@@ -136,29 +136,6 @@ fn extend(side: &mut [u16], table: &[u16], ends: &[u16], n: u16, v: Place, j: u1
     set_prior(side, v, second, link);
     let next = left(table, ends, n, j, v);
     set_path(side, j, next, v);
-}
-
-// The same where path j ends at v and the other side's path j, which ends at `other`, does not.
-pub(crate) fn go_on(
-    side: &mut [u16],
-    table: &[u16],
-    ends: &[u16],
-    n: u16,
-    v: Place,
-    j: u16,
-    other: Place,
-)
-    ensures { λ _. ⌜ now (side .exit)
-        ≡ advance (tableEntry (now (table .entry)) (now (ends .entry)) n) (v .0) j (other .0) (now (side .entry)) ⌝ }
-{
-    let end = end_of(side, j);
-    if end.0 != v.0 {
-        return;
-    }
-    if other.0 == v.0 {
-        return;
-    }
-    extend(side, table, ends, n, v, j);
 }
 
 // Index i, whose path ends at v, gets the path of index j with left(i, its last but one) as its end, and j gets the path of i.

@@ -5,7 +5,7 @@ ghost use Rattle.routes.specs.Side.{tableEntry};
 ghost use Rattle.routes.specs.Sides.{sides, highestIn, startA, startB, leaveAt, leaveFrom, passAt, stepIn, sweepIn, sweptIn};
 use crate::side::Neighbour;
 use crate::side::end_of;
-use crate::side::go_on;
+use crate::side::extend;
 use crate::side::left;
 use crate::side::one_before;
 use crate::side::set_path;
@@ -84,8 +84,16 @@ fn pass(a: &mut [u16], b: &mut [u16], table: &[u16], ends: &[u16], n: u16, v: Pl
     trade_below(b, table, ends, n, v, j);
     let end_a = end_of(a, j);
     let end_b = end_of(b, j);
-    go_on(a, table, ends, n, v, j, end_b);
-    go_on(b, table, ends, n, v, j, end_a);
+    if end_a.0 == v.0 {
+        if end_b.0 == v.0 {
+            return;
+        }
+        extend(a, table, ends, n, v, j);
+        return;
+    }
+    if end_b.0 == v.0 {
+        extend(b, table, ends, n, v, j);
+    }
 }
 
 fn step(
