@@ -1,14 +1,16 @@
 -- One turn of each loop that counts an index down, in the code's terms: what is left from i on is the turn at i and then
 -- what is left from i - 1 on. Assumes nothing.
-use Prim.Native.Nat.{ℕ, zero, suc, _-_, _<_, pred}
-use mathlib.Core.Bool.{Bool, true, false}
+use Prim.Native.Nat.{ℕ, zero, suc, _-_, _≤_, _<_, pred}
+use mathlib.Core.Bool.{Bool, true, false, _||_}
 use mathlib.Core.List.{List}
 use mathlib.Core.Path.{_≡_, sym, _∙_}
 use native.Mathlib.Numerals.{sub-one}
 use native.Mathlib.Omega.{arith}
 use borrow.Author.Tests.{eq-eqb, ne-eqb}
+use lib.Dec.{eqb}
 use Rattle.definitions.specs.Lists.{largest}
 use Rattle.definitions.specs.Forests.{Entry}
+use Rattle.lists.specs.Searches.{largest-bound}
 use Rattle.routes.specs.Side.{endIn, setPath, extendPath, advance, tradeAt, tradeFrom}
 use Rattle.routes.specs.Sides.{sides, highestIn, startA, startB, leaveAt, leaveFrom, passAt, stepIn, sweepIn, sweptIn}
 
@@ -74,6 +76,10 @@ highest-turn test (suc i) some e = let less : suc i - 1 ≡ i = omega arith in r
 pub highest-end : (test : ℕ → Bool) (i : ℕ) → i ≡ 0 → largest test i ≡ 0
 unfolding largest
 highest-end test i e = rw e
+
+pub highest-bound : (k v : ℕ) (a b : List ℕ) → highestIn k v a b ≤ k
+unfolding highestIn
+highest-bound k v a b = largest-bound (λ i. eqb (endIn a i) v || eqb (endIn b i) v) k
 
 -- The calls at a place other than t, one after another: the two paths of j meet there, one of them goes on, or both end elsewhere.
 module _ (look : ℕ → ℕ → Entry) (v j : ℕ) (a b a₁ b₁ : List ℕ) (endA endB : ℕ)
