@@ -17,11 +17,11 @@ use network::Place;
 use network::Refusal;
 use network::Relay;
 ghost use mathlib.Core.Path.{_≡_};
-ghost use Prim.Native.Nat.{ℕ, _*_, _≤_, _<_};
+ghost use Prim.Native.Nat.{ℕ, _+_, _*_, _≤_, _<_};
 ghost use lib.ListN.{length, getD};
 ghost use Rattle.definitions.specs.Lists.{zeroed};
 ghost use Rattle.forests.specs.Scan.{Scannable};
-ghost use Rattle.routes.specs.Side.{tableEntry};
+ghost use Rattle.routes.specs.Side.{tableEntry, priorStart};
 ghost use Rattle.routes.specs.Answers.{routeOutcome, answered, answerIn, treeAnswer, Routable, RouteArrays, Prepared};
 
 // The order, the places and the left table of an accepted table; `numbers` has the earlier end of each link afterwards, as a place.
@@ -59,7 +59,8 @@ fn answer(
     relays: &mut [u16],
     links: &mut [u16],
 ) -> RouteAnswer
-    requires { ⌜ (0 < p .0) × (0 < q .0) × (k ≤ 32) ⌝ }
+    requires { ⌜ (0 < p .0) × (p .0 ≤ n) × (0 < q .0) × (q .0 ≤ n) × (k ≤ 32)
+        × (priorStart + (2 * n + 1) < length (now a)) × (priorStart + (2 * n + 1) < length (now b)) ⌝ }
     ensures { λ r. ⌜ answered (now (counts .exit)) (now (relays .exit)) (now (links .exit)) (routeOutcome r)
         ≡ answerIn (now (a .entry)) (now (b .entry)) (tableEntry (now (table .entry)) (now (ends .entry)) n) k (p .0) (q .0)
         (now (order .entry)) (now (counts .entry)) (now (relays .entry)) (now (links .entry)) ⌝ }

@@ -1,7 +1,8 @@
 // The routes between two places, over a left table.
 ghost use mathlib.Core.Path.{_≡_};
-ghost use Prim.Native.Nat.{_-_, _<_, _≤_};
-ghost use Rattle.routes.specs.Side.{tableEntry};
+ghost use Prim.Native.Nat.{_+_, _-_, _*_, _≤_, _<_};
+ghost use lib.ListN.{length};
+ghost use Rattle.routes.specs.Side.{tableEntry, priorStart};
 ghost use Rattle.routes.specs.Writing.{written};
 ghost use Rattle.routes.specs.Between.{aliveIn, oneTreeIn, betweenIn, linksBetween};
 use crate::links::write_links;
@@ -55,7 +56,8 @@ pub(crate) fn between(
     relays: &mut [u16],
     links: &mut [u16],
 ) -> usize
-    requires { ⌜ (0 < p .0) × (0 < q .0) × (k ≤ 32) ⌝ }
+    requires { ⌜ (0 < p .0) × (p .0 ≤ n) × (0 < q .0) × (q .0 ≤ n) × (k ≤ 32)
+        × (priorStart + (2 * n + 1) < length (now a)) × (priorStart + (2 * n + 1) < length (now b)) ⌝ }
     ensures { λ r. ⌜ written (now (counts .exit)) (now (relays .exit)) r
         ≡ betweenIn (now (a .entry)) (now (b .entry)) (tableEntry (now (table .entry)) (now (ends .entry)) n) k (p .0) (q .0) (now (order .entry))
         (now (counts .entry)) (now (relays .entry)) ⌝ }

@@ -1,11 +1,11 @@
 // The paths of one side of the sweep in one list: entry i is the end of path i as a place, entry SECONDS + i its last but one,
 // entry LINKS + i the link between them; entry PRIORS + 2 x is the place before x on its path, and the entry behind it the link
-// from there to x. Look-ups out of range give 0, and stores out of range do nothing.
+// from there to x. Look-ups out of range give 0; what the sweep stores needs its room, and is not tested.
 use network::Place;
 ghost use mathlib.Core.Path.{_≡_};
-ghost use Prim.Native.Nat.{_-_, _<_, pred};
-ghost use lib.ListN.{getD, set};
-ghost use Rattle.routes.specs.Side.{entryOf, linkEntry, tableEntry, endIn, secondIn, linkIn, priorIn, priorLinkIn, setPath, setPrior, extendPath, advance, trade, tradeAt, tradeFrom};
+ghost use Prim.Native.Nat.{_+_, _-_, _*_, _≤_, _<_, pred};
+ghost use lib.ListN.{length, getD, set};
+ghost use Rattle.routes.specs.Side.{entryOf, linkEntry, tableEntry, priorStart, endIn, secondIn, linkIn, priorIn, priorLinkIn, setPath, setPrior, extendPath, trade, tradeAt, tradeFrom};
 
 // Where the last but ones start, behind the ends of the indices 0 to 32.
 const SECONDS: usize = 33;
@@ -97,6 +97,22 @@ pub(crate) fn link_of(side: &[u16], i: u16) -> u16
     get(side, LINKS + (i as usize))
 }
 
+// The last but one of path i, and the link to its end, of a side that is known to have them.
+fn second_at(side: &[u16], i: u16) -> Place
+    requires { ⌜ (i ≤ 32) × (priorStart ≤ length (now side)) ⌝ }
+    ensures { λ r. ⌜ r .0 ≡ secondIn (now (side .entry)) i ⌝ }
+{
+    let second = side[SECONDS + (i as usize)];
+    Place(second)
+}
+
+fn link_at(side: &[u16], i: u16) -> u16
+    requires { ⌜ (i ≤ 32) × (priorStart ≤ length (now side)) ⌝ }
+    ensures { λ r. ⌜ r ≡ linkIn (now (side .entry)) i ⌝ }
+{
+    side[LINKS + (i as usize)]
+}
+
 pub(crate) fn prior_of(side: &[u16], x: Place) -> Place
     ensures { λ r. ⌜ r .0 ≡ priorIn (now (side .entry)) (x .0) ⌝ }
 {
@@ -111,65 +127,48 @@ pub(crate) fn prior_link_of(side: &[u16], x: Place) -> u16
 
 // A new end, with the link to it, and a new last but one for path i.
 pub(crate) fn set_path(side: &mut [u16], i: u16, end: Neighbour, second: Place)
+    requires { ⌜ (i ≤ 32) × (priorStart ≤ length (now side)) ⌝ }
     ensures { λ _. ⌜ now (side .exit) ≡ setPath (now (side .entry)) i (entryOf end) (second .0) ⌝ }
 {
+    let at = i as usize;
     let place = end.place;
-    put(side, i as usize, place.0);
-    put(side, SECONDS + (i as usize), second.0);
-    put(side, LINKS + (i as usize), end.link);
+    side[at] = place.0;
+    side[SECONDS + at] = second.0;
+    side[LINKS + at] = end.link;
 }
 
 fn set_prior(side: &mut [u16], x: Place, prior: Place, link: u16)
+    requires { ⌜ priorStart + (2 * x .0 + 1) < length (now side) ⌝ }
     ensures { λ _. ⌜ now (side .exit) ≡ setPrior (now (side .entry)) (x .0) (prior .0) link ⌝ }
 {
-    put(side, PRIORS + 2 * (x.0 as usize), prior.0);
-    put(side, PRIORS + (2 * (x.0 as usize) + 1), link);
+    let at = x.0 as usize;
+    side[PRIORS + 2 * at] = prior.0;
+    side[PRIORS + (2 * at + 1)] = link;
 }
 
 // Path j goes on from its end v to left(j, v).
-fn extend(side: &mut [u16], table: &[u16], ends: &[u16], n: u16, v: Place, j: u16)
+pub(crate) fn extend(side: &mut [u16], table: &[u16], ends: &[u16], n: u16, v: Place, j: u16)
+    requires { ⌜ (j ≤ 32) × (priorStart + (2 * v .0 + 1) < length (now side)) ⌝ }
     ensures { λ _. ⌜ now (side .exit)
         ≡ extendPath (tableEntry (now (table .entry)) (now (ends .entry)) n) (v .0) j (now (side .entry)) ⌝ }
 {
-    let second = second_of(side, j);
-    let link = link_of(side, j);
+    let second = second_at(side, j);
+    let link = link_at(side, j);
     set_prior(side, v, second, link);
     let next = left(table, ends, n, j, v);
     set_path(side, j, next, v);
 }
 
-// The same where path j ends at v and the other side's path j, which ends at `other`, does not.
-pub(crate) fn go_on(
-    side: &mut [u16],
-    table: &[u16],
-    ends: &[u16],
-    n: u16,
-    v: Place,
-    j: u16,
-    other: Place,
-)
-    ensures { λ _. ⌜ now (side .exit)
-        ≡ advance (tableEntry (now (table .entry)) (now (ends .entry)) n) (v .0) j (other .0) (now (side .entry)) ⌝ }
-{
-    let end = end_of(side, j);
-    if end.0 != v.0 {
-        return;
-    }
-    if other.0 == v.0 {
-        return;
-    }
-    extend(side, table, ends, n, v, j);
-}
-
 // Index i, whose path ends at v, gets the path of index j with left(i, its last but one) as its end, and j gets the path of i.
 fn trade(side: &mut [u16], table: &[u16], ends: &[u16], n: u16, v: Place, j: u16, i: u16)
     requires { ⌜ endIn (now side) i ≡ v .0 ⌝ }
+    requires { ⌜ (j ≤ 32) × (i ≤ 32) × (priorStart ≤ length (now side)) ⌝ }
     ensures { λ _. ⌜ now (side .exit)
         ≡ trade (tableEntry (now (table .entry)) (now (ends .entry)) n) j i (now (side .entry)) ⌝ }
 {
-    let second = second_of(side, i);
-    let link = link_of(side, i);
-    let moved = second_of(side, j);
+    let second = second_at(side, i);
+    let link = link_at(side, i);
+    let moved = second_at(side, j);
     let next = left(table, ends, n, i, moved);
     set_path(
         side,
@@ -184,6 +183,7 @@ fn trade(side: &mut [u16], table: &[u16], ends: &[u16], n: u16, v: Place, j: u16
 }
 
 fn trade_at(side: &mut [u16], table: &[u16], ends: &[u16], n: u16, v: Place, j: u16, i: u16)
+    requires { ⌜ (j ≤ 32) × (i ≤ 32) × (priorStart ≤ length (now side)) ⌝ }
     ensures { λ _. ⌜ now (side .exit)
         ≡ tradeAt (tableEntry (now (table .entry)) (now (ends .entry)) n) (v .0) j i (now (side .entry)) ⌝ }
 {
@@ -195,7 +195,7 @@ fn trade_at(side: &mut [u16], table: &[u16], ends: &[u16], n: u16, v: Place, j: 
 
 // Going down through the indices below j, each whose path ends at v trades with j.
 pub(crate) fn trade_below(side: &mut [u16], table: &[u16], ends: &[u16], n: u16, v: Place, j: u16)
-    requires { ⌜ 0 < j ⌝ }
+    requires { ⌜ (0 < j) × (j ≤ 32) × (priorStart ≤ length (now side)) ⌝ }
     ensures { λ _. ⌜ now (side .exit)
         ≡ tradeFrom (tableEntry (now (table .entry)) (now (ends .entry)) n) (v .0) j (pred j) (now (side .entry)) ⌝ }
 {

@@ -1,11 +1,12 @@
 // The sweep over a left table, on the lists of the two sides (`side`): A starts at s, the later place, B at t.
 ghost use mathlib.Core.Path.{_≡_};
-ghost use Prim.Native.Nat.{_<_};
-ghost use Rattle.routes.specs.Side.{tableEntry};
+ghost use Prim.Native.Nat.{_+_, _*_, _≤_, _<_};
+ghost use lib.ListN.{length};
+ghost use Rattle.routes.specs.Side.{tableEntry, priorStart};
 ghost use Rattle.routes.specs.Sides.{sides, highestIn, startA, startB, leaveAt, leaveFrom, passAt, stepIn, sweepIn, sweptIn};
 use crate::side::Neighbour;
 use crate::side::end_of;
-use crate::side::go_on;
+use crate::side::extend;
 use crate::side::left;
 use crate::side::one_before;
 use crate::side::set_path;
@@ -31,6 +32,7 @@ fn highest(a: &[u16], b: &[u16], k: u16, v: Place) -> u16
 
 // Path i of side A starts as s, left(i, s).
 fn start_a(a: &mut [u16], table: &[u16], ends: &[u16], n: u16, k: u16, s: Place)
+    requires { ⌜ (k ≤ 32) × (priorStart ≤ length (now a)) ⌝ }
     ensures { λ _. ⌜ now (a .exit) ≡ startA (tableEntry (now (table .entry)) (now (ends .entry)) n) (s .0) k (now (a .entry)) ⌝ }
 {
     let mut i = k;
@@ -43,6 +45,7 @@ fn start_a(a: &mut [u16], table: &[u16], ends: &[u16], n: u16, k: u16, s: Place)
 
 // Path i of side B starts as t alone.
 fn start_b(b: &mut [u16], k: u16, t: Place)
+    requires { ⌜ (k ≤ 32) × (priorStart ≤ length (now b)) ⌝ }
     ensures { λ _. ⌜ now (b .exit) ≡ startB (t .0) k (now (b .entry)) ⌝ }
 {
     let mut i = k;
@@ -54,6 +57,7 @@ fn start_b(b: &mut [u16], k: u16, t: Place)
 
 // At t: B-path i goes on to left(i, t), unless A-path i ends there.
 fn leave_at(b: &mut [u16], a: &[u16], table: &[u16], ends: &[u16], n: u16, t: Place, i: u16)
+    requires { ⌜ (i ≤ 32) × (priorStart ≤ length (now b)) ⌝ }
     ensures { λ _. ⌜ now (b .exit) ≡ leaveAt (tableEntry (now (table .entry)) (now (ends .entry)) n) (t .0) (now (a .entry)) i (now (b .entry)) ⌝ }
 {
     let end = end_of(a, i);
@@ -64,6 +68,7 @@ fn leave_at(b: &mut [u16], a: &[u16], table: &[u16], ends: &[u16], n: u16, t: Pl
 }
 
 fn leave(b: &mut [u16], a: &[u16], table: &[u16], ends: &[u16], n: u16, k: u16, t: Place)
+    requires { ⌜ (k ≤ 32) × (priorStart ≤ length (now b)) ⌝ }
     ensures { λ _. ⌜ now (b .exit) ≡ leaveFrom (tableEntry (now (table .entry)) (now (ends .entry)) n) (t .0) (now (a .entry)) k (now (b .entry)) ⌝ }
 {
     let mut i = k;
@@ -76,7 +81,8 @@ fn leave(b: &mut [u16], a: &[u16], table: &[u16], ends: &[u16], n: u16, k: u16, 
 // At another place v, where j is the highest index that ends there: both sides trade for j, and its paths meet or one of
 // them goes on.
 fn pass(a: &mut [u16], b: &mut [u16], table: &[u16], ends: &[u16], n: u16, v: Place, j: u16)
-    requires { ⌜ 0 < j ⌝ }
+    requires { ⌜ (0 < j) × (j ≤ 32)
+        × (priorStart + (2 * v .0 + 1) < length (now a)) × (priorStart + (2 * v .0 + 1) < length (now b)) ⌝ }
     ensures { λ _. ⌜ sides (now (a .exit)) (now (b .exit))
         ≡ passAt (tableEntry (now (table .entry)) (now (ends .entry)) n) (v .0) j (now (a .entry)) (now (b .entry)) ⌝ }
 {
@@ -84,8 +90,16 @@ fn pass(a: &mut [u16], b: &mut [u16], table: &[u16], ends: &[u16], n: u16, v: Pl
     trade_below(b, table, ends, n, v, j);
     let end_a = end_of(a, j);
     let end_b = end_of(b, j);
-    go_on(a, table, ends, n, v, j, end_b);
-    go_on(b, table, ends, n, v, j, end_a);
+    if end_a.0 == v.0 {
+        if end_b.0 == v.0 {
+            return;
+        }
+        extend(a, table, ends, n, v, j);
+        return;
+    }
+    if end_b.0 == v.0 {
+        extend(b, table, ends, n, v, j);
+    }
 }
 
 fn step(
@@ -98,6 +112,8 @@ fn step(
     t: Place,
     v: Place,
 )
+    requires { ⌜ (k ≤ 32)
+        × (priorStart + (2 * v .0 + 1) < length (now a)) × (priorStart + (2 * v .0 + 1) < length (now b)) ⌝ }
     ensures { λ _. ⌜ sides (now (a .exit)) (now (b .exit))
         ≡ stepIn (tableEntry (now (table .entry)) (now (ends .entry)) n) k (t .0) (v .0) (now (a .entry)) (now (b .entry)) ⌝ }
 {
@@ -123,6 +139,8 @@ fn steps(
     t: Place,
     from: Place,
 )
+    requires { ⌜ (k ≤ 32)
+        × (priorStart + (2 * from .0 + 1) < length (now a)) × (priorStart + (2 * from .0 + 1) < length (now b)) ⌝ }
     ensures { λ _. ⌜ sides (now (a .exit)) (now (b .exit))
         ≡ sweepIn (tableEntry (now (table .entry)) (now (ends .entry)) n) k (t .0) (from .0) (now (a .entry)) (now (b .entry)) ⌝ }
 {
@@ -144,7 +162,8 @@ pub(crate) fn sweep(
     s: Place,
     t: Place,
 )
-    requires { ⌜ 0 < s .0 ⌝ }
+    requires { ⌜ (0 < s .0) × (k ≤ 32)
+        × (priorStart + (2 * s .0 + 1) < length (now a)) × (priorStart + (2 * s .0 + 1) < length (now b)) ⌝ }
     ensures { λ _. ⌜ sides (now (a .exit)) (now (b .exit))
         ≡ sweptIn (tableEntry (now (table .entry)) (now (ends .entry)) n) k (s .0) (t .0) (now (a .entry)) (now (b .entry)) ⌝ }
 {

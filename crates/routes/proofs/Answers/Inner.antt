@@ -145,12 +145,16 @@ module _ (n : ℕ) (lows highs : List ℕ) (k from to : ℕ) (counts relays link
       e ∙ ap (λ (x : ℕ). answerIn a b look k x q order′ counts relays links) atP
       ∙ ap (λ (x : ℕ). answerIn a b look k P x order′ counts relays links) atQ ∙ over-places
 
-  -- The two places are places.
-  pub places-some : (p q : ℕ) → p ≡ getD places′ from 0 → q ≡ getD places′ to 0 → (0 < p) × (0 < q) × (k ≤ 32)
+  -- The two places are places, and both sides have room for them.
+  pub places-some : (p q : ℕ) → p ≡ getD places′ from 0 → q ≡ getD places′ to 0
+      → (0 < p) × (p ≤ n) × (0 < q) × (q ≤ n) × (k ≤ 32)
+      × (priorStart + (2 * n + 1) < length a) × (priorStart + (2 * n + 1) < length b)
   places-some p q ep eq =
       let atP : p ≡ P = ep ∙ place-entry n lows highs places places′ (made .thePlaces) from (asked .source) in
       let atQ : q ≡ Q = eq ∙ place-entry n lows highs places places′ (made .thePlaces) to (asked .goal) in
-      omega (arith, atP, atQ, relay-placed n lows highs from (asked .source) .0, relay-placed n lows highs to (asked .goal) .0, asked .few)
+      let placedP = relay-placed n lows highs from (asked .source) in
+      let placedQ = relay-placed n lows highs to (asked .goal) in
+      omega (arith, atP, atQ, placedP .0, placedP .1, placedQ .0, placedQ .1, asked .few, lent .noA .room, lent .noB .room)
 
 -- A list cleared as far as it goes, which was as long as another.
 pub clear-whole : (old mid last : List ℕ) → length mid ≡ length old → last ≡ replicate (length mid) 0 ++ drop (length mid) mid

@@ -1,15 +1,17 @@
 -- One turn of each loop that counts an index down, in the code's terms: what is left from i on is the turn at i and then
 -- what is left from i - 1 on. Assumes nothing.
-use Prim.Native.Nat.{ℕ, zero, suc, _-_, _<_, pred}
-use mathlib.Core.Bool.{Bool, true, false}
+use Prim.Native.Nat.{ℕ, zero, suc, _-_, _≤_, _<_, pred}
+use mathlib.Core.Bool.{Bool, true, false, _||_}
 use mathlib.Core.List.{List}
 use mathlib.Core.Path.{_≡_, sym, _∙_}
 use native.Mathlib.Numerals.{sub-one}
 use native.Mathlib.Omega.{arith}
 use borrow.Author.Tests.{eq-eqb, ne-eqb}
+use lib.Dec.{eqb}
 use Rattle.definitions.specs.Lists.{largest}
 use Rattle.definitions.specs.Forests.{Entry}
-use Rattle.routes.specs.Side.{endIn, setPath, advance, tradeAt, tradeFrom}
+use Rattle.lists.specs.Searches.{largest-bound}
+use Rattle.routes.specs.Side.{endIn, setPath, extendPath, advance, tradeAt, tradeFrom}
 use Rattle.routes.specs.Sides.{sides, highestIn, startA, startB, leaveAt, leaveFrom, passAt, stepIn, sweepIn, sweptIn}
 
 pub trade-turn : (look : ℕ → ℕ → Entry) (v j i : ℕ) (side : List ℕ) → 0 < i
@@ -75,14 +77,29 @@ pub highest-end : (test : ℕ → Bool) (i : ℕ) → i ≡ 0 → largest test i
 unfolding largest
 highest-end test i e = rw e
 
--- The calls at a place other than t, one after another.
-pub passed : (look : ℕ → ℕ → Entry) (v j : ℕ) (a b a₁ b₁ a₂ b₂ : List ℕ) (endA endB : ℕ)
-    → a₁ ≡ tradeFrom look v j (pred j) a → b₁ ≡ tradeFrom look v j (pred j) b
-    → endA ≡ endIn a₁ j → endB ≡ endIn b₁ j
-    → a₂ ≡ advance look v j endB a₁ → b₂ ≡ advance look v j endA b₁
-    → sides a₂ b₂ ≡ passAt look v j a b
-unfolding passAt
-passed look v j a b a₁ b₁ a₂ b₂ endA endB ea eb xa xb fa fb = rw (fa, fb, xa, xb, ea, eb)
+pub highest-bound : (k v : ℕ) (a b : List ℕ) → highestIn k v a b ≤ k
+unfolding highestIn
+highest-bound k v a b = largest-bound (λ i. eqb (endIn a i) v || eqb (endIn b i) v) k
+
+-- The calls at a place other than t, one after another: the two paths of j meet there, one of them goes on, or both end elsewhere.
+module _ (look : ℕ → ℕ → Entry) (v j : ℕ) (a b a₁ b₁ : List ℕ) (endA endB : ℕ)
+    (ea : a₁ ≡ tradeFrom look v j (pred j) a) (eb : b₁ ≡ tradeFrom look v j (pred j) b)
+    (xa : endA ≡ endIn a₁ j) (xb : endB ≡ endIn b₁ j) where
+  pub passed-met : endA ≡ v → endB ≡ v → sides a₁ b₁ ≡ passAt look v j a b
+  unfolding passAt advance
+  passed-met atA atB = rw (← ea, ← eb, ← xa, ← xb, eq-eqb endA v atA, eq-eqb endB v atB)
+
+  pub passed-a : (a₂ : List ℕ) → endA ≡ v → (endB ≡ v → ⊥) → a₂ ≡ extendPath look v j a₁ → sides a₂ b₁ ≡ passAt look v j a b
+  unfolding passAt advance
+  passed-a a₂ atA offB e = rw (← ea, ← eb, ← xa, ← xb, eq-eqb endA v atA, ne-eqb endB v offB, e)
+
+  pub passed-b : (b₂ : List ℕ) → (endA ≡ v → ⊥) → endB ≡ v → b₂ ≡ extendPath look v j b₁ → sides a₁ b₂ ≡ passAt look v j a b
+  unfolding passAt advance
+  passed-b b₂ offA atB e = rw (← ea, ← eb, ← xa, ← xb, ne-eqb endA v offA, eq-eqb endB v atB, e)
+
+  pub passed-none : (endA ≡ v → ⊥) → (endB ≡ v → ⊥) → sides a₁ b₁ ≡ passAt look v j a b
+  unfolding passAt advance
+  passed-none offA offB = rw (← ea, ← eb, ← xa, ← xb, ne-eqb endA v offA, ne-eqb endB v offB)
 
 -- The three ways of a step, in the code's terms.
 pub stepped-at : (look : ℕ → ℕ → Entry) (k t v : ℕ) (a b b₁ : List ℕ) → v ≡ t → b₁ ≡ leaveFrom look t a k b

@@ -4,11 +4,11 @@ use borrow.Author.Needs.{needs}
 use Rattle.routes.proofs.side.extend.Statement.{statement}
 use Rattle.routes.proofs.side.extend.Tie as tie
 
-second-of-requires : tie.Need-second-of-requires
-second-of-requires c κs = search needs
+second-at-requires : tie.Need-second-at-requires
+second-at-requires c κs = search needs
 
-link-of-requires : tie.Need-link-of-requires
-link-of-requires c κs = search needs
+link-at-requires : tie.Need-link-at-requires
+link-at-requires c κs = search needs
 
 set-prior-requires : tie.Need-set-prior-requires
 set-prior-requires c κs = search needs
@@ -30,8 +30,8 @@ pub extend-spec : {M : Type 1} → statement M
 extend-spec =
     tie.close
     (tie.spec
-    second-of-requires
-    link-of-requires
+    second-at-requires
+    link-at-requires
     set-prior-requires
     left-requires
     set-path-requires

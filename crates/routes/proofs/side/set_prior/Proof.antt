@@ -4,32 +4,35 @@ use borrow.Author.Needs.{needs}
 use Rattle.routes.proofs.side.set_prior.Statement.{statement}
 use Rattle.routes.proofs.side.set_prior.Tie as tie
 
-cast-put : tie.Need-cast-put
-cast-put c = search needs
+cast-at : tie.Need-cast-at
+cast-at c = search needs
 
-mul-put : tie.Need-mul-put
-mul-put c = search needs
+mul-side : tie.Need-mul-side
+mul-side c = search needs
 
-add-put : tie.Need-add-put
-add-put c = search needs
+add-side : tie.Need-add-side
+add-side c = search needs
 
-put-requires : tie.Need-put-requires
-put-requires c κs = search needs
+mul-side-2 : tie.Need-mul-side-2
+mul-side-2 c = search needs
 
-cast-put-2 : tie.Need-cast-put-2
-cast-put-2 c = search needs
+slice-write-side : tie.Need-slice-write-side
+slice-write-side c = search needs
 
-mul-put-2 : tie.Need-mul-put-2
-mul-put-2 c = search needs
+mul-side-3 : tie.Need-mul-side-3
+mul-side-3 c = search needs
 
-add-put-2 : tie.Need-add-put-2
-add-put-2 c = search needs
+add-side-2 : tie.Need-add-side-2
+add-side-2 c = search needs
 
-add-put-3 : tie.Need-add-put-3
-add-put-3 c = search needs
+add-side-3 : tie.Need-add-side-3
+add-side-3 c = search needs
 
-put-requires-2 : tie.Need-put-requires-2
-put-requires-2 c κs = search needs
+mul-side-4 : tie.Need-mul-side-4
+mul-side-4 c = search needs
+
+slice-write-side-2 : tie.Need-slice-write-side-2
+slice-write-side-2 c = search needs
 
 same-length : tie.Need-same-length
 same-length c = search needs
@@ -42,14 +45,15 @@ pub set-prior-spec : {M : Type 1} → statement M
 set-prior-spec =
     tie.close
     (tie.spec
-    cast-put
-    mul-put
-    add-put
-    put-requires
-    cast-put-2
-    mul-put-2
-    add-put-2
-    add-put-3
-    put-requires-2
+    cast-at
+    mul-side
+    add-side
+    mul-side-2
+    slice-write-side
+    mul-side-3
+    add-side-2
+    add-side-3
+    mul-side-4
+    slice-write-side-2
     same-length
     returns)

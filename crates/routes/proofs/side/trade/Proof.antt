@@ -4,14 +4,14 @@ use borrow.Author.Needs.{needs}
 use Rattle.routes.proofs.side.trade.Statement.{statement}
 use Rattle.routes.proofs.side.trade.Tie as tie
 
-second-of-requires : tie.Need-second-of-requires
-second-of-requires c κs = search needs
+second-at-requires : tie.Need-second-at-requires
+second-at-requires c κs = search needs
 
-link-of-requires : tie.Need-link-of-requires
-link-of-requires c κs = search needs
+link-at-requires : tie.Need-link-at-requires
+link-at-requires c κs = search needs
 
-second-of-requires-2 : tie.Need-second-of-requires-2
-second-of-requires-2 c κs = search needs
+second-at-requires-2 : tie.Need-second-at-requires-2
+second-at-requires-2 c κs = search needs
 
 left-requires : tie.Need-left-requires
 left-requires c κs = search needs
@@ -33,9 +33,9 @@ pub trade-spec : {M : Type 1} → statement M
 trade-spec =
     tie.close
     (tie.spec
-    second-of-requires
-    link-of-requires
-    second-of-requires-2
+    second-at-requires
+    link-at-requires
+    second-at-requires-2
     left-requires
     set-path-requires
     set-path-requires-2

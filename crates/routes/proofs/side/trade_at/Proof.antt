@@ -1,5 +1,6 @@
 -- `trade_at` meets its contract. Assumes nothing.
 use mathlib.Core.Path.{sym, _∙_}
+use native.Mathlib.Omega.{arith}
 use borrow.Author.Tests.{eq-eqb, ne-eqb}
 use Rattle.routes.specs.Side.{endIn, tradeAt}
 use borrow.Author.Needs.{needs}
@@ -12,7 +13,7 @@ end-of-requires c κs = search needs
 trade-requires : tie.Need-trade-requires
 trade-requires c κs =
     let atEndOf = c .before .before .before .before in
-    sym (atEndOf .end-of .ensures) ∙ c .before .if1 .taken
+    (sym (atEndOf .end-of .ensures) ∙ c .before .if1 .taken, omega arith)
 
 same-length : tie.Need-same-length
 same-length c = search needs

@@ -5,12 +5,14 @@ use Rattle.routes.specs.Side.{tableEntry, tradeFrom}
 use native.Mathlib.Omega.{arith}
 use lib.ListN.{length}
 use mathlib.Core.Path.{_≡_, refl, sym, _∙_, ap}
-use Prim.Native.Nat.{_-_}
+use Prim.Native.Nat.{_-_, _≤_}
 use Rattle.routes.proofs.side.trade_below.Statement.{statement}
 use Rattle.routes.proofs.side.trade_below.Tie as tie
 
 abbrev Inv-loop : tie.InvT-loop
-Inv-loop side₀ table ends n v j i₀ side i = (length side ≡ length side₀) × (tradeFrom (tableEntry table ends n) (v .0) j i₀ side₀ ≡ tradeFrom (tableEntry table ends n) (v .0) j i side)
+Inv-loop side₀ table ends n v j i₀ side i =
+    (i ≤ 32) × (length side ≡ length side₀)
+    × (tradeFrom (tableEntry table ends n) (v .0) j i₀ side₀ ≡ tradeFrom (tableEntry table ends n) (v .0) j i side)
 
 abbrev μ-loop : tie.MeasureT-loop
 μ-loop side₀ table ends n v j i₀ side i = i
@@ -19,10 +21,10 @@ sub-i : tie.Need-sub-i Inv-loop μ-loop
 sub-i c = omega arith
 
 loop-holds : tie.Need-loop-holds Inv-loop μ-loop
-loop-holds c = (refl, refl)
+loop-holds c = (omega arith, refl, refl)
 
 trade-at-requires : tie.Need-trade-at-requires Inv-loop μ-loop
-trade-at-requires c κs = tt
+trade-at-requires c κs = omega arith
 
 sub-i-2 : tie.Need-sub-i-2 Inv-loop μ-loop
 sub-i-2 c = omega arith
@@ -36,14 +38,15 @@ loop-again c =
     let start = atLoop .before .before .before .before in
     let a = start .args in
     let L = tableEntry (a .table .now) (a .ends .now) (a .n) in (
-      c .before .before .trade-at .kept .0 ∙ atLoop .loop .inv .0,
-      atLoop .loop .inv .1
+      omega arith,
+      c .before .before .trade-at .kept .0 ∙ atLoop .loop .inv .1,
+      atLoop .loop .inv .2
           ∙ trade-turn L (a .v .0) (a .j) (atLoop .loop .i) (atLoop .loop .side) (omega arith)
           ∙ ap (tradeFrom L (a .v .0) (a .j) (atLoop .loop .i - 1)) (sym (c .before .before .trade-at .ensures)),
     )
 
 same-length : tie.Need-same-length Inv-loop μ-loop
-same-length c = c .before .loop .inv .0
+same-length c = c .before .loop .inv .1
 
 returns : tie.Need-returns Inv-loop μ-loop
 returns c =
@@ -51,7 +54,7 @@ returns c =
     let a = start .args in
     let L = tableEntry (a .table .now) (a .ends .now) (a .n) in
     sym
-    (rw (← sub-one (a .j)) (c .before .loop .inv .1 ∙ trade-end L (a .v .0) (a .j) (c .before .loop .i) (c .before .loop .side) (omega arith)))
+    (rw (← sub-one (a .j)) (c .before .loop .inv .2 ∙ trade-end L (a .v .0) (a .j) (c .before .loop .i) (c .before .loop .side) (omega arith)))
 
 pub trade-below-spec : {M : Type 1} → statement M
 trade-below-spec =

@@ -4,21 +4,23 @@ use Rattle.routes.specs.Sides.{startB}
 use native.Mathlib.Omega.{arith}
 use lib.ListN.{length}
 use mathlib.Core.Path.{_≡_, refl, sym, _∙_, ap}
-use Prim.Native.Nat.{_-_}
+use Prim.Native.Nat.{_-_, _≤_}
 use Rattle.routes.proofs.sweep.start_b.Statement.{statement}
 use Rattle.routes.proofs.sweep.start_b.Tie as tie
 
 abbrev Inv-loop : tie.InvT-loop
-Inv-loop b₀ k t i₀ b i = (length b ≡ length b₀) × (startB (t .0) i₀ b₀ ≡ startB (t .0) i b)
+Inv-loop b₀ k t i₀ b i =
+    (i ≤ 32) × (length b ≡ length b₀)
+    × (startB (t .0) i₀ b₀ ≡ startB (t .0) i b)
 
 abbrev μ-loop : tie.MeasureT-loop
 μ-loop b₀ k t i₀ b i = i
 
 loop-holds : tie.Need-loop-holds Inv-loop μ-loop
-loop-holds c = (refl, refl)
+loop-holds c = (omega arith, refl, refl)
 
 set-path-requires : tie.Need-set-path-requires Inv-loop μ-loop
-set-path-requires c κs = tt
+set-path-requires c κs = omega arith
 
 sub-i : tie.Need-sub-i Inv-loop μ-loop
 sub-i c = omega arith
@@ -31,19 +33,20 @@ loop-again c =
     let atLoop = c .before .before .before .before .before in
     let start = atLoop .before .before in
     let a = start .args in (
-      c .before .before .set-path .kept .0 ∙ atLoop .loop .inv .0,
-      atLoop .loop .inv .1
+      omega arith,
+      c .before .before .set-path .kept .0 ∙ atLoop .loop .inv .1,
+      atLoop .loop .inv .2
           ∙ start-b-turn (a .t .0) (atLoop .loop .i) (atLoop .loop .b) (omega arith)
           ∙ ap (startB (a .t .0) (atLoop .loop .i - 1)) (sym (c .before .before .set-path .ensures)),
     )
 
 same-length : tie.Need-same-length Inv-loop μ-loop
-same-length c = c .before .loop .inv .0
+same-length c = c .before .loop .inv .1
 
 returns : tie.Need-returns Inv-loop μ-loop
 returns c =
     let a = c .before .before .before .args in
-    sym (c .before .loop .inv .1 ∙ start-b-end (a .t .0) (c .before .loop .i) (c .before .loop .b) (omega arith))
+    sym (c .before .loop .inv .2 ∙ start-b-end (a .t .0) (c .before .loop .i) (c .before .loop .b) (omega arith))
 
 pub start-b-spec : {M : Type 1} → statement M
 start-b-spec =

@@ -1,6 +1,7 @@
 -- `step` meets its contract. Assumes nothing.
-use Rattle.routes.proofs.Loops.Sweep.{stepped-at, stepped-none, stepped-pass}
+use Rattle.routes.proofs.Loops.Sweep.{highest-bound, stepped-at, stepped-none, stepped-pass}
 use Rattle.routes.specs.Side.{tableEntry}
+use native.Mathlib.Omega.{arith}
 use borrow.Author.Needs.{needs}
 use Rattle.routes.proofs.sweep.step.Statement.{statement}
 use Rattle.routes.proofs.sweep.step.Tie as tie
@@ -36,7 +37,11 @@ returns-2 c =
     (c .before .before .before .before .if1 .left) (c .before .highest .ensures) (c .if2 .taken)
 
 pass-requires : tie.Need-pass-requires
-pass-requires c κs = search needs
+pass-requires c κs =
+    let atHighest = c .before .before .before in
+    let start = atHighest .before .before .before .before .before .before .before .before .before .before in
+    let a = start .args in
+    omega (arith, start .pre, atHighest .highest .ensures, highest-bound (a .k) (a .v .0) (a .a .now) (a .b .now), c .before .before .if2 .left)
 
 same-length-5 : tie.Need-same-length-5
 same-length-5 c = search needs
