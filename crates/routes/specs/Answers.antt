@@ -11,11 +11,11 @@ use lib.Seq.{sets}
 use Rattle.definitions.specs.Outcome.{pick, refused, done, Answer, refuseIf, ifDone}
 use Rattle.definitions.specs.Lists.{overwrite, zeroed, outside, joinAll}
 use Rattle.definitions.specs.Network.{Accepted}
-use Rattle.definitions.specs.Order.{orderOf, placesOf}
 use Rattle.definitions.specs.Forests.{Entry}
 use Rattle.definitions.specs.Route.{routesOf, oneTreeOf, tooShort, routeUnless, scratchUsed}
 use Rattle.definitions.specs.Over.{oversOf}
 use Rattle.network.specs.Answers.{refusalOf}
+use Rattle.forests.specs.Scan.{Scanned}
 use Rattle.forests.specs.Left.{LeftTable}
 use Rattle.routes.specs.declared.RouteAnswer.{RouteAnswer}
 use Rattle.routes.specs.declared.RouteAnswer.the-variants.{Written}
@@ -110,8 +110,8 @@ pub record RouteArrays (n : ℕ) (lows order places numbers a b : List ℕ) : Ty
   pub noA : NoPaths n a
   pub noB : NoPaths n b
 
--- The order and the places of a network, the left table, and the earlier end of each link.
-pub record Prepared (n k : ℕ) (lows highs order order′ places places′ ends table table′ : List ℕ) : Type 0 where
-  pub theOrder : order′ ≡ overwrite (orderOf n lows highs) order
-  pub thePlaces : places′ ≡ overwrite (placesOf n (orderOf n lows highs)) places
+-- What the scan gives, with the forest numbers in `numbered`; the left table made from it, and the earlier end of each link.
+pub record Prepared (n k : ℕ) (lows highs order order′ places places′ numbers ends table table′ : List ℕ) : Type 0 where
+  pub numbered : List ℕ
+  pub scanned : Scanned n lows highs order order′ places places′ numbers numbered
   pub theTable : LeftTable n k lows highs table table′ ends

@@ -38,7 +38,8 @@ fn prepare(
     requires { ⌜ Scannable n (now lows) (now highs) (now order) (now places) (now numbers) ⌝ }
     requires { ⌜ (k * n ≤ length (now table)) × ((j : ℕ) → j < k * n → getD (now table) j 0 ≡ 0) ⌝ }
     ensures { λ _. ⌜ Prepared n k (now (lows .entry)) (now (highs .entry)) (now (order .entry)) (now (order .exit))
-        (now (places .entry)) (now (places .exit)) (now (numbers .exit)) (now (table .entry)) (now (table .exit)) ⌝ }
+        (now (places .entry)) (now (places .exit)) (now (numbers .entry)) (now (numbers .exit)) (now (table .entry))
+        (now (table .exit)) ⌝ }
 {
     scan(n, lows, highs, order, places, numbers);
     left_table(table, n, k, lows, highs, places, numbers);

@@ -91,10 +91,10 @@ module _ (a b : List ℕ) (look : ℕ → ℕ → Entry) (k p q : ℕ) (order co
 -- The answer over the left table is that of the definition.
 module _ (n : ℕ) (lows highs : List ℕ) (k from to : ℕ) (counts relays links scratch : List ℕ) (asked : Routable n lows highs k from to counts relays scratch)
     (order order′ places places′ numbers ends table table′ : List ℕ)
-    (made : Prepared n k lows highs order order′ places places′ ends table table′)
+    (made : Prepared n k lows highs order order′ places places′ numbers ends table table′)
     (a b : List ℕ) (lent : RouteArrays n lows order places numbers a b) where
   relays-same : relayAt order′ ≡ relayAt (orderOf n lows highs)
-  relays-same = ap relayAt (made .theOrder) ∙ front-relays (orderOf n lows highs) order (lent .noOrder)
+  relays-same = ap relayAt (made .scanned .theOrder) ∙ front-relays (orderOf n lows highs) order (lent .noOrder)
 
   abbrev P : ℕ
   P = placeOf (orderOf n lows highs) from
@@ -140,8 +140,8 @@ module _ (n : ℕ) (lows highs : List ℕ) (k from to : ℕ) (counts relays link
   pub answers-tree : (p q : ℕ) (result : Answered) → p ≡ getD places′ from 0 → q ≡ getD places′ to 0
       → result ≡ answerIn a b look k p q order′ counts relays links → result ≡ treeAnswer n lows highs k from to counts relays links
   answers-tree p q result ep eq e =
-      let atP : p ≡ P = ep ∙ place-entry n lows highs places places′ (made .thePlaces) from (asked .source) in
-      let atQ : q ≡ Q = eq ∙ place-entry n lows highs places places′ (made .thePlaces) to (asked .goal) in
+      let atP : p ≡ P = ep ∙ place-entry n lows highs places places′ (made .scanned .thePlaces) from (asked .source) in
+      let atQ : q ≡ Q = eq ∙ place-entry n lows highs places places′ (made .scanned .thePlaces) to (asked .goal) in
       e ∙ ap (λ (x : ℕ). answerIn a b look k x q order′ counts relays links) atP
       ∙ ap (λ (x : ℕ). answerIn a b look k P x order′ counts relays links) atQ ∙ over-places
 
@@ -150,8 +150,8 @@ module _ (n : ℕ) (lows highs : List ℕ) (k from to : ℕ) (counts relays link
       → (0 < p) × (p ≤ n) × (0 < q) × (q ≤ n) × (k ≤ 32)
       × (priorStart + (2 * n + 1) < length a) × (priorStart + (2 * n + 1) < length b)
   places-some p q ep eq =
-      let atP : p ≡ P = ep ∙ place-entry n lows highs places places′ (made .thePlaces) from (asked .source) in
-      let atQ : q ≡ Q = eq ∙ place-entry n lows highs places places′ (made .thePlaces) to (asked .goal) in
+      let atP : p ≡ P = ep ∙ place-entry n lows highs places places′ (made .scanned .thePlaces) from (asked .source) in
+      let atQ : q ≡ Q = eq ∙ place-entry n lows highs places places′ (made .scanned .thePlaces) to (asked .goal) in
       let placedP = relay-placed n lows highs from (asked .source) in
       let placedQ = relay-placed n lows highs to (asked .goal) in
       omega (arith, atP, atQ, placedP .0, placedP .1, placedQ .0, placedQ .1, asked .few, lent .noA .room, lent .noB .room)

@@ -36,7 +36,7 @@ returns : tie.Need-returns
 returns c =
     let atLeft = c .before .before .before .before in
     let s = atLeft .before .before .before .before .before .before .before .before .before .before .scan in
-    record { theOrder = s .ensures .theOrder; thePlaces = s .ensures .thePlaces; theTable = atLeft .left-table .ensures }
+    record { numbered = s .last .1 .1 .1 .1 .1 .0; scanned = s .ensures; theTable = atLeft .left-table .ensures }
 
 pub prepare-spec : {M : Type 1} → statement M
 prepare-spec =
