@@ -21,7 +21,7 @@ use Rattle.theory.specs.Ordering.{order-length}
 use Rattle.theory.specs.ForestNumbers.{earlierPlace, laterPlace, LinkFacts, accepted-link-facts}
 use Rattle.theory.specs.LeftEntries.{entry-place, entry-link, entry-own}
 use Rattle.forests.specs.Fronts.{SameBeyond}
-use Rattle.forests.specs.Left.{leftIndex, leftCode, laterAt, earlierAt, Enterable, entered, LeftInput, LeftTable}
+use Rattle.forests.specs.Left.{leftIndex, leftCode, laterAt, earlierAt, Enterable, entered, endEntered, LeftInput, LeftTable}
 
 -- A link entered or passed over, in the code's terms.
 pub entered-some : (n k i : ℕ) (lows highs places forests table table′ : List ℕ) (late : ℕ) → getD forests i 0 ≤ k
@@ -35,6 +35,15 @@ pub entered-none : (n k i : ℕ) (lows highs places forests table : List ℕ) �
     → table ≡ entered n k i lows highs places forests table
 unfolding entered
 entered-none n k i lows highs places forests table h = rw (lt-leb (getD forests i 0) k h)
+
+pub end-some : (k i : ℕ) (lows highs places forests : List ℕ) (early : ℕ) → getD forests i 0 ≤ k
+    → early ≡ earlierAt lows highs places i → set forests i early ≡ endEntered k i lows highs places forests
+unfolding endEntered
+end-some k i lows highs places forests early h e = rw (le-leb (getD forests i 0) k h) (ap (set forests i) e)
+
+pub end-none : (k i : ℕ) (lows highs places forests : List ℕ) → k < getD forests i 0 → forests ≡ endEntered k i lows highs places forests
+unfolding endEntered
+end-none k i lows highs places forests h = rw (lt-leb (getD forests i 0) k h)
 
 -- The code of an entry, with a neighbour and without.
 pub code-some : (entry : Entry) → 0 < entry .place → leftCode entry ≡ suc (entry .link)
@@ -64,9 +73,9 @@ pub record LeftTo (n k : ℕ) (lows highs : List ℕ) (i : ℕ) (table table′ 
       → getD table′ (leftIndex n (numberAt n lows highs j) (lateAt n lows highs j)) 0 ≡ suc j
   pub beyond : SameBeyond (k * n) table table′
 
--- The list of forest numbers then: earlier ends below i, forest numbers still from there on.
-pub record EndsTo (n : ℕ) (lows highs : List ℕ) (i : ℕ) (forests forests′ : List ℕ) : Type 0 where
-  pub early : (j : ℕ) → j < i → j < length lows → getD forests′ j 0 ≡ earlyAt n lows highs j
+-- The list of forest numbers then: earlier ends of the links entered below i, forest numbers still from there on.
+pub record EndsTo (n k : ℕ) (lows highs : List ℕ) (i : ℕ) (forests forests′ : List ℕ) : Type 0 where
+  pub early : (j : ℕ) → j < i → j < length lows → numberAt n lows highs j ≤ k → getD forests′ j 0 ≡ earlyAt n lows highs j
   pub number : (j : ℕ) → i ≤ j → j < length lows → getD forests′ j 0 ≡ numberAt n lows highs j
   pub long : length forests′ ≡ length forests
 
@@ -114,11 +123,11 @@ module _ {n k : ℕ} {lows highs places forests table : List ℕ} (can : LeftInp
         beyond = record { long = refl; rest = λ j h. refl };
       }
 
-  pub ends-start : EndsTo n lows highs 0 forests forests
+  pub ends-start : EndsTo n k lows highs 0 forests forests
   ends-start = record { early = λ j h. absurd (omega arith); number = λ j a b. can .forest j b; long = refl }
 
   pub left-enters : {table′ forests′ : List ℕ} (i : ℕ) → i < length lows → LeftTo n k lows highs i table table′
-      → EndsTo n lows highs i forests forests′ → Enterable n k i lows highs places forests′ table′
+      → EndsTo n k lows highs i forests forests′ → Enterable n k i lows highs places forests′ table′
   left-enters {table′} {forests′} i h at ends =
       let t = accepted n lows highs (can .accepted) in
       let l = link i h in
@@ -215,7 +224,7 @@ module _ {n k : ℕ} {lows highs places forests table : List ℕ} (can : LeftInp
             before (yes d) = absurd (e (ap (λ x. leftIndex n (numberAt n lows highs x) (lateAt n lows highs x)) d))
             before (no d) = omega arith
 
-    pub left-moves : {table″ forests′ : List ℕ} → EndsTo n lows highs i forests forests′
+    pub left-moves : {table″ forests′ : List ℕ} → EndsTo n k lows highs i forests forests′
         → table″ ≡ entered n k i lows highs places forests′ table′ → LeftTo n k lows highs (i + 1) table table″
     unfolding entered
     left-moves {table″} {forests′} ends e =
@@ -229,30 +238,48 @@ module _ {n k : ℕ} {lows highs places forests table : List ℕ} (can : LeftInp
         go (yes q) = rw (le-leb (numberAt n lows highs i) k q) (entry q)
         go (no q) = rw (lt-leb (numberAt n lows highs i) k (omega arith)) (passed (omega arith))
 
-  -- The forest number of link i gives way to its earlier end.
-  pub ends-move : {forests′ forests″ : List ℕ} (i : ℕ) → i < length lows → EndsTo n lows highs i forests forests′
-      → forests″ ≡ set forests′ i (earlierAt lows highs places i) → EndsTo n lows highs (i + 1) forests forests″
+  -- Where link i is entered its forest number gives way to its earlier end.
+  pub ends-move : {forests′ forests″ : List ℕ} (i : ℕ) → i < length lows → EndsTo n k lows highs i forests forests′
+      → forests″ ≡ endEntered k i lows highs places forests′ → EndsTo n k lows highs (i + 1) forests forests″
+  unfolding endEntered
   ends-move {forests′} {forests″} i h at e =
-      rw (e, early-is i h)
-      record {
-        early = λ j a b. early j a b (ℕ-discrete j i);
-        number = λ j a b. getD-set-other forests′ i j (earlyAt n lows highs i) 0 (λ same. omega arith) ∙ at .number j (omega arith) b;
-        long = length-set forests′ i (earlyAt n lows highs i) ∙ at .long;
-      }
+      rw (e, early-is i h, at .number i (omega arith) h) (go (decLe (numberAt n lows highs i) k))
     where
-      early : (j : ℕ) → j < i + 1 → j < length lows → Dec (j ≡ i)
+      early : (j : ℕ) → j < i + 1 → j < length lows → numberAt n lows highs j ≤ k → Dec (j ≡ i)
           → getD (set forests′ i (earlyAt n lows highs i)) j 0 ≡ earlyAt n lows highs j
-      early j a b (yes same) =
+      early j a b c (yes same) =
           rw same (getD-set-same forests′ i (earlyAt n lows highs i) 0 (omega (arith, can .forestRoom, at .long)))
-      early j a b (no other) =
-          getD-set-other forests′ i j (earlyAt n lows highs i) 0 other ∙ at .early j (omega arith) b
+      early j a b c (no other) =
+          getD-set-other forests′ i j (earlyAt n lows highs i) 0 other ∙ at .early j (omega arith) b c
+
+      before : (j : ℕ) → j < i + 1 → numberAt n lows highs j ≤ k → k < numberAt n lows highs i → Dec (j ≡ i) → j < i
+      before j a c over (yes same) = absurd (omega (arith, ap (numberAt n lows highs) same))
+      before j a c over (no other) = omega arith
+
+      go : Dec (numberAt n lows highs i ≤ k)
+          → EndsTo n k lows highs (i + 1) forests
+          (pick (leb (numberAt n lows highs i) k) (set forests′ i (earlyAt n lows highs i)) forests′)
+      go (yes q) =
+          rw (le-leb (numberAt n lows highs i) k q)
+          (record {
+            early = λ j a b c. early j a b c (ℕ-discrete j i);
+            number = λ j a b. getD-set-other forests′ i j (earlyAt n lows highs i) 0 (λ same. omega arith) ∙ at .number j (omega arith) b;
+            long = length-set forests′ i (earlyAt n lows highs i) ∙ at .long;
+          })
+      go (no q) =
+          rw (lt-leb (numberAt n lows highs i) k (omega arith))
+          (record {
+            early = λ j a b c. at .early j (before j a c (omega arith) (ℕ-discrete j i)) b c;
+            number = λ j a b. at .number j (omega arith) b;
+            long = at .long;
+          })
 
   pub left-ends : {table′ forests′ : List ℕ} → LeftTo n k lows highs (length lows) table table′
-      → EndsTo n lows highs (length lows) forests forests′ → LeftTable n k lows highs table table′ forests′
+      → EndsTo n k lows highs (length lows) forests forests′ → LeftTable n k lows highs table table′ forests′
   left-ends {table′} {forests′} at ends =
       record {
         entry = λ i v a b c d. entry i v a b c d (decLe (getD table′ (leftIndex n i v) 0) 0) (decLe (leftOf n lows highs i v) 0);
-        earlierEnd = λ l h. ends .early l h h;
+        earlierEnd = λ l h few. ends .early l h h few;
         beyond = at .beyond;
       }
     where

@@ -45,6 +45,11 @@ entered n k i lows highs places forests table =
     (set table (leftIndex n (getD forests i 0) (laterAt lows highs places i)) (suc i))
     table
 
+-- The list of forest numbers then: where link i is entered, the place of its earlier end stands in its entry.
+unfoldable pub endEntered : (k i : ℕ) (lows highs places forests : List ℕ) → List ℕ
+endEntered k i lows highs places forests =
+    pick (leb (getD forests i 0) k) (set forests i (earlierAt lows highs places i)) forests
+
 -- What the left table is made from: places and forest numbers of an accepted table, and zeros for the first k × n entries.
 pub record LeftInput (n k : ℕ) (lows highs places forests table : List ℕ) : Type 0 where
   pub accepted : Accepted n lows highs
@@ -56,9 +61,9 @@ pub record LeftInput (n k : ℕ) (lows highs places forests table : List ℕ) : 
       → getD forests i 0 ≡ forestOf (linked lows highs) (orderOf n lows highs) lows highs i
   pub zeros : (j : ℕ) → j < k * n → getD table j 0 ≡ 0
 
--- The left table, and nothing else has changed; `ends` has the earlier end of each link, as a place.
+-- The left table, and nothing else has changed; `ends` has the earlier end of each link of the first k forests, as a place.
 pub record LeftTable (n k : ℕ) (lows highs table table′ ends : List ℕ) : Type 0 where
   pub entry : (i v : ℕ) → 1 ≤ i → i ≤ k → 1 ≤ v → v ≤ n → getD table′ (leftIndex n i v) 0 ≡ leftCode (entryOf n lows highs i v)
-  pub earlierEnd : (l : ℕ) → l < length lows
+  pub earlierEnd : (l : ℕ) → l < length lows → forestOf (linked lows highs) (orderOf n lows highs) lows highs l ≤ k
       → getD ends l 0 ≡ min (placeOf (orderOf n lows highs) (getD lows l 0)) (placeOf (orderOf n lows highs) (getD highs l 0))
   pub beyond : SameBeyond (k * n) table table′

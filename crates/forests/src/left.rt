@@ -1,12 +1,12 @@
 // The left table: entry (i − 1) × n + (v − 1) is one more than the index of v's link to left(i, v), 0 for none, for the forests
-// 1 to k and the places 1 to n. Beside it the earlier end of each link: left(i, v) itself.
+// 1 to k and the places 1 to n. Beside it the earlier end of each of these links: left(i, v) itself.
 use crate::scan::place_of;
 use network::Place;
 use network::Relay;
 ghost use Prim.Native.Nat.{suc, min, max, _<_};
 ghost use mathlib.Core.Path.{_≡_};
 ghost use lib.ListN.{length, set};
-ghost use Rattle.forests.specs.Left.{leftIndex, earlierAt, Enterable, entered, LeftInput, LeftTable};
+ghost use Rattle.forests.specs.Left.{leftIndex, Enterable, entered, endEntered, LeftInput, LeftTable};
 
 fn earlier(p: Place, q: Place) -> Place
     ensures { λ r. ⌜ r .0 ≡ min (p .0) (q .0) ⌝ }
@@ -30,7 +30,7 @@ fn put_left(table: &mut [u16], n: u16, forest: u16, v: Place, link: usize)
     table[at] = (link + 1) as u16;
 }
 
-// Link i is entered if its forest is one of the first k; its forest number gives way to the place of its earlier end.
+// Link i is entered if its forest is one of the first k; its forest number then gives way to the place of its earlier end.
 fn enter_link(
     table: &mut [u16],
     n: u16,
@@ -45,14 +45,14 @@ fn enter_link(
     ensures { λ _. ⌜ now (table .exit)
         ≡ entered n k i (now (lows .entry)) (now (highs .entry)) (now (places .entry)) (now (forests .entry)) (now (table .entry)) ⌝ }
     ensures { λ _. ⌜ now (forests .exit)
-        ≡ set (now (forests .entry)) i (earlierAt (now (lows .entry)) (now (highs .entry)) (now (places .entry)) i) ⌝ }
+        ≡ endEntered k i (now (lows .entry)) (now (highs .entry)) (now (places .entry)) (now (forests .entry)) ⌝ }
 {
     let p = place_of(places, Relay(lows[i]));
     let q = place_of(places, Relay(highs[i]));
     let forest = forests[i];
-    let near = earlier(p, q);
-    forests[i] = near.0;
     if forest <= k {
+        let near = earlier(p, q);
+        forests[i] = near.0;
         put_left(table, n, forest, later(p, q), i);
     }
 }

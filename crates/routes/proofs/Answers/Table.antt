@@ -34,7 +34,7 @@ module _ (n k : ℕ) (lows highs : List ℕ) (ok : Accepted n lows highs) (old t
       made .entry i v one le (omega arith) (omega (arith, range)) ∙ code-some entry (omega arith) in
       let link = entry-link n lows highs ok i v some in
       let end : getD ends (entry .link) 0 ≡ entry .place =
-      made .earlierEnd (entry .link) (link .within)
+      made .earlierEnd (entry .link) (link .within) (omega (arith, link .forest))
       ∙ entry-earlier-in (orderOf n lows highs) lows highs (base-arranged n lows highs ok) i v (entry .link) link ∙ sym place in
       rw (ne-eqb i 0 (λ e. omega arith), ne-eqb v 0 (λ e. omega arith), le-ltb n v (omega (arith, range)), code)
       (ap (λ (x : ℕ). record { place = x; link = entry .link }) end)

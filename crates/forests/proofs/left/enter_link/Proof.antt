@@ -1,9 +1,8 @@
--- A link is entered under its later place, and its earlier place is put beside. Assumes nothing.
+-- A link is entered under its later place, and its earlier place put in the place of its forest number. Assumes nothing.
 use Prim.Native.Nat.{min, max}
-use mathlib.Core.Path.{_≡_, _∙_, ap, ap₂}
-use lib.ListN.{set}
+use mathlib.Core.Path.{_≡_, _∙_, ap₂}
 use Rattle.forests.specs.Left.{laterAt, earlierAt}
-use Rattle.forests.proofs.LeftTableLaws.{entered-some, entered-none}
+use Rattle.forests.proofs.LeftTableLaws.{entered-some, entered-none, end-some, end-none}
 use borrow.Author.Needs.{needs}
 use Rattle.forests.proofs.left.enter_link.Statement.{statement}
 use Rattle.forests.proofs.left.enter_link.Tie as tie
@@ -45,10 +44,10 @@ later-requires : tie.Need-later-requires
 later-requires c κs = search needs
 
 early : (c : tie.After-earlier)
-    → let a = c .before .before .before .before .before .before .before .before .before .before .before .args in
+    → let a = c .before .before .before .before .before .before .before .before .before .before .before .before .args in
     c .earlier .result .0 ≡ earlierAt (a .lows .now) (a .highs .now) (a .places .now) (a .i)
 early c =
-    let atPlaceOf2 = c .before .before in
+    let atPlaceOf2 = c .before .before .before in
     let atPlaceOf = atPlaceOf2 .before .before in
     c .earlier .ensures ∙ ap₂ min (atPlaceOf .place-of .ensures) (atPlaceOf2 .place-of2 .ensures)
 
@@ -64,7 +63,7 @@ put-left-requires : tie.Need-put-left-requires
 put-left-requires c κs =
     let v = late c in
     let p = c .before .before .before .before .before .before .before .before .before .before .before .before .before .before .pre in
-    (p .forest, rw v (p .some), rw v (p .index (c .before .before .if1 .taken)), p .short)
+    (p .forest, rw v (p .some), rw v (p .index (c .before .before .before .if1 .taken)), p .short)
 
 same-length : tie.Need-same-length
 same-length c = search needs
@@ -75,25 +74,22 @@ same-length-2 c = search needs
 returns : tie.Need-returns
 returns c =
     let atLater = c .before .before .before in
-    let atIf1 = atLater .before .before in
-    let atEarlier = atIf1 .before in
-    let start = atEarlier .before .before .before .before .before .before .before .before .before .before .before in
+    let atEarlier = atLater .before .before in
+    let atIf1 = atEarlier .before in
+    let start = atIf1 .before .before .before .before .before .before .before .before .before .before .before in
     let a = start .args in (
       entered-some (a .n) (a .k) (a .i) (a .lows .now) (a .highs .now) (a .places .now) (a .forests .now) (a .table .now) _
           (atLater .later .result .0) (atIf1 .if1 .taken) (late atLater) (c .before .before .put-left .ensures),
-      ap (set (a .forests .now) (a .i)) (early atEarlier),
+      end-some (a .k) (a .i) (a .lows .now) (a .highs .now) (a .places .now) (a .forests .now) (atEarlier .earlier .result .0)
+          (atIf1 .if1 .taken) (early atEarlier),
     )
-
-same-length-3 : tie.Need-same-length-3
-same-length-3 c = search needs
 
 returns-2 : tie.Need-returns-2
 returns-2 c =
-    let atEarlier = c .before in
-    let a = atEarlier .before .before .before .before .before .before .before .before .before .before .before .args in (
+    let a = c .before .before .before .before .before .before .before .before .before .before .before .args in (
       entered-none (a .n) (a .k) (a .i) (a .lows .now) (a .highs .now) (a .places .now) (a .forests .now) (a .table .now)
           (c .if1 .left),
-      ap (set (a .forests .now) (a .i)) (early atEarlier),
+      end-none (a .k) (a .i) (a .lows .now) (a .highs .now) (a .places .now) (a .forests .now) (c .if1 .left),
     )
 
 pub enter-link-spec : {M : Type 1} → statement M
@@ -116,5 +112,4 @@ enter-link-spec =
     same-length
     same-length-2
     returns
-    same-length-3
     returns-2)

@@ -9,7 +9,7 @@ use Rattle.forests.proofs.left.left_table.Tie as tie
 
 abbrev Inv-loop : tie.InvT-loop
 Inv-loop table₀ n k lows highs places forests₀ i₀ table forests i =
-    (i ≤ length lows) × LeftTo n k lows highs i table₀ table × EndsTo n lows highs i forests₀ forests
+    (i ≤ length lows) × LeftTo n k lows highs i table₀ table × EndsTo n k lows highs i forests₀ forests
 
 abbrev μ-loop : tie.MeasureT-loop
 μ-loop table₀ n k lows highs places forests₀ i₀ table forests i = length lows - i
