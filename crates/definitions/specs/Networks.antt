@@ -9,6 +9,7 @@ use Rattle.definitions.specs.Network.{tableCheck, pairAnswer}
 use Rattle.definitions.specs.Order.{orderAnswer, relaysAfter, placesAfter}
 use Rattle.definitions.specs.Forests.{splitAnswer, forestsAfter, cutAnswer, marksAfter}
 use Rattle.definitions.specs.Route.{routeAnswer, countsAfter, routeRelaysAfter, scratchAfter}
+use Rattle.definitions.specs.Over.{routeLinksAnswer, routeLinksCounts, routeLinksRelays, routeLinksLinks, routeLinksScratch}
 use Rattle.definitions.specs.Text.{Network}
 
 -- An outcome and the lent lists afterwards.
@@ -92,5 +93,18 @@ routeWith c r x w from to k =
           countsAfter (w .relays) (w .lows) (w .highs) k from to (lent c) (lent r) (lent x)
           ∷ routeRelaysAfter (w .relays) (w .lows) (w .highs) k from to (lent c) (lent r) (lent x)
           ∷ scratchAfter (w .relays) (w .lows) (w .highs) k from to (lent c) (lent r) (lent x)
+          ∷ [];
+    }
+
+-- Route with links with lists of these lengths: counts, relays, links, scratch.
+abbrev pub routeLinksWith : (c r l x : ℕ) (w : Network) (from to k : ℕ) → Result
+routeLinksWith c r l x w from to k =
+    record {
+      answer = routeLinksAnswer (w .relays) (w .lows) (w .highs) k from to (lent c) (lent r) (lent l) (lent x);
+      lists =
+          routeLinksCounts (w .relays) (w .lows) (w .highs) k from to (lent c) (lent r) (lent l) (lent x)
+          ∷ routeLinksRelays (w .relays) (w .lows) (w .highs) k from to (lent c) (lent r) (lent l) (lent x)
+          ∷ routeLinksLinks (w .relays) (w .lows) (w .highs) k from to (lent c) (lent r) (lent l) (lent x)
+          ∷ routeLinksScratch (w .relays) (w .lows) (w .highs) k from to (lent c) (lent r) (lent l) (lent x)
           ∷ [];
     }

@@ -24,6 +24,7 @@ use Rattle.definitions.specs.Networks.{
   splitWith,
   cutWith,
   routeWith,
+  routeLinksWith,
 }
 use Rattle.definitions.specs.Opened.{opened}
 
@@ -132,6 +133,23 @@ otherExamples =
     ∷ record { found = routeWith 1 7 10 mesh 4 1 2; due = refusedAt 12 0 (lent 1 ∷ lent 7 ∷ lent 10 ∷ []) }
     ∷ record { found = routeWith 2 6 10 mesh 4 1 2; due = refusedAt 12 0 (lent 2 ∷ lent 6 ∷ lent 10 ∷ []) }
     ∷ record { found = routeWith 2 7 9 mesh 4 1 2; due = refusedAt 12 0 (lent 2 ∷ lent 7 ∷ lent 9 ∷ []) }
+    -- Route with links: lists that just fit, the list of links one too short, and 13.
+    ∷ record {
+      found = routeLinksWith 2 7 5 10 mesh 4 1 2;
+      due =
+          record {
+            answer = done (6 ∷ []);
+            lists = (3 ∷ 3 ∷ []) ∷ (4 ∷ 3 ∷ 1 ∷ 4 ∷ 2 ∷ 1 ∷ 7 ∷ []) ∷ (6 ∷ 3 ∷ 5 ∷ 2 ∷ 7 ∷ []) ∷ zeros 10 ∷ [];
+          };
+    }
+    ∷ record {
+      found = routeLinksWith 2 7 4 10 mesh 4 1 2;
+      due = refusedAt 12 0 (lent 2 ∷ lent 7 ∷ lent 4 ∷ lent 10 ∷ []);
+    }
+    ∷ record {
+      found = routeLinksWith 2 6 4 8 square 0 2 2;
+      due = refusedAt 13 0 (lent 2 ∷ lent 6 ∷ lent 4 ∷ zeros 8 ∷ []);
+    }
     -- Pair numbers out of range and out of order.
     ∷ record { found = pairOf 0 1000; due = refusedAt 5 0 [] }
     ∷ record { found = pairOf 3 3; due = refusedAt 6 0 [] }

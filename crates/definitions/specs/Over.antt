@@ -73,27 +73,28 @@ unfoldable pub routeLinksAnswer : (n : ℕ) (lows highs : List ℕ) (k from to :
 routeLinksAnswer n lows highs k from to counts relays links scratch =
     routeUnless (linksTooShort n k counts relays links scratch) n lows highs k from to
 
--- Its lists afterwards: the counts and the relays as Route has them,
+-- Its list of counts afterwards, as Route's.
 unfoldable pub routeLinksCounts : (n : ℕ) (lows highs : List ℕ) (k from to : ℕ) (counts relays links scratch : List ℕ) → List ℕ
 routeLinksCounts n lows highs k from to counts relays links scratch =
     ifDone (routeLinksAnswer n lows highs k from to counts relays links scratch)
     (overwrite (map length (routesOf n lows highs k from to)) counts)
     counts
 
+-- Its list of relays afterwards, as Route's.
 unfoldable pub routeLinksRelays : (n : ℕ) (lows highs : List ℕ) (k from to : ℕ) (counts relays links scratch : List ℕ) → List ℕ
 routeLinksRelays n lows highs k from to counts relays links scratch =
     ifDone (routeLinksAnswer n lows highs k from to counts relays links scratch)
     (overwrite (joinAll (routesOf n lows highs k from to)) relays)
     relays
 
--- the links of route 1, then 2, up to k,
+-- Its list of links afterwards: those of route 1, then 2, up to k.
 unfoldable pub routeLinksLinks : (n : ℕ) (lows highs : List ℕ) (k from to : ℕ) (counts relays links scratch : List ℕ) → List ℕ
 routeLinksLinks n lows highs k from to counts relays links scratch =
     ifDone (routeLinksAnswer n lows highs k from to counts relays links scratch)
     (overwrite (joinAll (oversOf n lows highs k from to)) links)
     links
 
--- and scratch all zeros after 13 and after success.
+-- Scratch afterwards, as Route's: all zeros after 13 and after success.
 unfoldable pub routeLinksScratch : (n : ℕ) (lows highs : List ℕ) (k from to : ℕ) (counts relays links scratch : List ℕ) → List ℕ
 routeLinksScratch n lows highs k from to counts relays links scratch =
     pick (scratchUsed (routeLinksAnswer n lows highs k from to counts relays links scratch)) (zeroed scratch) scratch
