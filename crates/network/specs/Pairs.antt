@@ -4,7 +4,7 @@ use Prim.Native.Nat.{ℕ, zero, suc, _+_, _-_, _*_, _≤_, _<_}
 use mathlib.Core.Bool.{Bool, true, false, _&&_}
 use mathlib.Core.Path.{_≡_, refl, sym, ap}
 use native.Mathlib.Decide.{le-ind}
-use native.Mathlib.Nat.{mul-suc, suc-mul, mul-le-mul}
+use native.Mathlib.Nat.{mul-suc, suc-mul}
 use native.Mathlib.Omega.{arith}
 use borrow.Author.Tests.{eq-eqb, ne-eqb, eqb-true, eqb-false, ltb-true, ltb-false}
 use lib.Dec.{eqb, ltb}
@@ -25,10 +25,6 @@ rows-rise b = le-ind (λ c. rowStart b ≤ rowStart c) (omega arith) λ c _ h. o
 in-row : (a b : ℕ) → a < b → (rowStart b ≤ pairNumber a b) × (pairNumber a b < rowStart (suc b))
 unfolding pairNumber
 in-row a b h = omega (arith, next-row b)
-
--- The product that a row start is half of is small.
-pub row-product : (b : ℕ) → b < 1000 → b * (b - 1) ≤ 999 * 998
-row-product b h = mul-le-mul {n₂ = 999} {m₂ = 998} (omega arith) (omega arith)
 
 pub pair-below : (n a b : ℕ) → a < b → b < n → pairNumber a b < rowStart n
 pair-below n a b h k = omega (arith, in-row a b h, rows-rise (suc b) n k)

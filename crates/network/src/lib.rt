@@ -1,14 +1,20 @@
 // The table of a network: relay numbers and places, pair numbers, and the table check. What each refusal and answer
 // stands for is said in specs/Answers.antt, what the marks of the links seen so far hold in specs/Seen.antt.
+use row_starts::first_row_starts;
+use row_starts::row_start;
+use row_starts::row_starts;
 ghost use mathlib.Core.Bool.{_||_};
 ghost use mathlib.Core.Path.{_≡_};
-ghost use Prim.Native.Nat.{_<_, _≤_};
+ghost use Prim.Native.Nat.{_+_, _<_, _≤_};
 ghost use lib.Dec.{eqb, leb};
 ghost use lib.ListN.{length, replicate};
 ghost use Rattle.definitions.specs.Outcome.{pick};
-ghost use Rattle.definitions.specs.Network.{rowStart, pairNumber, pairAnswer, linksCheck, tableCheck};
+ghost use Rattle.definitions.specs.Network.{pairNumber, pairAnswer, linksCheck, tableCheck};
 ghost use Rattle.network.specs.Answers.{refusalNumber, refusalPlace, pairOutcome, checkOutcome};
+ghost use Rattle.network.specs.RowStarts.{RowsFor};
 ghost use Rattle.network.specs.Seen.{faultOf, RoomFor, LinkChecked, Seen};
+
+pub mod row_starts;
 
 // A relay number, never a place in the order.
 pub struct Relay(pub u16);
@@ -95,20 +101,11 @@ pub fn refusal_place(refusal: Refusal) -> usize
     }
 }
 
-// The first pair number of the links whose high relay is b.
-fn row_start(b: u16) -> u32
-    requires { ⌜ (0 < b) × (b < 1000) ⌝ }
-    ensures { λ r. ⌜ r ≡ rowStart b ⌝ }
-{
-    let high = b as u32;
-    high * (high - 1) / 2
-}
-
-fn pair_index(a: u16, b: u16) -> u32
-    requires { ⌜ (a < b) × (b < 1000) ⌝ }
+fn pair_index(a: u16, b: u16, rows: &[u32]) -> u32
+    requires { ⌜ (a < b) × (b < 1000) × RowsFor (b + 1) (now rows) ⌝ }
     ensures { λ r. ⌜ r ≡ pairNumber a b ⌝ }
 {
-    row_start(b) + a as u32
+    row_start(b, rows) + a as u32
 }
 
 // No pair of up to 128 relays is marked yet: one bit for each of the 8,128 pair numbers.
@@ -175,11 +172,11 @@ fn number_fault(n: u16, a: u16, b: u16) -> LinkCheck
 }
 
 // Looks for the pair a b among those that are marked, and marks it if it is not there.
-fn mark_pair(n: u16, a: u16, b: u16, seen: &mut [u64]) -> LinkCheck
-    requires { ⌜ (n ≤ 1000) × RoomFor n (now seen) × (a < b) × (b < n) ⌝ }
+fn mark_pair(n: u16, a: u16, b: u16, rows: &[u32], seen: &mut [u64]) -> LinkCheck
+    requires { ⌜ (n ≤ 1000) × RowsFor n (now rows) × RoomFor n (now seen) × (a < b) × (b < n) ⌝ }
     ensures { λ r. ⌜ LinkChecked n a b (now (seen .entry)) (now (seen .exit)) r ⌝ }
 {
-    let pair = pair_index(a, b) as usize;
+    let pair = pair_index(a, b, rows) as usize;
     let word = pair / 64;
     let bit = pair % 64;
     let bits = seen[word];
@@ -192,26 +189,27 @@ fn mark_pair(n: u16, a: u16, b: u16, seen: &mut [u64]) -> LinkCheck
 }
 
 // Checks the link a b after those whose pairs are marked, and marks its pair if it is fine.
-pub fn check_link(n: u16, a: u16, b: u16, seen: &mut [u64]) -> LinkCheck
-    requires { ⌜ (n ≤ 1000) × RoomFor n (now seen) ⌝ }
+pub fn check_link(n: u16, a: u16, b: u16, rows: &[u32], seen: &mut [u64]) -> LinkCheck
+    requires { ⌜ (n ≤ 1000) × RowsFor n (now rows) × RoomFor n (now seen) ⌝ }
     ensures { λ r. ⌜ LinkChecked n a b (now (seen .entry)) (now (seen .exit)) r ⌝ }
 {
     if a < b {
         if b < n {
-            return mark_pair(n, a, b, seen);
+            return mark_pair(n, a, b, rows, seen);
         }
     }
     number_fault(n, a, b)
 }
 
 // Checks link by link, where no pair is marked yet.
-fn links_check(n: u16, lows: &[u16], highs: &[u16], seen: &mut [u64]) -> Check
-    requires { ⌜ (n ≤ 1000) × (length (now lows) ≡ length (now highs)) × Seen n (now seen) (now lows) (now highs) 0 ⌝ }
+fn links_check(n: u16, lows: &[u16], highs: &[u16], rows: &[u32], seen: &mut [u64]) -> Check
+    requires { ⌜ (n ≤ 1000) × RowsFor n (now rows) ⌝ }
+    requires { ⌜ (length (now lows) ≡ length (now highs)) × Seen n (now seen) (now lows) (now highs) 0 ⌝ }
     ensures { λ r. ⌜ checkOutcome r ≡ linksCheck n (now (lows .entry)) (now (highs .entry)) 0 (length (now (lows .entry))) ⌝ }
 {
     let mut i = 0;
     while i < lows.len() {
-        match check_link(n, lows[i], highs[i], seen) {
+        match check_link(n, lows[i], highs[i], rows, seen) {
             LinkCheck::Fine => {}
             LinkCheck::RelayRange => {
                 return Check::Refused(Refusal::RelayRange(i));
@@ -228,21 +226,23 @@ fn links_check(n: u16, lows: &[u16], highs: &[u16], seen: &mut [u64]) -> Check
     Check::Accepted
 }
 
-// Checks link by link, with marks for as many relays as it takes.
+// Checks link by link, with row starts and marks for as many relays as it takes.
 fn all_links_check(n: u16, lows: &[u16], highs: &[u16]) -> Check
     requires { ⌜ (n ≤ 1000) × (length (now lows) ≡ length (now highs)) ⌝ }
     ensures { λ r. ⌜ checkOutcome r ≡ linksCheck n (now (lows .entry)) (now (highs .entry)) 0 (length (now (lows .entry))) ⌝ }
 {
     if n <= 128 {
+        let first = first_row_starts();
         let mut few = no_pairs_of_128();
-        return links_check(n, lows, highs, &mut few);
+        return links_check(n, lows, highs, &first, &mut few);
     }
+    let rows = row_starts();
     if n <= 512 {
         let mut more = no_pairs_of_512();
-        return links_check(n, lows, highs, &mut more);
+        return links_check(n, lows, highs, &rows, &mut more);
     }
     let mut seen = no_pairs_of_1000();
-    links_check(n, lows, highs, &mut seen)
+    links_check(n, lows, highs, &rows, &mut seen)
 }
 
 // The table check, which every operation on a table makes first.
@@ -279,5 +279,6 @@ pub fn pair_number(a: Relay, b: Relay) -> Pair
     if high <= low {
         return Pair::Refused(Refusal::NotBelow(0));
     }
-    Pair::Number(pair_index(low, high))
+    let rows = row_starts();
+    Pair::Number(pair_index(low, high, &rows))
 }

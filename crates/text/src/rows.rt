@@ -3,6 +3,7 @@ ghost use mathlib.Core.List.{[]};
 ghost use mathlib.Core.Path.{_≡_};
 ghost use Prim.Native.Nat.{_≤_, _<_};
 ghost use lib.ListN.{length, take};
+ghost use Rattle.network.specs.RowStarts.{RowsFor};
 ghost use Rattle.network.specs.Seen.{Seen};
 ghost use Rattle.text.specs.Rows.{LinkRead, LinksRead, EndRead, clearedFrom};
 use crate::scan::Due;
@@ -24,16 +25,17 @@ fn read_link(
     at: usize,
     lows: &mut [u16],
     highs: &mut [u16],
+    rows: &[u32],
     seen: &mut [u64],
 ) -> Step
     requires { ⌜ (n ≤ 1000) × (i < length (now lows)) × (i < length (now highs)) ⌝ }
-    requires { ⌜ Seen n (now seen) (take i (now lows)) (take i (now highs)) i ⌝ }
+    requires { ⌜ RowsFor n (now rows) × Seen n (now seen) (take i (now lows)) (take i (now highs)) i ⌝ }
     ensures { λ r. ⌜ LinkRead (now (text .entry)) n i at (now (lows .entry)) (now (highs .entry)) (now (lows .exit))
         (now (highs .exit)) (now (seen .exit)) r ⌝ }
 {
     match crate::mark::form_at(text, at, Due::Link) {
         PairScan::Departs(p) => Step::Refused(Refusal::Form(p)),
-        PairScan::Reads(a, b, next) => match network::check_link(n, a, b, seen) {
+        PairScan::Reads(a, b, next) => match network::check_link(n, a, b, rows, seen) {
             LinkCheck::RelayRange => Step::Refused(Refusal::RelayRange(i)),
             LinkCheck::NotBelow => Step::Refused(Refusal::NotBelow(i)),
             LinkCheck::Repeated => Step::Refused(Refusal::Repeated(i)),
@@ -54,17 +56,18 @@ fn read_links(
     at: usize,
     lows: &mut [u16],
     highs: &mut [u16],
+    rows: &[u32],
     seen: &mut [u64],
 ) -> Step
     requires { ⌜ (n ≤ 1000) × (m ≤ length (now lows)) × (m ≤ length (now highs)) ⌝ }
-    requires { ⌜ Seen n (now seen) [] [] 0 ⌝ }
+    requires { ⌜ RowsFor n (now rows) × Seen n (now seen) [] [] 0 ⌝ }
     ensures { λ r. ⌜ LinksRead (now (text .entry)) n m at (now (lows .entry)) (now (highs .entry)) (now (lows .exit))
         (now (highs .exit)) r ⌝ }
 {
     let mut p = at;
     let mut i: usize = 0;
     while i < m {
-        match read_link(text, n, i, p, lows, highs, seen) {
+        match read_link(text, n, i, p, lows, highs, rows, seen) {
             Step::Next(next) => {
                 p = next;
             }
@@ -77,7 +80,7 @@ fn read_links(
     Step::Next(p)
 }
 
-// All m link lines, with marks for as many relays as it takes.
+// All m link lines, with row starts and marks for as many relays as it takes.
 pub(crate) fn read_all_links(
     text: &[u8],
     n: u16,
@@ -91,15 +94,17 @@ pub(crate) fn read_all_links(
         (now (highs .exit)) r ⌝ }
 {
     if n <= 128 {
+        let first = network::row_starts::first_row_starts();
         let mut few = network::no_pairs_of_128();
-        return read_links(text, n, m, at, lows, highs, &mut few);
+        return read_links(text, n, m, at, lows, highs, &first, &mut few);
     }
+    let rows = network::row_starts::row_starts();
     if n <= 512 {
         let mut more = network::no_pairs_of_512();
-        return read_links(text, n, m, at, lows, highs, &mut more);
+        return read_links(text, n, m, at, lows, highs, &rows, &mut more);
     }
     let mut seen = network::no_pairs_of_1000();
-    read_links(text, n, m, at, lows, highs, &mut seen)
+    read_links(text, n, m, at, lows, highs, &rows, &mut seen)
 }
 
 // The end line, and nothing after it.

@@ -20,7 +20,7 @@ number-fault-requires c κs = search needs
 
 returns-2 : tie.Need-returns-2
 returns-2 c =
-    let a = c .before .before .before .args in
+    let a = c .before .before .before .before .args in
     unfit (a .n) (a .a) (a .b) (a .seen .now) (c .number-fault .result) (c .number-fault .ensures)
     (⊎-elim (λ w less within. omega (arith, w .1 .left)) (λ w less within. omega (arith, w .left)) (c .before .if1 .came))
 

@@ -15,17 +15,17 @@ use Rattle.network.proofs.links_check.Statement.{statement}
 use Rattle.network.proofs.links_check.Tie as tie
 
 abbrev Inv-loop : tie.InvT-loop
-Inv-loop n lows highs seen₀ i₀ seen i =
+Inv-loop n lows highs rows seen₀ i₀ seen i =
     (i ≤ length lows)
     × Seen n seen lows highs i
     × (length seen ≡ length seen₀)
     × (linksCheck n lows highs 0 (length lows) ≡ linksCheck n lows highs i (length lows - i))
 
 abbrev μ-loop : tie.MeasureT-loop
-μ-loop n lows highs seen₀ i₀ seen i = length lows - i
+μ-loop n lows highs rows seen₀ i₀ seen i = length lows - i
 
 loop-holds : tie.Need-loop-holds Inv-loop μ-loop
-loop-holds c = (omega arith, c .before .before .before .pre .2, refl, ap (linksCheck _ _ _ 0) (omega arith))
+loop-holds c = (omega arith, c .before .before .before .before .pre .1 .1, refl, ap (linksCheck _ _ _ 0) (omega arith))
 
 mul-check-link : tie.Need-mul-check-link Inv-loop μ-loop
 mul-check-link c = omega arith
@@ -40,7 +40,10 @@ shared-slice-read-check-link-2 : tie.Need-shared-slice-read-check-link-2 Inv-loo
 shared-slice-read-check-link-2 c = omega arith
 
 check-link-requires : tie.Need-check-link-requires Inv-loop μ-loop
-check-link-requires c κs = (omega arith, c .before .before .before .before .loop .inv .1 .room)
+check-link-requires c κs =
+    let atLoop = c .before .before .before .before in
+    let start = atLoop .before .before .before .before .before in
+    (omega arith, start .pre .0 .1, atLoop .loop .inv .1 .room)
 
 enum-told : tie.Need-enum-told Inv-loop μ-loop
 enum-told c = search needs
@@ -49,13 +52,13 @@ enum-told c = search needs
 fault : (c : tie.After-check-link Inv-loop μ-loop) (f : ℕ) → ltb 0 f ≡ true → faultOf (c .check-link .result) ≡ f
     → _≡_ {A = Answer} (refused f (c .before .before .before .before .before .loop .i))
     (linksCheck
-    (c .before .before .before .before .before .before .before .before .before .args .n)
-    (c .before .before .before .before .before .before .before .before .before .args .lows .now)
-    (c .before .before .before .before .before .before .before .before .before .args .highs .now)
+    (c .before .before .before .before .before .before .before .before .before .before .args .n)
+    (c .before .before .before .before .before .before .before .before .before .before .args .lows .now)
+    (c .before .before .before .before .before .before .before .before .before .before .args .highs .now)
     0
-    (length (c .before .before .before .before .before .before .before .before .before .args .lows .now)))
+    (length (c .before .before .before .before .before .before .before .before .before .before .args .lows .now)))
 fault c =
-    let a = c .before .before .before .before .before .before .before .before .before .args in
+    let a = c .before .before .before .before .before .before .before .before .before .before .args in
     let now = c .before .before .before .before .before .loop in
     turn-refused (a .n) (a .lows .now) (a .highs .now) (now .i) (now .seen) _ (c .check-link .result)
     (c .before .before .before .before .loop-test .taken)
@@ -101,7 +104,7 @@ loop-again c =
     let atCheckLink = c .before .before .before .before in
     let atLoopTest = atCheckLink .before .before .before .before in
     let atLoop = atLoopTest .before in
-    let start = atLoop .before .before .before .before in
+    let start = atLoop .before .before .before .before .before in
     let a = start .args in
     let now = atLoop .loop in
     let checked = atCheckLink .check-link in
@@ -119,7 +122,7 @@ same-length-4 c = c .before .loop .inv .2
 
 returns-4 : tie.Need-returns-4 Inv-loop μ-loop
 returns-4 c =
-    let a = c .before .before .before .before .before .args in
+    let a = c .before .before .before .before .before .before .args in
     let now = c .before .loop in
     links-end (a .n) (a .lows .now) (a .highs .now) (now .i) (c .loop-test .left) (now .inv .3)
 

@@ -12,10 +12,11 @@ row-start-requires c κs = search needs
 add-result : tie.Need-add-result
 unfolding pairNumber
 add-result c =
+    let start = c .before .before in
     omega (
       arith,
       c .row-start .ensures,
-      pair-below 1000 (c .before .args .a) (c .before .args .b) (c .before .pre .0) (c .before .pre .1),
+      pair-below 1000 (start .args .a) (start .args .b) (start .pre .0) (start .pre .1),
       rows-of-1000 1000 (omega arith),
     )
 

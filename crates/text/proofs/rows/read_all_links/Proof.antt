@@ -1,11 +1,15 @@
--- `text::rows::read_all_links` meets its contract: the marks have room for the pairs, and none is marked before the first
--- line. Assumes nothing.
+-- `text::rows::read_all_links` meets its contract: the row starts lent are those of n relays, the marks have room for the
+-- pairs, and none is marked before the first line. Assumes nothing.
 use mathlib.Core.List.{[]}
 use native.Mathlib.Omega.{arith}
 use borrow.Author.Needs.{needs}
+use Rattle.network.specs.RowStarts.{rows-fewer}
 use Rattle.network.specs.Seen.{none-of-128, none-of-512, none-of-1000}
 use Rattle.text.proofs.rows.read_all_links.Statement.{statement}
 use Rattle.text.proofs.rows.read_all_links.Tie as tie
+
+first-row-starts-requires : tie.Need-first-row-starts-requires
+first-row-starts-requires c κs = search needs
 
 no-pairs-of-128-requires : tie.Need-no-pairs-of-128-requires
 no-pairs-of-128-requires c κs = search needs
@@ -13,10 +17,17 @@ no-pairs-of-128-requires c κs = search needs
 slice-aggregate-read-links : tie.Need-slice-aggregate-read-links
 slice-aggregate-read-links c = search needs
 
+slice-aggregate-read-links-2 : tie.Need-slice-aggregate-read-links-2
+slice-aggregate-read-links-2 c = search needs
+
 read-links-requires : tie.Need-read-links-requires
 read-links-requires c κs =
-    let atNoPairsOf128 = c .before .before .before in
-    ((omega arith, omega arith, omega arith), none-of-128 _ _ [] [] (omega arith) (atNoPairsOf128 .no-pairs-of-128 .ensures))
+    let atNoPairs = c .before .before .before .before in
+    let got = atNoPairs .before .first-row-starts in
+    let none = atNoPairs .no-pairs-of-128 .ensures in (
+      (omega arith, omega arith, omega arith),
+      (rows-fewer _ 128 (got .result) (omega arith) (got .ensures), none-of-128 _ _ [] [] (omega arith) none),
+    )
 
 same-length : tie.Need-same-length
 same-length c = search needs
@@ -27,16 +38,26 @@ same-length-2 c = search needs
 returns : tie.Need-returns
 returns c = search needs
 
+row-starts-requires : tie.Need-row-starts-requires
+row-starts-requires c κs = search needs
+
 no-pairs-of-512-requires : tie.Need-no-pairs-of-512-requires
 no-pairs-of-512-requires c κs = search needs
 
-slice-aggregate-read-links-2 : tie.Need-slice-aggregate-read-links-2
-slice-aggregate-read-links-2 c = search needs
+slice-aggregate-read-links-3 : tie.Need-slice-aggregate-read-links-3
+slice-aggregate-read-links-3 c = search needs
+
+slice-aggregate-read-links-4 : tie.Need-slice-aggregate-read-links-4
+slice-aggregate-read-links-4 c = search needs
 
 read-links-requires-2 : tie.Need-read-links-requires-2
 read-links-requires-2 c κs =
-    let atNoPairsOf512 = c .before .before .before in
-    ((omega arith, omega arith, omega arith), none-of-512 _ _ [] [] (omega arith) (atNoPairsOf512 .no-pairs-of-512 .ensures))
+    let atNoPairs = c .before .before .before .before in
+    let got = atNoPairs .before .before .row-starts in
+    let none = atNoPairs .no-pairs-of-512 .ensures in (
+      (omega arith, omega arith, omega arith),
+      (rows-fewer _ 1000 (got .result) (omega arith) (got .ensures), none-of-512 _ _ [] [] (omega arith) none),
+    )
 
 same-length-3 : tie.Need-same-length-3
 same-length-3 c = search needs
@@ -50,13 +71,20 @@ returns-2 c = search needs
 no-pairs-of-1000-requires : tie.Need-no-pairs-of-1000-requires
 no-pairs-of-1000-requires c κs = search needs
 
-slice-aggregate-read-links-3 : tie.Need-slice-aggregate-read-links-3
-slice-aggregate-read-links-3 c = search needs
+slice-aggregate-read-links-5 : tie.Need-slice-aggregate-read-links-5
+slice-aggregate-read-links-5 c = search needs
+
+slice-aggregate-read-links-6 : tie.Need-slice-aggregate-read-links-6
+slice-aggregate-read-links-6 c = search needs
 
 read-links-requires-3 : tie.Need-read-links-requires-3
 read-links-requires-3 c κs =
-    let atNoPairsOf1000 = c .before .before .before in
-    ((omega arith, omega arith, omega arith), none-of-1000 _ _ [] [] (omega arith) (atNoPairsOf1000 .no-pairs-of-1000 .ensures))
+    let atNoPairs = c .before .before .before .before in
+    let got = atNoPairs .before .before .row-starts in
+    let none = atNoPairs .no-pairs-of-1000 .ensures in (
+      (omega arith, omega arith, omega arith),
+      (rows-fewer _ 1000 (got .result) (omega arith) (got .ensures), none-of-1000 _ _ [] [] (omega arith) none),
+    )
 
 same-length-5 : tie.Need-same-length-5
 same-length-5 c = search needs
@@ -71,20 +99,25 @@ pub read-all-links-spec : {M : Type 1} → statement M
 read-all-links-spec =
     tie.close
     (tie.spec
+    first-row-starts-requires
     no-pairs-of-128-requires
     slice-aggregate-read-links
+    slice-aggregate-read-links-2
     read-links-requires
     same-length
     same-length-2
     returns
+    row-starts-requires
     no-pairs-of-512-requires
-    slice-aggregate-read-links-2
+    slice-aggregate-read-links-3
+    slice-aggregate-read-links-4
     read-links-requires-2
     same-length-3
     same-length-4
     returns-2
     no-pairs-of-1000-requires
-    slice-aggregate-read-links-3
+    slice-aggregate-read-links-5
+    slice-aggregate-read-links-6
     read-links-requires-3
     same-length-5
     same-length-6

@@ -21,8 +21,8 @@ enum-known-a c = search needs
 
 check-link-requires : tie.Need-check-link-requires
 check-link-requires c κs =
-    let start = c .before .before .before .before .before .before .before .before .before in
-    (start .pre .0 .0, start .pre .1 .room)
+    let start = c .before .before .before .before .before .before .before .before .before .before in
+    (start .pre .0 .0, start .pre .1 .0, start .pre .1 .1 .room)
 
 enum-told : tie.Need-enum-told
 enum-told c = search needs
@@ -50,7 +50,7 @@ slice-write-highs c = search needs
 
 returns : tie.Need-returns
 returns c =
-    let a = c .before .before .before .before .before .before .before .before .args in
+    let a = c .before .before .before .before .before .before .before .before .before .args in
     read-departs (now (a .text)) (a .n) (a .i) (a .at) (now (a .lows)) (now (a .highs)) _ _
     (sym (c .before .before .before .form-at .ensures) ∙ ap pairGives (c .before .p .given .1))
 
@@ -62,13 +62,13 @@ returns-2 c =
     let atCheckLink = c .before .before .before .before in
     let atA = atCheckLink .before .before .before in
     let atFormAt = atA .before .before in
-    let start = atFormAt .before .before .before .before .before in
+    let start = atFormAt .before .before .before .before .before .before in
     let a = start .args in
     let pre = start .pre in
     let scanned = sym (atFormAt .form-at .ensures) ∙ ap pairGives (atA .a .given .1) in
     let fault = ap faultOf (c .enum-told .given .1) in
     read-faulty (now (a .text)) (a .n) (a .i) (a .at) (now (a .lows)) (now (a .highs)) (now (a .seen)) _ _ _ _ _
-    (pre .0 .1) (pre .0 .2) (pre .1) (atCheckLink .check-link .ensures) scanned (RelayRange (a .i)) (omega (arith, fault)) (rw fault)
+    (pre .0 .1) (pre .0 .2) (pre .1 .1) (atCheckLink .check-link .ensures) scanned (RelayRange (a .i)) (omega (arith, fault)) (rw fault)
 
 same-length-2 : tie.Need-same-length-2
 same-length-2 c = search needs
@@ -78,13 +78,13 @@ returns-3 c =
     let atCheckLink = c .before .before .before .before in
     let atA = atCheckLink .before .before .before in
     let atFormAt = atA .before .before in
-    let start = atFormAt .before .before .before .before .before in
+    let start = atFormAt .before .before .before .before .before .before in
     let a = start .args in
     let pre = start .pre in
     let scanned = sym (atFormAt .form-at .ensures) ∙ ap pairGives (atA .a .given .1) in
     let fault = ap faultOf (c .enum-told2 .given .1) in
     read-faulty (now (a .text)) (a .n) (a .i) (a .at) (now (a .lows)) (now (a .highs)) (now (a .seen)) _ _ _ _ _
-    (pre .0 .1) (pre .0 .2) (pre .1) (atCheckLink .check-link .ensures) scanned (NotBelow (a .i)) (omega (arith, fault)) (rw fault)
+    (pre .0 .1) (pre .0 .2) (pre .1 .1) (atCheckLink .check-link .ensures) scanned (NotBelow (a .i)) (omega (arith, fault)) (rw fault)
 
 same-length-3 : tie.Need-same-length-3
 same-length-3 c = search needs
@@ -94,13 +94,13 @@ returns-4 c =
     let atCheckLink = c .before .before .before .before in
     let atA = atCheckLink .before .before .before in
     let atFormAt = atA .before .before in
-    let start = atFormAt .before .before .before .before .before in
+    let start = atFormAt .before .before .before .before .before .before in
     let a = start .args in
     let pre = start .pre in
     let scanned = sym (atFormAt .form-at .ensures) ∙ ap pairGives (atA .a .given .1) in
     let fault = ap faultOf (c .enum-told3 .given .1) in
     read-faulty (now (a .text)) (a .n) (a .i) (a .at) (now (a .lows)) (now (a .highs)) (now (a .seen)) _ _ _ _ _
-    (pre .0 .1) (pre .0 .2) (pre .1) (atCheckLink .check-link .ensures) scanned (Repeated (a .i)) (omega (arith, fault)) (rw fault)
+    (pre .0 .1) (pre .0 .2) (pre .1 .1) (atCheckLink .check-link .ensures) scanned (Repeated (a .i)) (omega (arith, fault)) (rw fault)
 
 same-length-4 : tie.Need-same-length-4
 same-length-4 c = search needs
@@ -116,12 +116,12 @@ returns-5 c =
     let atCheckLink = c .before .before .before .before in
     let atA = atCheckLink .before .before .before in
     let atFormAt = atA .before .before in
-    let start = atFormAt .before .before .before .before .before in
+    let start = atFormAt .before .before .before .before .before .before in
     let a = start .args in
     let pre = start .pre in
     let scanned = sym (atFormAt .form-at .ensures) ∙ ap pairGives (atA .a .given .1) in
     read-fine (now (a .text)) (a .n) (a .i) (a .at) (now (a .lows)) (now (a .highs)) (now (a .seen)) _ _ _ _ _
-    (pre .0 .1) (pre .0 .2) (pre .1) (atCheckLink .check-link .ensures) scanned (ap faultOf (c .enum-told4 .given .1))
+    (pre .0 .1) (pre .0 .2) (pre .1 .1) (atCheckLink .check-link .ensures) scanned (ap faultOf (c .enum-told4 .given .1))
 
 pub read-link-spec : {M : Type 1} → statement M
 read-link-spec =

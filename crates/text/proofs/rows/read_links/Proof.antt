@@ -14,24 +14,26 @@ use Rattle.text.proofs.rows.read_links.Statement.{statement}
 use Rattle.text.proofs.rows.read_links.Tie as tie
 
 abbrev Inv-loop : tie.InvT-loop
-Inv-loop text n m at lows₀ highs₀ seen₀ p₀ i₀ lows highs seen p i =
+Inv-loop text n m at lows₀ highs₀ rows seen₀ p₀ i₀ lows highs seen p i =
     (i ≤ m) × (length lows ≡ length lows₀) × (length highs ≡ length highs₀) × (length seen ≡ length seen₀)
     × Seen n seen (take i lows) (take i highs) i
     × (readLinks text n [] [] at m ≡ readLinks text n (take i lows) (take i highs) p (m - i))
 
 abbrev μ-loop : tie.MeasureT-loop
-μ-loop text n m at lows₀ highs₀ seen₀ p₀ i₀ lows highs seen p i = m - i
+μ-loop text n m at lows₀ highs₀ rows seen₀ p₀ i₀ lows highs seen p i = m - i
 
 loop-holds : tie.Need-loop-holds Inv-loop μ-loop
 loop-holds c =
-    let a = c .before .before .before .before .args in
+    let start = c .before .before .before .before .before in
+    let a = start .args in
     let e : a .m - 0 ≡ a .m = omega arith in
-    (omega arith, refl, refl, refl, c .before .before .before .before .pre .1, rw e)
+    (omega arith, refl, refl, refl, start .pre .1 .1, rw e)
 
 read-link-requires : tie.Need-read-link-requires Inv-loop μ-loop
 read-link-requires c κs =
-    let l = c .before .before .before .before .loop in
-    ((omega arith, omega arith, omega arith), l .inv .4)
+    let atLoop = c .before .before .before .before in
+    let start = atLoop .before .before .before .before .before .before in
+    ((omega arith, omega arith, omega arith), (start .pre .1 .0, atLoop .loop .inv .4))
 
 enum-known-next : tie.Need-enum-known-next Inv-loop μ-loop
 enum-known-next c = search needs
@@ -97,7 +99,7 @@ same-length-6 c = c .before .loop .inv .3
 returns-2 : tie.Need-returns-2 Inv-loop μ-loop
 returns-2 c =
     let l = c .before .loop in
-    let a = c .before .before .before .before .before .before .args in
+    let a = c .before .before .before .before .before .before .before .args in
     record {
       follows = l .inv .5 ∙ links-over (now (a .text)) (a .n) (l .i) (a .m) (l .p) (l .lows) (l .highs) (omega arith) (omega arith);
       sameLows = l .inv .1;
