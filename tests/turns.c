@@ -1,5 +1,6 @@
-/* Two versions of the library turn by turn on the same networks, for tests/turns: how long the table check, Read and Route take in
- * the earlier one, whose functions begin with `before_`, and in this one. Each time is the lower quartile of 200 batches. */
+/* Two versions of the library turn by turn on the same networks, for tests/turns: how long the table check, Read, the pair numbers
+ * of all links, one call each, and Route take in the earlier one, whose functions begin with `before_`, and in this one. Each time
+ * is the lower quartile of 200 batches. */
 #define _POSIX_C_SOURCE 200112L
 #include "nolkisei.h"
 #include <stdio.h>
@@ -16,7 +17,9 @@ typedef uint32_t check_of(uint16_t, const uint16_t *, size_t, const uint16_t *, 
 typedef uint32_t read_of(const uint8_t *, size_t, uint16_t *, size_t, uint16_t *, size_t, uint64_t *);
 typedef uint32_t route_of(uint16_t, const uint16_t *, size_t, const uint16_t *, size_t, uint16_t, uint16_t, uint16_t, uint16_t *,
                           size_t, uint16_t *, size_t, uint16_t *, size_t, uint64_t *);
+typedef uint32_t pair_of(uint16_t, uint16_t, uint64_t *);
 check_of before_nolkisei_check;
+pair_of before_nolkisei_pair;
 read_of before_nolkisei_read;
 route_of before_nolkisei_route;
 
@@ -26,7 +29,7 @@ static uint8_t text[NOLKISEI_TEXT];
 static uint64_t answer[2], state = 88172645463325252u;
 static size_t m, text_length;
 static int k;
-static double worst[3];
+static double worst[4];
 static char linked[NOLKISEI_RELAYS][NOLKISEI_RELAYS];
 
 static unsigned random_below(unsigned bound) {
@@ -57,6 +60,10 @@ static void make(int kind) {
 
 static void check(int now) { (now ? nolkisei_check : before_nolkisei_check)(TABLE, answer); }
 static void read_text(int now) { (now ? nolkisei_read : before_nolkisei_read)(READ); }
+static void pairs(int now) {
+    for (size_t i = 0; i < m; i++) (now ? nolkisei_pair : before_nolkisei_pair)(lows[i], highs[i], answer);
+}
+
 static void route(int now) { (now ? nolkisei_route : before_nolkisei_route)(TABLE, ROUTE); }
 
 static double microseconds(void) {
@@ -106,14 +113,14 @@ int main(void) {
         for (int size = 0; size < 5; size++) {
             n = sizes[size], make(kind);
             printf("%s %u %zu", kinds[kind], n, m);
-            turns(0, "check", check), turns(1, "read", read_text);
+            turns(0, "check", check), turns(1, "read", read_text), turns(2, "pairs", pairs);
             for (int i = 0; i < 5; i++)
                 if (k = counts_of_routes[i], wish()) {
                     char name[16];
-                    snprintf(name, sizeof name, "route %d", k), turns(2, name, route);
+                    snprintf(name, sizeof name, "route %d", k), turns(3, name, route);
                 }
             puts("");
         }
-    printf("worst: check %.3f, read %.3f, route %.3f times\n", worst[0], worst[1], worst[2]);
+    printf("worst: check %.3f, read %.3f, pairs %.3f, route %.3f times\n", worst[0], worst[1], worst[2], worst[3]);
     return 0;
 }

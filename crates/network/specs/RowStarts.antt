@@ -3,7 +3,7 @@ use Prim.Native.Nat.{ℕ, zero, suc, _+_, _≤_, _<_}
 use mathlib.Core.Bool.{Bool, true, false, _&&_}
 use mathlib.Core.List.{List, [], _∷_}
 use mathlib.Core.Logic.{_≢_}
-use mathlib.Core.Path.{_≡_, refl, _∙_, ap, subst⁻¹}
+use mathlib.Core.Path.{_≡_, refl, sym, _∙_, ap}
 use native.Mathlib.Nat.{zero-add}
 use native.Mathlib.Omega.{arith}
 use borrow.Author.Tests.{eqb-true, eqb-false}
@@ -35,7 +35,8 @@ rows-next b rows front r f l = (omega (arith, length-set front b (getD rows b 0)
     go : (i : ℕ) → i < b + 1 → (same : Bool) → eqb i b ≡ same → getD (set front b (getD rows b 0)) i 0 ≡ rowStart i
     go i h true e =
         let at : i ≡ b = eqb-true i b e in
-        subst⁻¹ (λ (j : ℕ). getD (set front b (getD rows b 0)) j 0 ≡ rowStart j) at (getD-set-same front b (getD rows b 0) 0 l ∙ r .1 b (omega arith))
+        ap (λ (j : ℕ). getD (set front b (getD rows b 0)) j 0) at ∙ getD-set-same front b (getD rows b 0) 0 l ∙ r .1 b (omega arith)
+        ∙ ap rowStart (sym at)
     go i h false e =
         let apart : i ≢ b = eqb-false i b e in
         getD-set-other front b i (getD rows b 0) 0 apart ∙ f .1 i (omega arith)
