@@ -13,7 +13,7 @@ use Rattle.definitions.specs.Outcome.{refused}
 use Rattle.definitions.specs.Lists.{has}
 use Rattle.definitions.specs.Route.{routeAnswer, routesOf}
 use Rattle.definitions.specs.Text.{Network}
-use Rattle.definitions.specs.Demand.{uses, RouteHolds, Apart}
+use Rattle.definitions.specs.Demand.{AnyLink, uses, RouteHolds, Apart}
 use Rattle.definitions.specs.Networks.{square, mesh, lent}
 use Rattle.definitions.specs.Opened.{opened}
 
@@ -28,7 +28,7 @@ not-tree-paths = refl
 -- "Taking 13 to mean that no routes exist. P3 has two": Route refuses, and over all the links of the square 0 1 2 and
 -- 0 3 2 are routes that share the ends alone.
 abbrev squareRoute : List ℕ → Type 0
-squareRoute = RouteHolds (square .lows) (square .highs) (1 ∷ 1 ∷ 1 ∷ 1 ∷ []) 0 2
+squareRoute = RouteHolds (square .lows) (square .highs) AnyLink 0 2
 
 not-both : false ≡ true → ⊥
 not-both e = let z : _≡_ {A = ℕ} 0 1 = cc in omega arith
@@ -76,14 +76,14 @@ thirteen-with-routes = (
     long = omega arith;
     starts = refl;
     ends = refl;
-    along = ((0, omega arith, refl, refl), ((1, omega arith, refl, refl), tt));
+    along = ((0, omega arith, refl, tt), ((1, omega arith, refl, tt), tt));
     noRepeat = (refl, (refl, (refl, tt)));
   },
   record {
     long = omega arith;
     starts = refl;
     ends = refl;
-    along = ((3, omega arith, refl, refl), ((2, omega arith, refl, refl), tt));
+    along = ((3, omega arith, refl, tt), ((2, omega arith, refl, tt), tt));
     noRepeat = (refl, (refl, (refl, tt)));
   },
   record { relays = square-relays; links = square-links },

@@ -76,12 +76,12 @@ unfoldable pub cutUp : (counts relays : List ℕ) → List (List ℕ)
 cutUp [] relays = []
 cutUp (size ∷ counts) relays = take size relays ∷ cutUp counts (drop size relays)
 
--- One route: from `from` to `to`, along kept links, repeating no relay.
-pub record RouteHolds (lows highs marks : List ℕ) (from to : ℕ) (route : List ℕ) : Type 0 where
+-- One route: from `from` to `to`, along links that the property picks by their index, repeating no relay.
+pub record RouteHolds (lows highs : List ℕ) (picked : ℕ → Type 0) (from to : ℕ) (route : List ℕ) : Type 0 where
   pub long : 2 ≤ length route
   pub starts : getD route 0 0 ≡ from
   pub ends : getD route (length route - 1) 0 ≡ to
-  pub along : Along (LinkOf lows highs (Kept marks)) route
+  pub along : Along (LinkOf lows highs picked) route
   pub noRepeat : NoRepeat route
 
 -- Two routes: "sharing no link and no relay but the ends".
@@ -91,7 +91,7 @@ pub record Apart (lows highs : List ℕ) (from to : ℕ) (one other : List ℕ) 
 
 -- The routes that Route's two lists give, and what it answers: "the sum of the k counts, which is also Route's answer".
 pub record RoutesHold (n : ℕ) (lows highs marks : List ℕ) (k from to : ℕ) (counts relays : List ℕ) : Type 0 where
-  pub each : (i : ℕ) → i < k → RouteHolds lows highs marks from to (getD (cutUp (take k counts) relays) i [])
+  pub each : (i : ℕ) → i < k → RouteHolds lows highs (Kept marks) from to (getD (cutUp (take k counts) relays) i [])
   pub apart : (i j : ℕ) → i < k → j < k → i ≢ j
       → Apart lows highs from to (getD (cutUp (take k counts) relays) i []) (getD (cutUp (take k counts) relays) j [])
   pub written : total (take k counts) ≤ n - 2 + 2 * k

@@ -12,6 +12,7 @@ pub mod Text
 pub mod Plan
 pub mod Lease
 pub mod Demand
+pub mod SheetHolds
 pub mod SheetPromise
 pub mod LeasePromise
 pub mod Networks

@@ -31,7 +31,7 @@ use Rattle.theory.specs.SweepRoutes.{routes-between}
 -- k routes from `from` to `to`, through some n relays.
 pub record RoutesThrough (n : ℕ) (relay : ℕ → Type 0) (lows highs marks : List ℕ) (k from to : ℕ) (routes : List (List ℕ)) : Type 0 where
   pub number : length routes ≡ k
-  pub each : (i : ℕ) → i < k → RouteHolds lows highs marks from to (getD routes i [])
+  pub each : (i : ℕ) → i < k → RouteHolds lows highs (Kept marks) from to (getD routes i [])
   pub within : (i : ℕ) → i < k → (r : ℕ) → has (getD routes i []) r ≡ true → relay r
   pub apart : (i j : ℕ) → i < k → j < k → i ≢ j → Apart lows highs from to (getD routes i []) (getD routes j [])
   pub written : length (joinAll routes) ≤ n - 2 + 2 * k
@@ -60,7 +60,7 @@ module _ (order lows highs : List ℕ) (arranged : Arranged order lows highs) (k
         let w = holds .within x h in
         (w .0, omega (arith, w .1))
 
-    route-holds : (route : List ℕ) → OnPlaces route → RouteHolds lows highs marks from to (map (relayAt order) route)
+    route-holds : (route : List ℕ) → OnPlaces route → RouteHolds lows highs (Kept marks) from to (map (relayAt order) route)
     route-holds route holds =
         let at : ℕ → ℕ = relayAt order in
         let size : length (map at route) ≡ length route = length-map route at in
@@ -134,7 +134,7 @@ module _ (order lows highs : List ℕ) (arranged : Arranged order lows highs) (k
         record {
           number = length-map routes (map at) ∙ holds .number;
           each = λ i h.
-              subst (RouteHolds lows highs marks from to) (sym (entry i)) (route-holds (getD routes i []) (holds .each i h));
+              subst (RouteHolds lows highs (Kept marks) from to) (sym (entry i)) (route-holds (getD routes i []) (holds .each i h));
           within = λ i h r e.
               let x = has-map at (getD routes i []) r (subst (λ (l : List ℕ). has l r ≡ true) (entry i) e) in
               let low = place-low (getD routes i []) (holds .each i h) (x .0) (x .1) in

@@ -13,7 +13,7 @@ use Rattle.definitions.specs.Outcome.{refused, done, refuseIf, andThen}
 use Rattle.definitions.specs.Lists.{overwrite, total, joinAll}
 use Rattle.definitions.specs.Network.{Accepted}
 use Rattle.definitions.specs.Route.{routeUnless, routesOf, oneTreeOf, tooShort, routeAnswer, countsAfter, routeRelaysAfter}
-use Rattle.definitions.specs.Demand.{OneTree, cutUp, RouteHolds, Apart, RoutesHold, RouteDelivers}
+use Rattle.definitions.specs.Demand.{Kept, OneTree, cutUp, RouteHolds, Apart, RoutesHold, RouteDelivers}
 use Rattle.lists.specs.Outcomes.{if-done}
 use Rattle.lists.specs.Overwritten.{take-overwrite}
 use Rattle.lists.specs.Cuts.{cut-up, total-lengths}
@@ -80,7 +80,7 @@ module _ (n : ℕ) (lows highs : List ℕ) (ok : Accepted n lows highs) (k : ℕ
         sym (routes-written e (holds .number)) in (
           answer-done e ∙ ap (λ (x : ℕ). done (x ∷ [])) (sym all),
           record {
-            each = λ i h. subst (λ (l : List (List ℕ)). RouteHolds lows highs marks from to (getD l i [])) back (holds .each i h);
+            each = λ i h. subst (λ (l : List (List ℕ)). RouteHolds lows highs (Kept marks) from to (getD l i [])) back (holds .each i h);
             apart = λ i j hi hj ne.
                 subst (λ (l : List (List ℕ)). Apart lows highs from to (getD l i []) (getD l j [])) back (holds .apart i j hi hj ne);
             written = omega (arith, all, holds .written);

@@ -64,7 +64,7 @@ module _ (lows highs : List ℕ) where
       go (inr p) = (ap (has route) (sym (p .1)) ∙ high, ap (has route) (sym (p .0)) ∙ low)
 
   -- Of two routes that share no relay but the ends and yet go over one link, each is the two ends alone.
-  pub shared-link : {marks : List ℕ} {from to : ℕ} {one : List ℕ} → RouteHolds lows highs marks from to one
+  pub shared-link : {picked : ℕ → Type 0} {from to : ℕ} {one : List ℕ} → RouteHolds lows highs picked from to one
       → (other : List ℕ) → ((r : ℕ) → has one r ≡ true → has other r ≡ true → (r ≡ from) ⊎ (r ≡ to))
       → (i : ℕ) → uses lows highs i one ≡ true → uses lows highs i other ≡ true → length one ≡ 2
   shared-link {from = from} {to = to} {one = one} holds other shared i p q =
