@@ -15,8 +15,13 @@ pub mod Demand
 pub mod SheetHolds
 pub mod SheetPromise
 pub mod LeasePromise
+pub mod SheetForm
+pub mod SheetTest
+pub mod Verify
+pub mod ReadBackPromise
 pub mod Networks
 pub mod Opened
 pub mod PExamples
 pub mod OtherExamples
+pub mod SheetExamples
 pub mod Astray
