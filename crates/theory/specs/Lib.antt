@@ -42,3 +42,8 @@ pub mod Erased
 pub mod LookedPaths
 pub mod OverSteps
 pub mod OverLinks
+pub mod ApartRoutes
+pub mod SheetWalk
+pub mod SheetRoute
+pub mod SheetRoutes
+pub mod SheetExact
