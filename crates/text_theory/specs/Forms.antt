@@ -160,13 +160,13 @@ form-read (numeral ∷ items) behind (x ∷ values) text p q good fits clear par
     )
 
 -- What two readings, one behind the other, gave.
-record Followed (scan : Scan) (next : ℕ → Scan) (values : List ℕ) (q : ℕ) : Type 0 where
-  front : List ℕ
-  behind : ℕ
-  rest : List ℕ
-  first : scan ≡ reads front behind
-  second : next behind ≡ reads rest q
-  joined : values ≡ front ++ rest
+pub record Followed (scan : Scan) (next : ℕ → Scan) (values : List ℕ) (q : ℕ) : Type 0 where
+  pub front : List ℕ
+  pub behind : ℕ
+  pub rest : List ℕ
+  pub first : scan ≡ reads front behind
+  pub second : next behind ≡ reads rest q
+  pub joined : values ≡ front ++ rest
 
 with-front-reads : (front : List ℕ) (scan : Scan) (values : List ℕ) (q : ℕ) → withFront front scan ≡ reads values q
     → (rest : List ℕ) × (scan ≡ reads rest q) × (values ≡ front ++ rest)
@@ -174,7 +174,8 @@ unfolding withFront
 with-front-reads front (departs p) values q e = let z : _≡_ {A = ℕ} 0 1 = cc in absurd (omega arith)
 with-front-reads front (reads rest p) values q e = (rest, cc, cc)
 
-following-reads : (scan : Scan) (next : ℕ → Scan) (values : List ℕ) (q : ℕ) → following scan next ≡ reads values q
+-- Two readings, one behind the other, that read to the end both did so.
+pub following-reads : (scan : Scan) (next : ℕ → Scan) (values : List ℕ) (q : ℕ) → following scan next ≡ reads values q
     → Followed scan next values q
 unfolding following
 following-reads (departs p) next values q e = let z : _≡_ {A = ℕ} 0 1 = cc in absurd (omega arith)

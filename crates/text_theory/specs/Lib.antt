@@ -1,4 +1,4 @@
--- The theorems about the network text, a module a subject.
+-- The theorems about the network text and the sheet's text, a module a subject.
 pub mod Decimal
 pub mod Numbers
 pub mod Forms
@@ -17,3 +17,7 @@ pub mod Refusals
 pub mod RefusalTwo
 pub mod Lengths
 pub mod Longest
+pub mod NumberLines
+pub mod SheetRoundTrip
+pub mod SheetWritten
+pub mod NetworkFront
