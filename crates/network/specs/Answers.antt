@@ -1,4 +1,4 @@
--- What each answer of the operations stands for in document 01: the number and place of a refusal, or the values.
+-- What each answer of the operations stands for in documents 01 and 02: the number and place of a refusal, or the values.
 -- Assumes nothing.
 use Prim.Native.Nat.{ℕ}
 use mathlib.Core.List.{[], _∷_}
@@ -18,13 +18,15 @@ use Rattle.network.specs.declared.Refusal.the-variants.{
   SameEnds,
   Room,
   NotOneTree,
+  SheetForm,
+  SheetCount,
 }
 use Rattle.network.specs.declared.Pair.{Pair}
 use Rattle.network.specs.declared.Pair.the-variants.{Number}
 use Rattle.network.specs.declared.Check.{Check}
 use Rattle.network.specs.declared.Check.the-variants.{Accepted}
 
--- The number of a refusal, as document 01 counts them.
+-- The number of a refusal, as the documents count them.
 abbrev pub refusalNumber : Refusal → ℕ
 refusalNumber (Wish place) = 1
 refusalNumber (Form place) = 2
@@ -39,8 +41,10 @@ refusalNumber EndRange = 10
 refusalNumber SameEnds = 11
 refusalNumber Room = 12
 refusalNumber NotOneTree = 13
+refusalNumber (SheetForm place) = 14
+refusalNumber SheetCount = 15
 
--- Its place in the input: a byte offset for 1 and 2, a link index for 5 to 7, otherwise 0.
+-- Its place in the input: a byte offset for 1, 2 and 14, a link index for 5 to 7, otherwise 0.
 abbrev pub refusalPlace : Refusal → ℕ
 refusalPlace (Wish place) = place
 refusalPlace (Form place) = place
@@ -55,6 +59,8 @@ refusalPlace EndRange = 0
 refusalPlace SameEnds = 0
 refusalPlace Room = 0
 refusalPlace NotOneTree = 0
+refusalPlace (SheetForm place) = place
+refusalPlace SheetCount = 0
 
 -- "Every refusal gives its number and a place in the input."
 abbrev pub refusalOf : {A : Type 0} → Refusal → Outcome A

@@ -22,7 +22,7 @@ pub struct Relay(pub u16);
 // A place in the order, 1 to n; 0 for none. Never a relay number.
 pub struct Place(pub u16);
 
-// The refusals of document 01, 1 to 13 in this order; the field is the place in the input where it is not always 0.
+// The refusals of documents 01 and 02, 1 to 15 in this order; the field is the place in the input where it is not always 0.
 pub enum Refusal {
     Wish(usize),
     Form(usize),
@@ -37,6 +37,8 @@ pub enum Refusal {
     SameEnds,
     Room,
     NotOneTree,
+    SheetForm(usize),
+    SheetCount,
 }
 
 // The answer of the pair number.
@@ -59,7 +61,7 @@ pub enum LinkCheck {
     Repeated,
 }
 
-// The number of a refusal, as document 01 counts them.
+// The number of a refusal, as the documents count them.
 pub fn refusal_number(refusal: Refusal) -> u16
     ensures { λ r. ⌜ r ≡ refusalNumber refusal ⌝ }
 {
@@ -77,6 +79,8 @@ pub fn refusal_number(refusal: Refusal) -> u16
         Refusal::SameEnds => 11,
         Refusal::Room => 12,
         Refusal::NotOneTree => 13,
+        Refusal::SheetForm(_) => 14,
+        Refusal::SheetCount => 15,
     }
 }
 
@@ -90,6 +94,7 @@ pub fn refusal_place(refusal: Refusal) -> usize
         Refusal::RelayRange(link) => link,
         Refusal::NotBelow(link) => link,
         Refusal::Repeated(link) => link,
+        Refusal::SheetForm(place) => place,
         Refusal::RelayCount => 0,
         Refusal::LinkCount => 0,
         Refusal::TableRoom => 0,
@@ -98,6 +103,7 @@ pub fn refusal_place(refusal: Refusal) -> usize
         Refusal::SameEnds => 0,
         Refusal::Room => 0,
         Refusal::NotOneTree => 0,
+        Refusal::SheetCount => 0,
     }
 }
 

@@ -1,5 +1,5 @@
-// The C interface: each operation of document 01 as a C function, its planner, and the list of links worth keeping. What a code
-// and the two entries of `answer` mean is said in specs/Reported.antt, and for C programs in include/nolkisei.h.
+// The C interface: each operation of documents 01 and 02 as a C function, the planner, and the list of links worth keeping. What a
+// code and the two entries of `answer` mean is said in specs/Reported.antt, and for C programs in include/nolkisei.h.
 ghost use mathlib.Core.Path.{_≡_};
 ghost use Rattle.definitions.specs.Network.{pairAnswer, tableCheck};
 ghost use Rattle.definitions.specs.Text.{readAnswer, lowsAfter, highsAfter, writeAnswer, bufferAfter};
@@ -9,6 +9,7 @@ ghost use Rattle.definitions.specs.Over.{routeLinksAnswer, routeLinksCounts, ro
 ghost use Rattle.definitions.specs.Route.{routeAnswer, countsAfter, routeRelaysAfter, scratchAfter};
 ghost use Rattle.definitions.specs.Plan.{planText, printAnswer, outputAfter};
 ghost use Rattle.definitions.specs.Lease.{keepText};
+ghost use Rattle.definitions.specs.SheetTest.{sheetAnswer};
 ghost use Rattle.nolkisei.specs.Reported.{reported};
 
 mod report;
@@ -21,6 +22,7 @@ use network::Pair;
 use network::Relay;
 use routes::RouteAnswer;
 use sheet::into::PrintAnswer;
+use sheet_check::SheetAnswer;
 use text::ReadAnswer;
 use text::WriteAnswer;
 
@@ -237,5 +239,23 @@ pub extern "C" fn nolkisei_keep(input: &[u8], output: &mut [u8], answer: &mut [u
     match lease::keep_into(input, output) {
         PrintAnswer::Printed(size) => report::give(size as u64, 0, answer),
         PrintAnswer::Refused(refusal) => report::refuse(refusal, answer),
+    }
+}
+
+// A sheet read back with its network: 1 where it holds, 0 where it does not.
+#[no_mangle]
+pub extern "C" fn nolkisei_verify(
+    n: u16,
+    lows: &[u16],
+    highs: &[u16],
+    text: &[u8],
+    answer: &mut [u64; 2],
+) -> u32
+    ensures { λ r. ⌜ reported (sheetAnswer n (now (lows .entry)) (now (highs .entry)) (now (text .entry))) ≡ (r, now (answer .exit)) ⌝ }
+{
+    match sheet_check::check_sheet(n, lows, highs, text) {
+        SheetAnswer::Holds => report::give(1, 0, answer),
+        SheetAnswer::Fails => report::give(0, 0, answer),
+        SheetAnswer::Refused(refusal) => report::refuse(refusal, answer),
     }
 }

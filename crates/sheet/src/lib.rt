@@ -17,7 +17,7 @@ pub mod print;
 pub mod refusal;
 pub mod rooms;
 mod stages;
-mod wish;
+pub mod wish;
 
 // Prints the sheet or the refused line for an input, from the output's first byte on, and gives its length.
 pub fn plan(input: &[u8], output: &mut [u8; rooms::OUTPUT]) -> usize

@@ -12,6 +12,14 @@ use network::refusal_place;
 use text::put;
 
 // `(refused NUMBER PLACE)` and its line end, from the output's first byte on.
+pub fn put_refused(output: &mut [u8], number: usize, place: usize) -> usize
+    requires { ⌜ length (writeForm refusedForm (number ∷ place ∷ [])) ≤ length (now output) ⌝ }
+    ensures { λ r. ⌜ Put (now (output .entry)) 0 (writeForm refusedForm (number ∷ place ∷ [])) (now (output .exit)) r ⌝ }
+{
+    put::put_pair(output, 0, b"(refused ", number, b" ", place, b")\n")
+}
+
+// The same for a refusal.
 pub fn put_refusal(output: &mut [u8], refusal: Refusal) -> usize
     requires { ⌜ length (writeForm refusedForm (refusalNumber refusal ∷ refusalPlace refusal ∷ [])) ≤ length (now output) ⌝ }
     ensures { λ r. ⌜ Put (now (output .entry)) 0 (writeForm refusedForm (refusalNumber refusal ∷ refusalPlace refusal ∷ []))
@@ -19,5 +27,5 @@ pub fn put_refusal(output: &mut [u8], refusal: Refusal) -> usize
 {
     let number = refusal_number(refusal) as usize;
     let place = refusal_place(refusal);
-    put::put_pair(output, 0, b"(refused ", number, b" ", place, b")\n")
+    put_refused(output, number, place)
 }

@@ -19,7 +19,7 @@ pub enum WishScan {
 }
 
 // A number and the word behind it.
-fn number_word(text: &[u8], letters: &[u8], at: usize) -> NumberScan
+pub fn number_word(text: &[u8], letters: &[u8], at: usize) -> NumberScan
     requires { ⌜ noZero (now letters) ≡ true ⌝ }
     ensures { λ r. ⌜ numberGives r ≡ scanForm (now (text .entry)) (numeral ∷ word (now (letters .entry)) ∷ []) at ⌝ }
 {

@@ -36,7 +36,7 @@ pub(crate) enum Due {
 }
 
 // The byte at an offset; past the end 0, which departs from every form.
-fn byte(text: &[u8], at: usize) -> u8
+pub fn byte(text: &[u8], at: usize) -> u8
     ensures { λ r. ⌜ r ≡ byteAt (now (text .entry)) at ⌝ }
 {
     if at < text.len() { text[at] } else { 0 }

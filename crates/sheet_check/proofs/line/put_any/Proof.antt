@@ -1,0 +1,48 @@
+-- `sheet_check::line::put_any` meets its contract: both numbers are of 64 bits, so the line has room. Assumes nothing.
+use native.Mathlib.Omega.{arith}
+use Rattle.sheet_check.proofs.LineLaws.{refused-fits}
+use borrow.Author.Needs.{needs}
+use Rattle.sheet_check.proofs.line.put_any.Statement.{statement}
+use Rattle.sheet_check.proofs.line.put_any.Tie as tie
+
+refusal-number-requires : tie.Need-refusal-number-requires
+refusal-number-requires c κs = search needs
+
+cast-number : tie.Need-cast-number
+cast-number c = search needs
+
+refusal-place-requires : tie.Need-refusal-place-requires
+refusal-place-requires c κs = search needs
+
+put-refused-requires : tie.Need-put-refused-requires
+put-refused-requires c κs =
+    let atPlace = c .before in
+    omega (
+      arith,
+      refused-fits (atPlace .before .refusal-number .result) (atPlace .refusal-place .result) (omega arith) (omega arith),
+      atPlace .before .before .before .pre,
+    )
+
+same-length : tie.Need-same-length
+same-length c = search needs
+
+returns : tie.Need-returns
+returns c =
+    let atPut = c .before .before in
+    let atPlace = atPut .before .before in
+    rw (← atPlace .before .refusal-number .ensures, ← atPlace .refusal-place .ensures)
+    (record {
+      put = atPut .put-refused .ensures;
+      fits = refused-fits (atPlace .before .refusal-number .result) (atPlace .refusal-place .result) (omega arith) (omega arith);
+    })
+
+pub put-any-spec : {M : Type 1} → statement M
+put-any-spec =
+    tie.close
+    (tie.spec
+    refusal-number-requires
+    cast-number
+    refusal-place-requires
+    put-refused-requires
+    same-length
+    returns)

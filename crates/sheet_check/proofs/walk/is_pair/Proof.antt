@@ -1,0 +1,20 @@
+-- `sheet_check::walk::is_pair` meets its contract. Assumes nothing.
+use mathlib.Core.Bool.{_&&_}
+use mathlib.Core.Path.{sym}
+use lib.Dec.{eqb}
+use borrow.Author.Tests.{eq-eqb, ne-eqb}
+use Rattle.sheet_check.proofs.walk.is_pair.Statement.{statement}
+use Rattle.sheet_check.proofs.walk.is_pair.Tie as tie
+
+returns : tie.Need-returns
+returns c =
+    let a = c .before .args in
+    sym (rw (ne-eqb (a .low) (a .a) (c .if1 .taken)))
+
+returns-2 : tie.Need-returns-2
+returns-2 c =
+    let a = c .before .args in
+    sym (rw (eq-eqb (a .low) (a .a) (c .if1 .left)))
+
+pub is-pair-spec : {M : Type 1} → statement M
+is-pair-spec = tie.close (tie.spec returns returns-2)

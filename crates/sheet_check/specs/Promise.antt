@@ -1,0 +1,124 @@
+-- The promise of a sheet that is read back, `ReadBackPromise`. Rests on the planner's own promise, `SheetPromise`: what it prints
+-- for a wish that is not refused is a sheet that holds.
+use Prim.Native.Nat.{ℕ}
+use mathlib.Core.List.{List, [], _∷_, _++_}
+use mathlib.Core.Logic.{_⊎_, inl, inr}
+use mathlib.Core.Path.{_≡_, refl, sym, _∙_, ap, subst}
+use native.Mathlib.Omega.{arith}
+use lib.ListN.{length, getD, drop}
+use lib.Seq.{take-append-seam, drop-append-seam}
+use Rattle.definitions.specs.Outcome.{done}
+use Rattle.definitions.specs.Form.{bytes, reads, writeForm}
+use Rattle.definitions.specs.Text.{Network, readNetwork}
+use Rattle.definitions.specs.Plan.{sheetForm, refusedForm, Sheet, planned, sheetText, printed, planText}
+use Rattle.definitions.specs.Demand.{LinkOf, AnyLink, AlongFrom, Along, RouteHolds}
+use Rattle.definitions.specs.SheetHolds.{SheetHolds}
+use Rattle.definitions.specs.SheetPromise.{Asked, SheetPrinted, RefusalPrinted}
+use Rattle.definitions.specs.SheetTest.{sheetAnswer}
+use Rattle.definitions.specs.Verify.{networkSize, verified, verdictText, verifyText}
+use Rattle.definitions.specs.ReadBackPromise.{ReadBackPromise}
+use Rattle.lists.specs.Outcomes.{then-done}
+use Rattle.lists.specs.SameOutcomes.{done-same}
+use Rattle.text_theory.specs.NetworkFront.{network-front}
+use Rattle.sheet.specs.Promise.{sheet-promise}
+use Rattle.sheet_check.specs.Exact.{said-exactly}
+use Rattle.sheet_check.specs.Written.{written-yes}
+
+-- A sheet that holds along the links that the property picks holds along links of the table.
+module _ (lows highs : List ℕ) (picked : ℕ → Type 0) where
+  any-from : (a : ℕ) (rest : List ℕ) → AlongFrom (LinkOf lows highs picked) a rest → AlongFrom (LinkOf lows highs AnyLink) a rest
+  any-from a [] along = tt
+  any-from a (b ∷ rest) along =
+      let l = along .0 in
+      ((l .0, l .1, l .2, tt), any-from b rest (along .1))
+
+  any-along : (route : List ℕ) → Along (LinkOf lows highs picked) route → Along (LinkOf lows highs AnyLink) route
+  any-along [] along = tt
+  any-along (a ∷ rest) along = any-from a rest along
+
+  any-route : (from to : ℕ) (route : List ℕ) → RouteHolds lows highs picked from to route → RouteHolds lows highs AnyLink from to route
+  any-route from to route holds =
+      record {
+        long = holds .long;
+        starts = holds .starts;
+        ends = holds .ends;
+        along = any-along route (holds .along);
+        noRepeat = holds .noRepeat;
+      }
+
+  any-sheet : (n : ℕ) (sheet : Sheet) → SheetHolds n lows highs picked sheet → SheetHolds n lows highs AnyLink sheet
+  any-sheet n sheet holds =
+      record {
+        some = holds .some;
+        few = holds .few;
+        many = holds .many;
+        differ = holds .differ;
+        each = λ i less. any-route (sheet .from) (sheet .to) (getD (sheet .routes) i []) (holds .each i less);
+        below = holds .below;
+        apart = holds .apart;
+        manyOvers = holds .manyOvers;
+        over = holds .over;
+        kept = holds .kept;
+      }
+
+-- One input asks for one network.
+reads-same : (values others : List ℕ) (p q : ℕ) → reads values p ≡ reads others q → p ≡ q
+reads-same values others p q e = cc
+
+one-network : (input : List ℕ) (from to k from′ to′ k′ : ℕ) (network other : Network)
+    → Asked input from to k network → Asked input from′ to′ k′ other → network ≡ other
+one-network input from to k from′ to′ k′ network other asked again =
+    let same : asked .behind ≡ again .behind =
+    reads-same (from ∷ to ∷ k ∷ []) (from′ ∷ to′ ∷ k′ ∷ []) (asked .behind) (again .behind) (sym (asked .wish) ∙ again .wish) in
+    done-same network other
+    (sym (asked .read) ∙ ap (λ (p : ℕ). readNetwork (drop p input) 3000 3000) same ∙ again .read)
+
+-- A sheet and the line of a refusal part at the second byte.
+sheet-second : (sheet : Sheet) → getD (sheetText sheet) 1 0 ≡ 115
+unfolding sheetText writeForm sheetForm
+sheet-second sheet = refl
+
+refused-second : (values : List ℕ) → getD (writeForm refusedForm values) 1 0 ≡ 114
+unfolding writeForm refusedForm
+refused-second values = refl
+
+-- What the planner prints for a wish that is not refused is answered with yes,
+printed-answer : (input : List ℕ) (from to k : ℕ) (network : Network) (sheet : Sheet) → Asked input from to k network
+    → planned input ≡ done sheet
+    → sheetAnswer (network .relays) (network .lows) (network .highs) (planText input) ≡ done (1 ∷ [])
+unfolding planText printed
+printed-answer input from to k network sheet asked e = go (sheet-promise input)
+  where
+    go : SheetPrinted input ⊎ RefusalPrinted input
+        → sheetAnswer (network .relays) (network .lows) (network .highs) (planText input) ≡ done (1 ∷ [])
+    go (inl found) =
+        let other = found .network in
+        subst (λ (net : Network). sheetAnswer (net .relays) (net .lows) (net .highs) (planText input) ≡ done (1 ∷ []))
+        (one-network input _ _ _ from to k other network (found .asked) asked)
+        (ap (sheetAnswer (other .relays) (other .lows) (other .highs)) (found .text)
+        ∙ written-yes (other .relays) (other .lows) (other .highs) (found .asked .accepted) (found .sheet)
+        (any-sheet (other .lows) (other .highs) _ (other .relays) (found .sheet) (found .holds)))
+    go (inr found) =
+        let values = found .number ∷ found .place ∷ [] in
+        let same : sheetText sheet ≡ writeForm refusedForm values = sym (ap (printed sheetText) e) ∙ found .text in
+        absurd (omega (arith, sheet-second sheet, refused-second values, ap (λ (l : List ℕ). getD l 1 0) same))
+
+-- and behind a network text, a sheet that is answered with yes gets the line for yes.
+line-holds : (text sheetBytes : List ℕ) (network : Network) → readNetwork text 3000 3000 ≡ done network
+    → sheetAnswer (network .relays) (network .lows) (network .highs) sheetBytes ≡ done (1 ∷ [])
+    → verifyText (text ++ sheetBytes) ≡ bytes "(holds)\n"
+unfolding verifyText verified verdictText printed
+line-holds text sheetBytes network read answered =
+    let size : networkSize (text ++ sheetBytes) ≡ length text = network-front text 3000 3000 network read sheetBytes in
+    rw (size, take-append-seam text sheetBytes, drop-append-seam text sheetBytes)
+    (ap (printed verdictText) (then-done (readNetwork text 3000 3000) _ network read ∙ answered))
+
+-- Yes is said exactly where the sheet holds, and of every sheet that the program prints.
+pub read-back-promise : ReadBackPromise
+read-back-promise =
+    record {
+      exact = said-exactly;
+      printed = λ input from to k network sheet asked e.
+          let answered = printed-answer input from to k network sheet asked e in
+          record { answer = answered; line = line-holds (drop (asked .behind) input) (planText input) network (asked .read) answered };
+    }
