@@ -51,7 +51,29 @@ longest() {
     }'
 }
 
-# spoilt ASK: a network text that departs at each place of its forms, or is refused for another reason, behind the line ASK.
+# The network of the longest sheet, from 999 to 998 with k 32. A band from 0 to 967, each relay linked to the next two; every pair
+# among 968 to 997, each of these linked to 966 and 967 too; and 998 and 999 linked to all of these and to one end of the band. The
+# order is that of the numbers, so routes 1 and 2 go through the whole band, over the even and over the odd relays, and each other
+# one over one of 968 to 997. No relay is left out, so there are as many on the sheet as n - 2 + 2 k allows, and n - 2 + k links.
+# These come last in the file, route by route, so that each index has four digits; with 9,821 bytes no sheet is longer, and what is
+# proved of its length is that it fits into 9,935.
+crowded() {
+    awk 'BEGIN {
+        print "(net (relays 1000) (links 2492))"
+        for (b = 1; b <= 967; b++) print "(link " b - 1 " " b ")"
+        for (b = 968; b <= 997; b++) for (a = 966; a < b; a++) print "(link " a " " b ")"
+        for (odd = 0; odd <= 1; odd++) {
+            print "(link " odd " 999)"
+            for (b = 2 + odd; b <= 967; b += 2) print "(link " b - 2 " " b ")"
+            print "(link " 966 + odd " 998)"
+        }
+        for (a = 968; a <= 997; a++) print "(link " a " 999)\n(link " a " 998)"
+        print "(end)"
+    }'
+}
+
+# spoilt ASK [BEHIND]: a network text that departs at each place of its forms, or is refused for another reason, behind the line
+# ASK. BEHIND is what is written for a byte behind its end, where that is another refusal.
 spoilt() {
     try 'no network' "$1" '(refused 2 0)\n'
     try 'the first word of the header' "$1(nut (relays 5) (links 7))\n" '(refused 2 2)\n'
@@ -68,7 +90,7 @@ spoilt() {
     try 'the end for a link' "$1$one(end)\n" '(refused 2 28)\n'
     try 'the word of the end' "$1$one(link 0 1)\n(and)\n" '(refused 2 39)\n'
     try 'the end of the input for its line end' "$1$one(link 0 1)\n(end)" '(refused 2 43)\n'
-    try 'a byte behind the end' "$1$one(link 0 1)\n(end)\nx" '(refused 2 44)\n'
+    try 'a byte behind the end' "$1$one(link 0 1)\n(end)\nx" "${2:-(refused 2 44)\n}"
 
     try 'no relay' "$1(net (relays 0) (links 0))\n(end)\n" '(refused 3 0)\n'
     try '1,001 relays' "$1(net (relays 1001) (links 0))\n(end)\n" '(refused 3 0)\n'

@@ -1,16 +1,12 @@
-# Says in words what a refusal means and where in the network file to look. Input: the file's bytes as decimal numbers. By the
-# environment: command; number and place of the refusal; file, its name; again, 0 where its bytes cannot be had a second time;
-# typed_FROM, typed_TO, typed_K.
-
-BEGIN { size = 0 }
-{ for (i = 1; i <= NF; i++) byte[size++] = $i + 0 }
+# Says in words what a refusal means and where in the network file to look, with tools/lines.awk in front. Input: the file's bytes as
+# decimal numbers. By the environment: command; number and place of the refusal; file, its name; again, 0 where its bytes cannot be
+# had a second time; typed_FROM, typed_TO, typed_K.
 
 END {
-    number = ENVIRON["number"] + 0
-    place = ENVIRON["place"] + 0
     again = ENVIRON["again"] + 0
     find_lines()
-    if (number == 2) form()
+    find_counts()
+    if (number == 2 || number == 14) form()
     else if (number == 3) header("announces " of(relays, "relay") "; 1 to 1,000 are allowed")
     else if (number == 4) header("announces " of(links, "link") "; 3,000 are the most. Pass the file on to the network planners")
     else if (number >= 5 && number <= 7) link()
@@ -21,46 +17,14 @@ END {
     else refused("docs/DESK.md may tell more")
 }
 
-function say(words) { print ENVIRON["command"] ": " words }
-
-function refused(words) { say("refused (" number "): " words) }
-
-# Where each line starts. The last one has no line end, and may be empty.
-function find_lines(    i, parts) {
-    lines = 1
-    start[1] = 0
-    for (i = 0; i < size; i++) if (byte[i] == 10) start[++lines] = i + 1
+# What line 1 announces, where it is of its form.
+function find_counts(    parts) {
     relays = links = ""
     if (text(1) ~ /^\(net \(relays [0-9]+\) \(links [0-9]+\)\)$/) {
         split(text(1), parts, /[^0-9]+/)
         relays = parts[2] + 0
         links = parts[3] + 0
     }
-}
-
-function ending(line) { return line < lines ? start[line + 1] - 1 : size }
-
-function visible(code) { return code >= 32 && code < 127 ? sprintf("%c", code) : "?" }
-
-# Bytes as text for a terminal.
-function printable(from, to,    i, all) {
-    all = ""
-    for (i = from; i < to; i++) all = all visible(byte[i])
-    return all
-}
-
-# A line's text, or its first 60 bytes.
-function text(line,    last) {
-    last = ending(line)
-    return printable(start[line], last > start[line] + 60 ? start[line] + 60 : last)
-}
-
-# A line of the file, or its first 60 bytes, with a mark under a column: no form departs further along a line than its own length.
-function show(line, column,    pad) {
-    print "    " text(line) (ending(line) > start[line] + 60 ? "..." : "")
-    pad = ""
-    while (length(pad) < column - 1) pad = pad " "
-    print "    " pad "^"
 }
 
 # How many there are of a thing.
@@ -76,50 +40,29 @@ function due(line) {
     return "nothing, since (end) is the last line"
 }
 
+# 2, and 14 where the file goes on behind its end. Where another file stands behind this one, the place may be in that.
 function form(    line, column) {
     if (!again) {
         refused(ENVIRON["file"] " departs from the form of a network file at byte " place ", counted from 0 (its lines cannot be shown)")
         return
     }
-    for (line = lines; start[line] > place;) line--
+    if (place > size) place = size
+    line = line_there()
     column = place - start[line] + 1
     refused(ENVIRON["file"] ", line " line ", column " column ": " cause(line, column))
     show(line, column)
     say("due there: " due(line))
 }
 
-function blank(code) { return code == 32 || code == 9 || code == 13 }
-
-function digit(code) { return code >= 48 && code <= 57 }
-
-# Whether all bytes from here to a line's end are blank.
-function blank_from(at, line) {
-    while (at < ending(line) && blank(byte[at])) at++
-    return at >= ending(line)
-}
-
 # The usual cause of a departure, where one is seen.
-function cause(line, column,    code, before) {
-    if (size == 0) return "the file is empty"
-    if (line == 1 && byte[0] == 239 && byte[1] == 187 && byte[2] == 191) return "the file begins with a byte-order mark; save it without one"
-    if (line == 1 && (byte[0] == 255 && byte[1] == 254 || byte[0] == 254 && byte[1] == 255)) return "the file is in UTF-16; save it as plain text (ASCII or UTF-8)"
+function cause(line, column,    words) {
+    if ((words = file_cause(line)) != "") return words
+    if (ENVIRON["command"] == "verify" && text(1) ~ /^\(sheet /) return "this is a sheet; the network file is named first, the sheet second"
     if (place >= size) return cut_short(line, column)
-    code = byte[place]
-    before = column > 1 ? byte[place - 1] : 0
-    if (code == 13) return "a carriage return; save the file with the line ends of Unix (LF), not of Windows (CR LF)"
-    if (blank_from(start[line], line)) return "a blank line"
-    if (blank(code) && blank_from(place, line)) return "spaces at the end of the line"
-    if (column == 1 && blank(code)) return "spaces at the start of the line"
-    if (code == 9) return "a tab; one space is due between words and numbers"
-    if (code == 32 && before == 32) return "two spaces; one is due between words and numbers"
+    if ((words = blank_cause(line, column)) != "") return words
     if (line > links + 2 && links != "") return "something stands behind the last line"
     if (line > 1 && (text(line) ~ /^\(end/ && line <= links + 1 || text(line) ~ /^\(link / && line == links + 2)) return miscounted()
-    if (digit(code) && before == 48 && !digit(byte[place - 2])) return "a number has a zero in front"
-    if (digit(code) && digit(before)) return "a number has more than four digits"
-    if (code == 10) return "the line ends too early"
-    if (code >= 65 && code <= 90) return "a capital letter; the words have small letters"
-    if (code >= 128) return "a character that no line of a network file has"
-    return "this is not the form that is due"
+    return byte_cause(column, "a network file")
 }
 
 function miscounted(    line, count) {

@@ -1,5 +1,5 @@
-# Sourced by the commands `plan` and `keep`, which set command, program, usage and example: builds the proved program where it is
-# missing or older than its sources, runs it on a line and a network file, and after a refusal says in words where to look.
+# Sourced by the commands `plan`, `keep` and `verify`, which set command, program, usage and example: builds the proved program
+# where it is missing or older than its sources, runs it on a line and files, and after a refusal says in words where to look.
 set -u
 here=$(dirname -- "$(dirname -- "$(readlink -f -- "${BASH_SOURCE[0]}")")")
 binary=$here/target/bin/$program
@@ -106,16 +106,16 @@ build() {
     exec 9>&-
 }
 
-# readable FILE: says what is wrong with a file that cannot be read.
+# readable FILE KIND: says what is wrong with a file of a kind that cannot be read.
 readable() {
     local name
     name=$(safe "$1")
     [ -e "$1" ] || fail "there is no file $name (looked for from $(safe "$PWD"))"
-    [ ! -d "$1" ] || fail "$name is a directory, not a network file"
+    [ ! -d "$1" ] || fail "$name is a directory, not a $2"
     [ -r "$1" ] || fail "the file $name may not be read by you"
 }
 
-# explain NUMBER PLACE FILE: a refusal in words.
+# explain NUMBER PLACE FILE: a refusal that is about a wish or a network file, in words.
 explain() {
     local i why again
     if [ "$1" = 1 ]; then
@@ -128,28 +128,50 @@ explain() {
     again=0
     [ ! -f "$3" ] || again=1
     { [ $again -eq 0 ] || od -An -v -tu1 -N 200000 <"$3"; } |
-        command=$command number=$1 place=$2 file=$(safe "$3") again=$again awk -f "$here/tools/explain.awk" >&2
+        command=$command number=$1 place=$2 file=$(safe "$3") again=$again awk -f "$here/tools/lines.awk" -f "$here/tools/explain.awk" >&2
+}
+
+# feed LINE FILE..: the line, unless it is empty, and the files one behind the other.
+feed() {
+    local file status
+    [ -z "$1" ] || printf '%s\n' "$1"
+    shift
+    for file; do
+        { cat 2>/dev/null; } <"$file" && continue
+        status=$?
+        [ $status -eq 141 ] || say "the file $(safe "$file") cannot be read to its end"
+        exit $status
+    done
+}
+
+# answer LINE FILE..: runs the program on these and leaves what it writes in output.
+answer() {
+    fresh || build
+    output=$(
+        feed "$@" | "$binary"
+        ended=("${PIPESTATUS[@]}")
+        [ "${ended[1]}" -eq 0 ] || fail "the $program could not be run"
+        case ${ended[0]} in 0 | 141) ;; *) exit 2 ;; esac
+        echo .
+    ) || exit 2
+    output=${output%.}
+}
+
+pass_on() {
+    printf '%s' "$output" 2>/dev/null || fail "what the $program wrote could not be passed on"
 }
 
 # launch LINE HEAD FILE: LINE and FILE are the program's input, and HEAD is the first line of what it prints unless it refuses.
 launch() {
-    local output refusal
-    readable "$3"
-    fresh || build
-    output=$(
-        { printf '%s\n' "$1" && cat; } <"$3" 2>/dev/null | "$binary"
-        ended=("${PIPESTATUS[@]}")
-        [ "${ended[1]}" -eq 0 ] || fail "the $program could not be run"
-        case ${ended[0]} in 0 | 141) ;; *) fail "the file $(safe "$3") cannot be read to its end" ;; esac
-        echo .
-    ) || exit 2
-    output=${output%.}
+    local refusal
+    readable "$3" 'network file'
+    answer "$1" "$3"
     case $output in
     "$2"$'\n'*$'\n(end)\n') refusal='' ;;
     '(refused '*')'$'\n') refusal=${output#'(refused '} ;;
     *) fail "what the $program wrote is not whole" ;;
     esac
-    printf '%s' "$output" 2>/dev/null || fail "what the $program wrote could not be passed on"
+    pass_on
     [ -n "$refusal" ] || exit 0
     refusal=${refusal%')'*}
     explain "${refusal% *}" "${refusal#* }" "$3"

@@ -9,9 +9,12 @@ use crate::library::{self, Report};
 use crate::printed::{KEEP, PLAN, Program, keep_input, printed};
 use crate::random::Random;
 use crate::routed::{flowed, routed};
+use crate::sheets::Known;
 use crate::sweep::Wish;
 use crate::table;
 use crate::tally::Tally;
+use crate::variants::at_every_byte;
+use crate::verified::{before_sheets, other_sheets, our_sheet};
 use crate::wishes::{any_wish, line, wish};
 use crate::{forests, text};
 
@@ -145,21 +148,8 @@ fn inputs(random: &mut Random, tally: &mut Tally, program: &Program, (input, lin
         through(random, tally, program, &bad, line, links);
     }
     if input.len() <= 165 {
-        for at in 0..=input.len() {
-            let byte = *random.pick(b"019() \nlnra\0\xff:/");
-            let mut more = input.clone();
-            more.insert(at, byte);
-            let mut variants = vec![input[..at].to_vec(), more];
-            if at < input.len() {
-                let mut less = input.clone();
-                less.remove(at);
-                let mut other = input.clone();
-                other[at] = byte;
-                variants.extend([less, other]);
-            }
-            for variant in variants {
-                through(random, tally, program, &variant, line, links);
-            }
+        for variant in at_every_byte(random, &input) {
+            through(random, tally, program, &variant, line, links);
         }
     }
 }
@@ -179,15 +169,19 @@ pub fn operations(random: &mut Random, tally: &mut Tally, net: &Network, wishes:
     ordered(random, tally, net, any_length);
     if table::check(net.n, &net.lows, &net.highs).is_err() {
         routed(random, tally, net, Wish { k: 2, from: 1, to: 0 }, mostly_enough);
+        before_sheets(random, tally, net);
         return None;
     }
     certified(random, tally, net);
     let numbers = forests::numbers(net.n, &net.lows, &net.highs);
+    let known = Known { net, numbers: &numbers };
     for _ in 0..wishes {
         let wish = wish(random, net, &numbers);
         routed(random, tally, net, wish, mostly_enough);
-        printed(random, tally, &PLAN, &input(net, wish).0, mostly_enough);
+        let sheet = printed(random, tally, &PLAN, &input(net, wish).0, mostly_enough);
+        our_sheet(random, tally, known, &sheet);
     }
+    other_sheets(random, tally, known);
     Some(numbers)
 }
 

@@ -13,11 +13,11 @@ use crate::table::{Refusal, check, pair};
 use crate::text::{read, text, write};
 use crate::{flow, swift, swift_text};
 
-fn net(n: u16, links: &[(u16, u16)]) -> Network {
+pub(crate) fn net(n: u16, links: &[(u16, u16)]) -> Network {
     Network { n, lows: links.iter().map(|link| link.0).collect(), highs: links.iter().map(|link| link.1).collect() }
 }
 
-fn square() -> Network {
+pub(crate) fn square() -> Network {
     net(4, &[(0, 1), (1, 2), (2, 3), (0, 3)])
 }
 
@@ -25,11 +25,11 @@ fn full_four() -> Network {
     net(4, &[(0, 1), (0, 2), (1, 2), (0, 3), (1, 3), (2, 3)])
 }
 
-fn mesh() -> Network {
+pub(crate) fn mesh() -> Network {
     net(5, &[(0, 1), (0, 2), (1, 2), (1, 3), (2, 3), (2, 4), (3, 4)])
 }
 
-fn refused<T>(number: u32, place: usize) -> Result<T, Refusal> {
+pub(crate) fn refused<T>(number: u32, place: usize) -> Result<T, Refusal> {
     Err(Refusal { number, place })
 }
 

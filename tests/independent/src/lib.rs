@@ -1,7 +1,7 @@
 //! Document 01, with the requests of document 02 that have landed, in plain Rust, by a second hand. The slow modules, which the
-//! library is compared with, follow the papers' words, and nothing in them was taken from the proved code or its definitions; `swift`
-//! and `swift_text`, which it is timed beside, have the same results by the methods an ordinary program would use, and of them
-//! `swift::Buckets` is built as the library is.
+//! library is compared with, follow the papers' words, and nothing in them was taken from the proved code or its definitions;
+//! `swift`, `swift_sheet` and `swift_text`, which it is timed beside, have the same results by the methods an ordinary program would
+//! use, and of them `swift::Buckets` is built as the library is.
 
 #[cfg(feature = "library")]
 pub mod against;
@@ -22,13 +22,22 @@ pub mod printed;
 pub mod random;
 #[cfg(feature = "library")]
 pub mod routed;
+pub mod sheet;
+pub mod sheets;
 pub mod sweep;
 pub mod swift;
+pub mod swift_sheet;
 pub mod swift_text;
 pub mod table;
 pub mod tally;
 pub mod text;
+pub mod variants;
+#[cfg(feature = "library")]
+pub mod verified;
+pub mod verify;
 pub mod wishes;
 
 #[cfg(test)]
 mod examples;
+#[cfg(test)]
+mod sheet_examples;

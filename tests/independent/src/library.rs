@@ -75,6 +75,16 @@ unsafe extern "C" {
         highs_length: usize,
         answer: *mut u64,
     ) -> u32;
+    fn nolkisei_verify(
+        n: u16,
+        lows: *const u16,
+        lows_length: usize,
+        highs: *const u16,
+        highs_length: usize,
+        text: *const u8,
+        text_length: usize,
+        answer: *mut u64,
+    ) -> u32;
     fn nolkisei_plan(input: *const u8, _: usize, output: *mut u8, _: usize, answer: *mut u64) -> u32;
     fn nolkisei_keep(input: *const u8, _: usize, output: *mut u8, _: usize, answer: *mut u64) -> u32;
 }
@@ -86,6 +96,12 @@ pub fn pair(a: u16, b: u16) -> Report {
 pub fn read(text: &[u8], lows: &mut [u16], highs: &mut [u16]) -> Report {
     report(|answer| unsafe {
         nolkisei_read(text.as_ptr(), text.len(), lows.as_mut_ptr(), lows.len(), highs.as_mut_ptr(), highs.len(), answer)
+    })
+}
+
+pub fn verify(n: u16, lows: &[u16], highs: &[u16], text: &[u8]) -> Report {
+    report(|answer| unsafe {
+        nolkisei_verify(n, lows.as_ptr(), lows.len(), highs.as_ptr(), highs.len(), text.as_ptr(), text.len(), answer)
     })
 }
 

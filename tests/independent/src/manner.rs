@@ -4,10 +4,11 @@
 use crate::forests::{earlier, ordering, places};
 use crate::generate::Network;
 use crate::sweep::{Wish, sweep};
-use crate::table::{check, known};
+use crate::table::{Refusal, check, known};
+use crate::verify::{Fault, verify};
 use std::cell::RefCell;
 
-/// A manner of answering: an input's of the planner, a refused table's or a sweep's.
+/// A manner of answering: an input's of the planner, a refused table's, a sweep's or a sheet's that is read back.
 #[derive(Clone, Debug, PartialEq, Eq, Hash)]
 pub enum Manner {
     /// The number printed, 0 for a sheet, the line that it is about by its shape, what stands there or k, and two sizes.
@@ -17,12 +18,16 @@ pub enum Manner {
     /// k, the sizes of the network and its highest forest, how many ends one exchange replaced at most, and the sizes of how many
     /// ends were replaced and appended in all.
     Sweep(u16, [u32; 3], u32, [u32; 2]),
+    /// The number, or 0 and the faults; for 14 the ends of the line up to the byte by their shape, and what stands there.
+    Sheet(u32, Vec<Fault>, [Vec<u8>; 2], u8),
 }
 
 impl Manner {
-    /// The class among its like: the number, or how many ends one exchange replaced at most.
+    /// The class among its like: the number, or how many ends one exchange replaced at most, or the first fault, from 100 on.
     pub fn class(&self) -> u32 {
         match self {
+            Manner::Sheet(0, faults, ..) => faults.first().map_or(0, |fault| 100 + *fault as u32),
+            Manner::Sheet(class, ..) => *class,
             Manner::Printed(class, ..) | Manner::Table(class, _) | Manner::Sweep(_, _, class, _) => *class,
         }
     }
@@ -52,6 +57,11 @@ fn found(input: &[u8], place: usize) -> u8 {
     }
 }
 
+/// Where the line begins that has a byte.
+fn line_start(text: &[u8], at: usize) -> usize {
+    text[..at].iter().rposition(|&byte| byte == b'\n').map_or(0, |newline| newline + 1)
+}
+
 /// The lines of a text with their ends.
 fn lines(text: &[u8]) -> Vec<&[u8]> {
     text.split_inclusive(|&byte| byte == b'\n').collect()
@@ -71,7 +81,7 @@ pub fn printed(input: &[u8], sheet: &str) -> Manner {
     match number {
         1 | 2 => {
             let at = if number == 1 { place } else { all[0].len() + place };
-            let start = input[..at].iter().rposition(|&byte| byte == b'\n').map_or(0, |newline| newline + 1);
+            let start = line_start(input, at);
             let before = input[..start].iter().filter(|&&byte| byte == b'\n').count();
             Manner::Printed(number, shape(&input[start..at]), found(input, at), [size(before).min(3), 0])
         }
@@ -84,6 +94,19 @@ pub fn printed(input: &[u8], sheet: &str) -> Manner {
 pub fn refused(net: &Network) -> Option<Manner> {
     let refusal = check(net.n, &net.lows, &net.highs).err()?;
     Some(Manner::Table(refusal.number, [size(refusal.place), size(net.lows.len())]))
+}
+
+/// The manner of a sheet that is read back with a network.
+pub fn read_back(net: &Network, text: &[u8]) -> Manner {
+    match verify(net.n, &net.lows, &net.highs, text) {
+        Ok(faults) => Manner::Sheet(0, faults, [vec![], vec![]], 0),
+        Err(Refusal { number: 14, place }) => {
+            let line = &text[line_start(text, place)..place];
+            let (front, rest) = line.split_at(line.len().min(8));
+            Manner::Sheet(14, vec![], [front, &rest[rest.len().saturating_sub(6)..]].map(shape), found(text, place))
+        }
+        Err(refusal) => Manner::Sheet(refusal.number, vec![], [vec![], vec![]], 0),
+    }
 }
 
 /// What the sweep looks up in an accepted network.

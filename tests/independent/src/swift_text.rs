@@ -5,7 +5,7 @@ use crate::swift::{check, cut, link, no_pairs, routes_with_links};
 use crate::table::{Refusal, plain, refuse, room};
 
 #[inline]
-fn number(text: &[u8], at: &mut usize) -> Result<u16, Refusal> {
+pub fn number(text: &[u8], at: &mut usize) -> Result<u16, Refusal> {
     let digit = |at: usize| text.get(at).map_or(10, |byte| byte.wrapping_sub(b'0'));
     let mut value = u16::from(digit(*at));
     if value > 9 {
@@ -21,7 +21,7 @@ fn number(text: &[u8], at: &mut usize) -> Result<u16, Refusal> {
 }
 
 #[inline]
-fn word(text: &[u8], at: &mut usize, word: &[u8]) -> Result<(), Refusal> {
+pub fn word(text: &[u8], at: &mut usize, word: &[u8]) -> Result<(), Refusal> {
     for &byte in word {
         if text.get(*at) != Some(&byte) {
             return refuse(2, *at);

@@ -1,10 +1,14 @@
-//! What a comparison counts: the answers by operation and code, and the facts that held.
+//! What a comparison counts: the answers by operation and code, the facts that held, and the sheets that were read back by how they
+//! were made and by the one fault that they have.
 
+use crate::sheets::{CHANGES, STILL};
+use crate::verify::Fault;
 use std::collections::BTreeMap;
 use std::fmt::Debug;
 
-/// Every code that an operation can give; of the two that print, the printed numbers and 12.
-const CODES: [(&str, &[u32]); 11] = [
+/// Every code that an operation can give; of the two that print, the printed numbers and 12; of `verify`, 0 for a no and 1 for a
+/// yes.
+const CODES: [(&str, &[u32]); 12] = [
     ("check", &[0, 3, 4, 5, 6, 7]),
     ("pair", &[0, 5, 6]),
     ("read", &[0, 2, 3, 4, 5, 6, 7, 8]),
@@ -16,13 +20,36 @@ const CODES: [(&str, &[u32]); 11] = [
     ("route_links", &[0, 3, 4, 5, 6, 7, 9, 10, 11, 12, 13]),
     ("plan", &[0, 1, 2, 3, 4, 5, 6, 7, 9, 10, 11, 12, 13]),
     ("keep", &[0, 1, 2, 3, 4, 5, 6, 7, 9, 12]),
+    ("verify", &[0, 1, 3, 4, 5, 6, 7, 14, 15]),
 ];
 
-/// How often each operation gave each code, and how often each fact was looked at.
+/// How sheets are made, beside the changes of `sheets`.
+const MADE: [&str; 12] = [
+    "the planner's own",
+    "a refused line",
+    "of the flow program",
+    "two routes, no link in common",
+    "the direct route twice",
+    "there and back",
+    "an empty text",
+    "damaged",
+    "damaged at every byte",
+    "without over lines",
+    "of another network",
+    "behind a bad table",
+];
+
+/// The faults that a sheet can have without another. Equal ends and a relay not below n come with others.
+const ALONE: [Fault; 8] =
+    [Fault::Routes, Fault::Ends, Fault::Twice, Fault::Count, Fault::Link, Fault::SharedRelay, Fault::SharedLink, Fault::Kept];
+
+/// How often each operation gave each code, how often each fact was looked at, and how often there were such sheets.
 #[derive(Default)]
 pub struct Tally {
     codes: BTreeMap<(&'static str, u32), u64>,
     facts: BTreeMap<(&'static str, &'static str), u64>,
+    sheets: BTreeMap<&'static str, u64>,
+    faults: BTreeMap<Fault, u64>,
 }
 
 impl Tally {
@@ -45,7 +72,15 @@ impl Tally {
         assert!(held, "{operation}: {fact}\ninput {input:?}");
     }
 
-    /// One line for each operation and each fact; then the codes never met.
+    /// A sheet that was made so, and its fault if it has one alone.
+    pub fn sheet(&mut self, made: &'static str, alone: Option<Fault>) {
+        *self.sheets.entry(made).or_default() += 1;
+        if let Some(fault) = alone {
+            *self.faults.entry(fault).or_default() += 1;
+        }
+    }
+
+    /// One line for each operation, each fact and each kind of sheet; then the codes and kinds of sheets never met.
     pub fn lines(&self) -> (Vec<String>, Vec<String>) {
         let (mut lines, mut missing) = (vec![], vec![]);
         for (operation, codes) in CODES {
@@ -55,6 +90,13 @@ impl Tally {
             lines.push(format!("{operation:11} {}", list.join(", ")));
         }
         lines.extend(self.facts.iter().map(|((operation, fact), times)| format!("{times:9} {operation}: {fact}")));
+        let changed = STILL.iter().chain(&CHANGES).map(|change| change.0);
+        let made = MADE.into_iter().chain(changed).map(|made| (format!("sheets: {made}"), self.sheets.get(made)));
+        let alone = ALONE.iter().map(|fault| (format!("sheets with one fault: {fault:?}"), self.faults.get(fault)));
+        for (kind, times) in made.chain(alone) {
+            lines.push(format!("{:9} {kind}", times.unwrap_or(&0)));
+            missing.extend(times.is_none().then_some(kind));
+        }
         (lines, missing)
     }
 

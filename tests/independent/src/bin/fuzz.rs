@@ -1,14 +1,19 @@
-//! Changes texts and tables for a time, keeps those that are answered in a new manner and changes them on, and compares the proved
-//! library with the second version on each: Read, the planner and the keeper on texts, every operation on tables.
+//! Changes texts, tables and sheets for a time, keeps those that are answered in a new manner and changes them on, and compares the
+//! proved library with the second version on each: Read, the planner and the keeper on texts, every operation on tables, sheets read
+//! back with their tables.
 //! fuzz [SECONDS [SEED]]: 60 seconds and seed 1 if not given. The same seed tries the same inputs in the same order.
 
 use independent::against::{input, operations, read};
+use independent::forests;
 use independent::generate::{Network, alter, any, damage, mend, scratch};
 use independent::lengths::{any_length, mostly_enough};
 use independent::manner::{self, Lefts, Manner};
 use independent::printed::{KEEP, PLAN, keep_input, printed};
 use independent::random::Random;
+use independent::sheets::{CHANGES, Known, STILL, crossing, direct_twice, flowing, there_and_back};
 use independent::tally::Tally;
+use independent::verified::verified;
+use independent::verify;
 use independent::wishes::{any_wish, wish};
 use std::collections::{BTreeMap, HashSet};
 use std::time::{Duration, Instant};
@@ -45,21 +50,36 @@ struct Fuzz {
     texts: Kept<Vec<u8>>,
     /// By how many ends one exchange of their sweep replaces.
     nets: Kept<Network>,
+    /// By what is said of them, each with its table.
+    sheets: Kept<(Network, Vec<u8>)>,
     known: HashSet<Manner>,
-    tried: [u64; 2],
+    tried: [u64; 3],
+}
+
+/// The forest of each link of a network.
+fn numbers(net: &Network) -> Vec<u16> {
+    forests::numbers(net.n, &net.lows, &net.highs)
+}
+
+/// A sheet of a network to begin with, without a route where none is found.
+fn first_sheet(random: &mut Random, net: &Network) -> Vec<u8> {
+    let make = *random.pick(&[flowing, crossing, direct_twice, there_and_back]);
+    let sheet = make(random, Known { net, numbers: &numbers(net) });
+    sheet.map_or("(sheet (from 0) (to 1) (k 1))\n(kept 0)\n(end)\n".into(), |sheet| sheet.text()).into_bytes()
 }
 
 impl Fuzz {
     fn new(seed: u64) -> Fuzz {
         let mut random = Random::new(seed);
-        let (mut texts, mut nets) = (Kept(BTreeMap::new()), Kept(BTreeMap::new()));
+        let (mut texts, mut nets, mut sheets) = (Kept(BTreeMap::new()), Kept(BTreeMap::new()), Kept(BTreeMap::new()));
         for _ in 0..FIRST {
             let net = any(&mut random, 60);
             let wish = any_wish(&mut random, &net);
             texts.keep(0, input(&net, wish).0);
+            sheets.keep(0, (net.clone(), first_sheet(&mut random, &net)));
             nets.keep(0, net);
         }
-        Fuzz { random, tally: Tally::default(), texts, nets, known: HashSet::new(), tried: [0; 2] }
+        Fuzz { random, tally: Tally::default(), texts, nets, sheets, known: HashSet::new(), tried: [0; 3] }
     }
 
     /// A kept text with some damage, at times a large network's.
@@ -127,12 +147,37 @@ impl Fuzz {
             let class = manner.class();
             if self.known.insert(manner) {
                 let text = input(net, wish).0;
-                printed(&mut self.random, &mut self.tally, &PLAN, &text, mostly_enough);
+                let sheet = printed(&mut self.random, &mut self.tally, &PLAN, &text, mostly_enough);
                 if net.n <= RELAYS && net.lows.len() <= LINKS {
                     self.texts.keep(0, text);
                     self.nets.keep(class, net.clone());
+                    self.sheets.keep(0, (net.clone(), sheet.into_bytes()));
                 }
             }
+        }
+    }
+
+    /// A kept sheet changed by what it says or by its bytes, or with another table, read back.
+    fn sheet(&mut self) {
+        let random = &mut self.random;
+        let (mut net, mut text) = self.sheets.pick(random).clone();
+        match (random.below(8), verify::read(&text)) {
+            (0, _) => alter(random, &mut net),
+            (1, _) => damage(random, &mut net),
+            (2..=4, Ok(mut sheet)) if !sheet.routes.is_empty() => {
+                let changes = if random.once_in(3) { &STILL[..] } else { &CHANGES };
+                let (_, change) = *random.pick(changes);
+                change(random, Known { net: &net, numbers: &numbers(&net) }, &mut sheet);
+                text = sheet.text().into_bytes();
+            }
+            _ => (0..random.within(1, 3)).for_each(|_| scratch(random, &mut text)),
+        }
+        self.tried[2] += 1;
+        verified(&mut self.tally, "changed on and on", &net, &text);
+        let manner = manner::read_back(&net, &text);
+        let (class, accepted) = (manner.class(), manner::refused(&net).is_none());
+        if self.known.insert(manner) && accepted && text.len() <= LONGEST {
+            self.sheets.keep(class, (net, text));
         }
     }
 }
@@ -145,16 +190,19 @@ fn main() {
     let start = Instant::now();
     while start.elapsed() < Duration::from_secs(seconds) {
         (0..10).for_each(|_| fuzz.text());
+        (0..5).for_each(|_| fuzz.sheet());
         fuzz.table();
     }
     fuzz.tally.lines().0.iter().for_each(|line| println!("{line}"));
-    let [texts, tables] = fuzz.tried;
+    let [texts, tables, sheets] = fuzz.tried;
     println!(
-        "{seconds} s from seed {seed}: {texts} texts and {tables} tables tried, {} manners of answering met, {} texts and {} tables kept;\n\
+        "{seconds} s from seed {seed}: {texts} texts, {tables} tables and {sheets} sheets tried, {} manners of answering met, \
+         {} texts, {} tables and {} sheets kept;\n\
          {} answers with their lists compared, 0 differ",
         fuzz.known.len(),
         fuzz.texts.count() - FIRST,
         fuzz.nets.count() - FIRST,
+        fuzz.sheets.count() - FIRST,
         fuzz.tally.compared()
     );
 }

@@ -6,7 +6,7 @@ use independent::generate::Network;
 use independent::library;
 use independent::random::Random;
 use independent::sweep::Wish;
-use independent::{against, swift, swift_text, text};
+use independent::{against, swift, swift_sheet, swift_text, text};
 use std::collections::HashSet;
 use std::hint::black_box;
 
@@ -117,6 +117,20 @@ fn planned(measure: &mut dyn Measure, kind: &'static str, net: &Network, wish: W
     );
 }
 
+/// The planner's sheet for a wish, read back.
+fn read_back(measure: &mut dyn Measure, kind: &'static str, net: &Network, wish: Wish) {
+    let Network { n, lows, highs } = net;
+    let sheet = swift_text::plan(&against::input(net, wish).0);
+    assert_eq!(library::verify(*n, lows, highs, &sheet).answer[0], 1);
+    assert_eq!(swift_sheet::verify(*n, lows, highs, &sheet), Ok(true));
+    measure.row(
+        kind,
+        net,
+        &format!("verify, k {}", wish.k),
+        &mut [&mut || run(library::verify(*n, lows, highs, &sheet)), &mut || run(swift_sheet::verify(*n, lows, highs, &sheet))],
+    );
+}
+
 fn linked(measure: &mut dyn Measure, kind: &'static str, net: &Network, wish: Wish) {
     let Network { n, lows, highs } = net;
     let Wish { k, from, to } = wish;
@@ -159,6 +173,9 @@ fn routes(measure: &mut dyn Measure, kind: &'static str, net: &Network) {
         if k == 2 {
             linked(measure, kind, net, wish);
             planned(measure, kind, net, wish);
+        }
+        if k == 2 || k == 32 {
+            read_back(measure, kind, net, wish);
         }
     }
 }

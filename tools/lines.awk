@@ -1,0 +1,96 @@
+# The lines of a file for the scripts that explain a refusal: its bytes, the usual causes of a departure, and showing a line.
+# Input: the file's bytes as decimal numbers. By the environment: command; number and place of the refusal.
+
+BEGIN {
+    size = 0
+    number = ENVIRON["number"] + 0
+    place = ENVIRON["place"] + 0
+}
+{ for (i = 1; i <= NF; i++) byte[size++] = $i + 0 }
+
+function say(words) { print ENVIRON["command"] ": " words }
+
+function refused(words) { say("refused (" number "): " words) }
+
+# Where each line starts. The last one has no line end, and may be empty.
+function find_lines(    i) {
+    lines = 1
+    start[1] = 0
+    for (i = 0; i < size; i++) if (byte[i] == 10) start[++lines] = i + 1
+}
+
+function ending(line) { return line < lines ? start[line + 1] - 1 : size }
+
+# The line that the place is in.
+function line_there(    line) {
+    for (line = lines; start[line] > place;) line--
+    return line
+}
+
+function visible(code) { return code >= 32 && code < 127 ? sprintf("%c", code) : "?" }
+
+# Bytes as text for a terminal.
+function printable(from, to,    i, all) {
+    all = ""
+    for (i = from; i < to; i++) all = all visible(byte[i])
+    return all
+}
+
+# A line's text, or its first 60 bytes.
+function text(line,    last) {
+    last = ending(line)
+    return printable(start[line], last > start[line] + 60 ? start[line] + 60 : last)
+}
+
+# A line of the file with a mark under a column: its first 60 bytes, or 60 about the column where that is further along.
+function show(line, column,    first, last, front, pad) {
+    first = start[line] + (column > 55 ? column - 41 : 0)
+    last = ending(line) > first + 60 ? first + 60 : ending(line)
+    front = first > start[line] ? "..." : ""
+    print "    " front printable(first, last) (ending(line) > last ? "..." : "")
+    pad = ""
+    while (length(pad) < length(front) + start[line] + column - 1 - first) pad = pad " "
+    print "    " pad "^"
+}
+
+function blank(code) { return code == 32 || code == 9 || code == 13 }
+
+function digit(code) { return code >= 48 && code <= 57 }
+
+# Whether all bytes from here to a line's end are blank.
+function blank_from(at, line) {
+    while (at < ending(line) && blank(byte[at])) at++
+    return at >= ending(line)
+}
+
+# A cause that is the whole file's, where one is seen.
+function file_cause(line) {
+    if (size == 0) return "the file is empty"
+    if (line == 1 && byte[0] == 239 && byte[1] == 187 && byte[2] == 191) return "the file begins with a byte-order mark; save it without one"
+    if (line == 1 && (byte[0] == 255 && byte[1] == 254 || byte[0] == 254 && byte[1] == 255)) return "the file is in UTF-16; save it as plain text (ASCII or UTF-8)"
+    return ""
+}
+
+# A cause that is a blank, where one is seen.
+function blank_cause(line, column,    code) {
+    code = byte[place]
+    if (code == 13) return "a carriage return; save the file with the line ends of Unix (LF), not of Windows (CR LF)"
+    if (blank_from(start[line], line)) return "a blank line"
+    if (blank(code) && blank_from(place, line)) return "spaces at the end of the line"
+    if (column == 1 && blank(code)) return "spaces at the start of the line"
+    if (code == 9) return "a tab; one space is due between words and numbers"
+    if (code == 32 && column > 1 && byte[place - 1] == 32) return "two spaces; one is due between words and numbers"
+    return ""
+}
+
+# The cause that is the byte there in a file of a kind.
+function byte_cause(column, kind,    code, before) {
+    code = byte[place]
+    before = column > 1 ? byte[place - 1] : 0
+    if (digit(code) && before == 48 && !digit(byte[place - 2])) return "a number has a zero in front"
+    if (digit(code) && digit(before)) return "a number has more than four digits"
+    if (code == 10) return "the line ends too early"
+    if (code >= 65 && code <= 90) return "a capital letter; the words have small letters"
+    if (code >= 128) return "a character that no line of " kind " has"
+    return "this is not the form that is due"
+}
