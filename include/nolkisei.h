@@ -1,4 +1,5 @@
-/* Nolkisei for C on x86-64 Linux: plans routes over a network of relays, and says which of its links are worth keeping.
+/* Nolkisei for C on x86-64 Linux: plans routes over a network of relays, says which of its links are worth keeping, and whether a
+ * sheet of routes holds.
  * Link libnolkisei.a (rt staticlib nolkisei); it needs memset alone of libc, allocates nothing and keeps nothing between calls.
  *
  * A network has n relays, numbered from 0, and m links, each between two different relays and no two between the same. A table
@@ -61,7 +62,7 @@ extern "C" {
 #define NOLKISEI_STACK 262144
 
 /* What a function returns: 0 when it is done, or the number of its refusal. It writes both entries of `answer`: after a refusal its
- * place in the input (the byte offset for 2, the link's index for 5 to 7, 0 for a pair, else 0) and 0; done, the values named with
+ * place in the input (the byte offset for 2 and 14, the link's index for 5 to 7, 0 for a pair, else 0) and 0; done, the values named with
  * the function, and 0 for what is not named.
  * 'Unchanged' below means every entry of the list. After any other refusal than those named a list is unchanged. */
 enum nolkisei_refusal {
@@ -78,7 +79,9 @@ enum nolkisei_refusal {
     NOLKISEI_END_RANGE = 10,   /* `from` or `to` is not below n */
     NOLKISEI_SAME_ENDS = 11,   /* `from` and `to` are equal */
     NOLKISEI_ROOM = 12,        /* a lent list is too short */
-    NOLKISEI_NOT_ONE_TREE = 13 /* the two relays are not in one tree of forest k */
+    NOLKISEI_NOT_ONE_TREE = 13, /* the two relays are not in one tree of forest k */
+    NOLKISEI_SHEET_FORM = 14,  /* a sheet's text departs from its form */
+    NOLKISEI_SHEET_COUNT = 15  /* a sheet's k is not 1 to 32 */
 };
 
 /* The table check: 3, 4, 5, 6, 7. All functions below that take a table begin with it. */
@@ -133,6 +136,22 @@ uint32_t nolkisei_route_links(uint16_t n, const uint16_t *lows, size_t lows_leng
                               uint16_t k, uint16_t from, uint16_t to, uint16_t *counts, size_t counts_length, uint16_t *relays,
                               size_t relays_length, uint16_t *links, size_t links_length, uint16_t *scratch,
                               size_t scratch_length, uint64_t answer[2]);
+
+/* Reads a sheet back with its network: the table check, then 14 over the whole text, then 15. answer: 1 where the sheet holds, 0 where
+ * it does not. No list is lent. A sheet's text, whoever made it, may have any length, and any number of routes, each with its two
+ * lines, one with two relays or more and one with one index or more:
+ *
+ *    (sheet (from FROM) (to TO) (k K))
+ *    (route RELAY RELAY ..)
+ *    (over INDEX ..)
+ *    (kept COUNT)
+ *    (end)                          and nothing behind it
+ *
+ * It holds exactly if there are K routes, each from FROM to TO along links of the network and with no relay twice, its indices are
+ * those of its links in turn, no two routes share a link or a relay but the ends, and COUNT is what a cut down to K keeps. A relay or
+ * an index that the network does not have makes it 0, and so does FROM equal to TO. */
+uint32_t nolkisei_verify(uint16_t n, const uint16_t *lows, size_t lows_length, const uint16_t *highs, size_t highs_length,
+                         const uint8_t *text, size_t text_length, uint64_t answer[2]);
 
 /* The two programs. Their input is a line that asks, and behind it a network's text; what they print goes to the output. The return
  * value is 0 with the number of bytes printed as answer, which stand at the output's start, and the rest of it is unchanged; or 12

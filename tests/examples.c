@@ -126,6 +126,24 @@ static void programs(void) {
     prints("k 33", nolkisei_keep, "(keep 33)\n", "(refused 9 0)\n");
 }
 
+/* What is said of a sheet for the mesh. */
+static uint32_t verify(const char *sheet) {
+    return nolkisei_verify(5, TABLE(mesh), (const uint8_t *)sheet, strlen(sheet), answer);
+}
+
+static void sheets(void) {
+    is("P6 read back", verify("(sheet (from 4) (to 1) (k 2))\n(route 4 3 1)\n(over 6 3)\n(route 4 2 1)\n(over 5 2)\n(kept 7)\n(end)\n"), 0);
+    is("P6 holds", answer[0], 1);
+    is("circuits exchanged",
+       verify("(sheet (from 4) (to 1) (k 2))\n(route 4 3 1)\n(over 3 6)\n(route 4 2 1)\n(over 5 2)\n(kept 7)\n(end)\n"), 0);
+    is("circuits exchanged: fails", answer[0], 0);
+    is("no circuits", verify("(sheet (from 4) (to 1) (k 1))\n(route 4 2 1)\n(kept 4)\n(end)\n"), NOLKISEI_SHEET_FORM);
+    is("no circuits at", answer[0], 45);
+    is("k 33 on a sheet", verify("(sheet (from 4) (to 1) (k 33))\n(kept 4)\n(end)\n"), NOLKISEI_SHEET_COUNT);
+    is("no sheet", verify(""), NOLKISEI_SHEET_FORM);
+    is("no sheet at", answer[0], 0);
+}
+
 static void others(void) {
     is("n 0", nolkisei_check(0, none, 0, none, 0, answer), 3);
     is("n 1,001", nolkisei_check(1001, none, 0, none, 0, answer), 3);
@@ -145,6 +163,7 @@ int main(void) {
     marked();
     with_links();
     programs();
+    sheets();
     others();
     printf("document 01's examples through the C header: %s\n", failed ? "some differ" : "as printed");
     return failed != 0;

@@ -13,9 +13,9 @@
 
 typedef struct {
     uint16_t n, k, from, to;
-    size_t m, length;
+    size_t m, length, sheet_length;
     uint16_t lows[NOLKISEI_LINKS], highs[NOLKISEI_LINKS];
-    uint8_t text[NOLKISEI_TEXT];
+    uint8_t text[NOLKISEI_TEXT], sheet[NOLKISEI_SHEET];
 } network;
 
 static network large, small;
@@ -74,6 +74,10 @@ static void keep(const network *net) {
     returned = nolkisei_keep(input, length, LENT(output), answer);
 }
 
+static void verify(const network *net) {
+    returned = nolkisei_verify(TABLE, net->sheet, net->sheet_length, answer);
+}
+
 /* A path over the relays 100 to `path`, and every pair among the last `core` relays. */
 static void make(network *net, uint16_t n, uint16_t path, uint16_t core, uint16_t k) {
     net->n = n, net->k = k, net->from = n - 1, net->to = n - 2, net->m = 0;
@@ -87,6 +91,9 @@ static void make(network *net, uint16_t n, uint16_t path, uint16_t core, uint16_
     }
     nolkisei_write(net->n, net->lows, net->m, net->highs, net->m, LENT(net->text), answer);
     net->length = answer[0];
+    plan(net);
+    net->sheet_length = answer[0];
+    memcpy(net->sheet, output, net->sheet_length);
 }
 
 enum { SIZE = 4 << 20, FILL = 0xa5 };
@@ -126,7 +133,7 @@ int main(void) {
         void (*call)(const network *);
     } calls[] = {{"check", check}, {"pair", pair},   {"read", read_text}, {"write", write_text},       {"order", order},
                  {"split", split}, {"cut", cut},     {"route", route},    {"route_links", route_links}, {"plan", plan},
-                 {"keep", keep}};
+                 {"keep", keep},   {"verify", verify}};
     int failed = 0;
     make(&large, 1000, 174, 77, 32);
     make(&small, 28, 0, 28, 27);

@@ -1,6 +1,7 @@
 // The verifier: reads a network text and behind it a sheet's text from standard input and prints whether the sheet holds, or the
 // refusal. An input that is longer than the room gets no line: what is said of a sheet rests on its last byte too.
 ghost use mathlib.Core.Bool.{true};
+ghost use mathlib.Core.Path.{_≡_};
 ghost use Rattle.definitions.specs.Verify.{verifyText};
 ghost use Rattle.input.specs.Whole.{Answered};
 use libc::STDERR_FILENO;
@@ -13,18 +14,20 @@ fn room() -> [u8; ROOM] {
     [0u8; ROOM]
 }
 
-// Hands the line to the write call: it is that of every input that is just the bytes read.
-fn hand_over(bytes: &[u8], line: &[u8])
-    requires { ⌜ Answered verifyText (now bytes) true (now line) ⌝ }
+// Hands the line to the write call: it is that of every input that begins with the bytes read, and is just these if it ended.
+fn hand_over(bytes: &[u8], ended: bool, line: &[u8])
+    requires { ⌜ Answered verifyText (now bytes) ended (now line) ⌝ }
 {
     io::write_all(STDOUT_FILENO, line);
 }
 
 // Answers an input that was read to its end.
-fn answer(bytes: &[u8]) {
+fn answer(bytes: &[u8], ended: bool)
+    requires { ⌜ ended ≡ true ⌝ }
+{
     let mut output = sheet_check::line::output();
     let size = sheet_check::line::verify(bytes, &mut output);
-    hand_over(bytes, &output[..size]);
+    hand_over(bytes, ended, &output[..size]);
 }
 
 fn main() {
@@ -42,5 +45,5 @@ fn main() {
         return;
     }
     let count = arrived.count;
-    answer(&buffer[..count]);
+    answer(&buffer[..count], arrived.ended);
 }

@@ -1,5 +1,5 @@
 -- `verifier::answer` meets its contract: what is handed over is the front of the output that `verify` filled. Assumes nothing.
-use mathlib.Core.Path.{refl, sym, _∙_, ap}
+use mathlib.Core.Path.{sym, _∙_, ap}
 use lib.Seq.{length-take-le}
 use Rattle.definitions.specs.Verify.{verifyText}
 use Rattle.sheet.specs.Front.{front-within, front-is}
@@ -23,7 +23,8 @@ slice-aggregate-hand-over c =
 hand-over-requires : tie.Need-hand-over-requires
 hand-over-requires c κs =
     let atVerify = c .before in
-    λ whole given. front-is _ _ _ _ (atVerify .verify .ensures .0) (atVerify .verify .ensures .1) ∙ ap verifyText (sym (given .all refl))
+    let start = atVerify .before .before .before .before in
+    λ whole given. front-is _ _ _ _ (atVerify .verify .ensures .0) (atVerify .verify .ensures .1) ∙ ap verifyText (sym (given .all (start .pre)))
 
 returns : tie.Need-returns
 returns c = search needs
