@@ -3,13 +3,13 @@ use Prim.Native.Nat.{ℕ, zero, suc, _+_, _≤_, _<_}
 use mathlib.Core.Bool.{Bool, true, false, _&&_}
 use mathlib.Core.List.{List, [], _∷_, _++_, append-nil}
 use mathlib.Core.Logic.{_⊎_, inl, inr}
-use mathlib.Core.Path.{_≡_, refl, sym, _∙_, ap, subst}
+use mathlib.Core.Path.{_≡_, sym, _∙_, ap, subst}
 use native.Mathlib.Omega.{arith}
 use lib.Dec.{eqb, ltb}
-use lib.ListN.{length, getD, length-replicate}
+use lib.ListN.{length, length-replicate}
 use lib.Seq.{append-snoc}
 use borrow.Author.Tests.{le-ltb, eq-eqb, ne-eqb}
-use Rattle.definitions.specs.Outcome.{pick, Outcome, refused, done, refuseIf, andThen}
+use Rattle.definitions.specs.Outcome.{pick, refused, done, refuseIf, andThen}
 use Rattle.definitions.specs.Lists.{outside, count, total}
 use Rattle.definitions.specs.Network.{tableCheck, Accepted}
 use Rattle.definitions.specs.Forests.{marksOf, cutAnswer}

@@ -5,12 +5,11 @@ use mathlib.Core.List.{List}
 use mathlib.Core.Path.{_≡_, refl, sym, _∙_, ap, fun-ext}
 use native.Mathlib.Omega.{arith}
 use lib.Dec.{eqb, ltb}
-use lib.ListN.{length, getD, replicate, length-replicate, List·getD-eq-default}
+use lib.ListN.{length, replicate, length-replicate, List·getD-eq-default}
 use borrow.Author.Tests.{ltb-true, ltb-false, lt-ltb, le-ltb, eq-eqb, ne-eqb}
-use Rattle.definitions.specs.Outcome.{pick}
 use Rattle.definitions.specs.Network.{joins}
 use Rattle.definitions.specs.SheetTest.{alsoMet, stepHolds, metAt}
-use Rattle.lists.specs.Bitmap.{bitOf, marked, mark, marked-mark, marked-none, no-bit, length-mark}
+use Rattle.lists.specs.Bitmap.{marked, mark, marked-mark, marked-none, no-bit, length-mark}
 use Rattle.lists.specs.Tests.{eqb-sym}
 use Rattle.sheet_check.specs.Walks.{MarkRoom, Stepped}
 

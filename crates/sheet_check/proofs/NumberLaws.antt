@@ -1,16 +1,16 @@
 -- The numbers of a route's two lines from an offset on, which the walk reads one by one, are those that the form gave.
 -- Assumes nothing.
-use Prim.Native.Nat.{ℕ, zero, suc, _+_, _-_, _≤_, _<_}
+use Prim.Native.Nat.{ℕ, zero, suc, _+_}
 use mathlib.Core.Bool.{Bool, true, false}
-use mathlib.Core.List.{List, [], _∷_, _++_, append-nil, append-assoc}
-use mathlib.Core.Path.{_≡_, refl, sym, _∙_, ap, ap₂}
+use mathlib.Core.List.{List, [], _∷_, _++_, append-nil}
+use mathlib.Core.Path.{_≡_, refl, sym, _∙_, ap}
 use native.Mathlib.Omega.{arith}
 use lib.Dec.{eqb}
 use lib.ListN.{length}
 use Rattle.definitions.specs.Outcome.{pick}
-use Rattle.definitions.specs.Form.{bytes, word, numeral, Scan, departs, reads, byteAt, scanWord, scanNumber, scanItem, withFront, following, scanForm}
+use Rattle.definitions.specs.Form.{bytes, word, Scan, departs, reads, byteAt, scanWord, scanNumber, scanItem, following, scanForm}
 use Rattle.definitions.specs.SheetForm.{routeFront, overFront, lineEnd, scanMore, scanNumbers}
-use Rattle.text_theory.specs.Forms.{Followed, following-reads}
+use Rattle.text_theory.specs.Forms.{following-reads}
 use Rattle.text.specs.ItemByItem.{form-word, word-number-departs, word-number-reads}
 use Rattle.sheet_check.specs.Offsets.{after, behind}
 use Rattle.sheet_check.specs.Walks.{spacedNumber, readThen, numbersAt, NoNumber, ANumber}

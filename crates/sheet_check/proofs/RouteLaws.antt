@@ -2,7 +2,7 @@
 use Prim.Native.Nat.{ℕ, suc, _-_, _<_}
 use mathlib.Core.Bool.{Bool, true, false, _&&_, _||_, not}
 use mathlib.Core.List.{List, [], _∷_}
-use mathlib.Core.Path.{_≡_, refl, sym, _∙_, ap, subst}
+use mathlib.Core.Path.{_≡_, sym, _∙_, ap, subst}
 use native.Mathlib.Omega.{arith}
 use lib.Dec.{eqb}
 use lib.ListN.{length}
@@ -14,7 +14,7 @@ use Rattle.definitions.specs.SheetTest.{Walk, walk, walkRoute, goodSteps, route
 use Rattle.lists.specs.Bitmap.{marked}
 use Rattle.lists.specs.Tests.{and-both}
 use Rattle.sheet_check.specs.Offsets.{after, twoLines}
-use Rattle.sheet_check.specs.Walks.{MarkRoom, Walked, RouteWalked, LinesAt, numbersAt, walkFrom}
+use Rattle.sheet_check.specs.Walks.{MarkRoom, Walked, RouteWalked, LinesAt, walkFrom}
 use Rattle.sheet_check.proofs.FormLaws.{firstRelay}
 use Rattle.sheet_check.proofs.NumberLaws.{route-numbers, route-reads-first, over-numbers, over-reads-first}
 use Rattle.sheet_check.proofs.WalkLaws.{walk-failed}

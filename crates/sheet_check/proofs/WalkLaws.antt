@@ -1,17 +1,15 @@
 -- A walk turn by turn, in the terms of the code, and the routes one after another. Assumes nothing.
-use Prim.Native.Nat.{ℕ, zero, suc, _+_, _-_, _≤_, _<_}
-use mathlib.Core.Bool.{Bool, true, false, _&&_, _||_, not}
-use mathlib.Core.List.{List, [], _∷_}
+use Prim.Native.Nat.{ℕ, suc, _+_, _-_, _≤_, _<_}
+use mathlib.Core.Bool.{Bool, true, false}
+use mathlib.Core.List.{List, []}
 use mathlib.Core.Logic.{_⊎_, inl, inr}
-use mathlib.Core.Path.{_≡_, refl, sym, _∙_, ap, ap₂}
+use mathlib.Core.Path.{_≡_, sym, _∙_, ap}
 use native.Mathlib.Numerals.{add-one}
 use native.Mathlib.Omega.{arith}
 use lib.Dec.{eqb}
 use lib.ListN.{length}
 use Rattle.definitions.specs.Outcome.{pick}
-use Rattle.definitions.specs.Form.{bytes, reads, scanWord, scanForm}
-use Rattle.definitions.specs.SheetForm.{routeFront, overFront, scanNumbers}
-use Rattle.definitions.specs.SheetTest.{stepHolds, metAt, Walk, walk, walkRoute, goodSteps, routesHold}
+use Rattle.definitions.specs.SheetTest.{stepHolds, metAt, Walk, walk}
 use Rattle.lists.specs.Bitmap.{marked}
 use Rattle.sheet_check.specs.Walks.{NoNumber, ANumber, SomeNumber, MarkRoom, Walked, numbersAt, walkFrom}
 use Rattle.sheet_check.proofs.NumberLaws.{none-at, one-at, at-none}

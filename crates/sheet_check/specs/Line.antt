@@ -3,7 +3,7 @@ use Prim.Native.Nat.{ℕ, _≤_}
 use mathlib.Core.List.{List}
 use lib.ListN.{length}
 use Rattle.definitions.specs.Outcome.{Answer, andThen}
-use Rattle.definitions.specs.Text.{Network, readNetwork}
+use Rattle.definitions.specs.Text.{readNetwork}
 use Rattle.definitions.specs.SheetTest.{sheetAnswer}
 use Rattle.text.specs.Put.{Put}
 

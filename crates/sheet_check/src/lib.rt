@@ -1,9 +1,7 @@
 // Sheets read back: whether a sheet, whoever made it, holds for a network.
-ghost use mathlib.Core.List.{List};
 ghost use mathlib.Core.Path.{_≡_};
 ghost use Prim.Native.Nat.{_≤_};
 ghost use lib.Dec.{eqb};
-ghost use lib.ListN.{length};
 ghost use Rattle.definitions.specs.Forests.{marksOf};
 ghost use Rattle.definitions.specs.Lists.{count};
 ghost use Rattle.definitions.specs.Network.{Accepted};

@@ -2,14 +2,13 @@
 // number that a relay can have.
 ghost use mathlib.Core.Bool.{_&&_, _||_, not, false};
 ghost use mathlib.Core.Path.{_≡_};
-ghost use Prim.Native.Nat.{_≤_};
 ghost use lib.Dec.{eqb, ltb};
 ghost use lib.ListN.{length, replicate};
 ghost use Rattle.definitions.specs.Network.{joins};
 ghost use Rattle.definitions.specs.Outcome.{pick};
-ghost use Rattle.definitions.specs.SheetTest.{goodSteps, routesHold};
+ghost use Rattle.definitions.specs.SheetTest.{goodSteps};
 ghost use Rattle.lists.specs.Bitmap.{marked, mark};
-ghost use Rattle.sheet_check.specs.Walks.{NextHolds, MarkRoom, Stepped, Walked, RouteWalked, RoutesWalked, numbersAt, walkFrom};
+ghost use Rattle.sheet_check.specs.Walks.{NextHolds, MarkRoom, Stepped, Walked, RouteWalked, RoutesWalked, walkFrom};
 use crate::form::TwoLines;
 use crate::form::two_lines;
 use text::scan;

@@ -1,5 +1,4 @@
 -- `sheet_check::walk::direct_with` meets its contract. Assumes nothing.
-use mathlib.Core.Bool.{_||_}
 use mathlib.Core.Path.{sym}
 use borrow.Author.Needs.{needs}
 use Rattle.sheet_check.proofs.walk.direct_with.Statement.{statement}

@@ -1,7 +1,5 @@
 -- `sheet_check::walk::is_pair` meets its contract. Assumes nothing.
-use mathlib.Core.Bool.{_&&_}
 use mathlib.Core.Path.{sym}
-use lib.Dec.{eqb}
 use borrow.Author.Tests.{eq-eqb, ne-eqb}
 use Rattle.sheet_check.proofs.walk.is_pair.Statement.{statement}
 use Rattle.sheet_check.proofs.walk.is_pair.Tie as tie
