@@ -1,6 +1,6 @@
 // The routes of a sheet whose form is kept, walked relay by relay and link by link. The relays met so far are marked, a bit for each
 // number that a relay can have.
-ghost use mathlib.Core.Bool.{_&&_, _||_, not, false};
+ghost use mathlib.Core.Bool.{_&&_, _||_, not};
 ghost use mathlib.Core.Path.{_≡_};
 ghost use lib.Dec.{eqb, ltb};
 ghost use lib.ListN.{length, replicate};
