@@ -100,7 +100,7 @@ digits-never-depart text x p (suc more) q e =
     go false e hyp = hyp e
 
 -- A number departs at its first byte or not at all.
-number-departs-first : (text : List ℕ) (p q : ℕ) → scanNumber text p ≡ departs q → p ≡ q
+pub number-departs-first : (text : List ℕ) (p q : ℕ) → scanNumber text p ≡ departs q → p ≡ q
 unfolding scanNumber
 number-departs-first text p q e = go (eqb (byteAt text p) 48) (outside 49 57 (byteAt text p)) e
   where
@@ -150,7 +150,8 @@ begun-later text p at q first whole stands begun =
       joined = append-assoc first (begun .part) (begun .rest) ∙ ap (λ (l : List ℕ). first ++ l) (begun .joined);
     }
 
-with-front-departs : (front : List ℕ) (scan : Scan) (q : ℕ) → withFront front scan ≡ departs q → scan ≡ departs q
+-- Numbers before a reading do not change where it departs.
+pub with-front-departs : (front : List ℕ) (scan : Scan) (q : ℕ) → withFront front scan ≡ departs q → scan ≡ departs q
 unfolding withFront
 with-front-departs front (departs p) q e = e
 with-front-departs front (reads values p) q e = let z : _≡_ {A = ℕ} 0 1 = cc in absurd (omega arith)

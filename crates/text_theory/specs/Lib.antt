@@ -21,3 +21,7 @@ pub mod NumberLines
 pub mod SheetRoundTrip
 pub mod SheetWritten
 pub mod NetworkFront
+pub mod SheetLooks
+pub mod LineBegun
+pub mod SheetBegun
+pub mod RefusalFourteen

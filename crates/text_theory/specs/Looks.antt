@@ -35,7 +35,7 @@ abbrev pub Alike : List ℕ → List ℕ → ℕ → Type 0
 Alike text other q = (i : ℕ) → i ≤ q → byteAt other i ≡ byteAt text i
 
 -- From p on a reading of the text gives `scan`, at p or behind it, and so it does of every text that is alike up to there.
-abbrev Looks : (text : List ℕ) (p : ℕ) (reading : List ℕ → Scan) (scan : Scan) → Type 0
+abbrev pub Looks : (text : List ℕ) (p : ℕ) (reading : List ℕ → Scan) (scan : Scan) → Type 0
 Looks text p reading scan =
     (p ≤ offset scan) × ((other : List ℕ) → Alike text other (offset scan) → reading other ≡ scan)
 
@@ -67,7 +67,8 @@ digits-looks text x p (suc more) =
     go false test after =
         (omega arith, λ other alike. rw (alike p (omega arith), test) (after .1 other alike))
 
-number-looks : (text : List ℕ) (p : ℕ) → Looks text p (λ t. scanNumber t p) (scanNumber text p)
+-- A number looks at no byte behind the offset that it gives.
+pub number-looks : (text : List ℕ) (p : ℕ) → Looks text p (λ t. scanNumber t p) (scanNumber text p)
 unfolding scanNumber
 number-looks text p =
     go (eqb (byteAt text p) 48) refl (outside 49 57 (byteAt text p)) refl (digits-looks text (byteAt text p - 48) (p + 1) 3)
@@ -88,7 +89,8 @@ unfolding scanItem
 item-looks text (word w) p = word-looks text w p
 item-looks text numeral p = number-looks text p
 
-offset-front : (front : List ℕ) (scan : Scan) → offset (withFront front scan) ≡ offset scan
+-- Numbers before a reading do not change its offset.
+pub offset-front : (front : List ℕ) (scan : Scan) → offset (withFront front scan) ≡ offset scan
 unfolding withFront
 offset-front front (departs q) = refl
 offset-front front (reads values q) = refl

@@ -70,7 +70,7 @@ more-read (x ∷ numbers) text p q (suc most) small few stops part =
     )
 
 -- Numbers that were read behind spaces stand there so.
-read-more : (most : ℕ) (text : List ℕ) (p : ℕ) (values : List ℕ) (q : ℕ) → p ≤ length text
+pub read-more : (most : ℕ) (text : List ℕ) (p : ℕ) (values : List ℕ) (q : ℕ) → p ≤ length text
     → scanMore text p most ≡ reads values q → AllBelow 10000 values × Part text p (spaced values) q
 unfolding scanMore spaced byteAt
 read-more zero text p values q within e =
@@ -100,10 +100,11 @@ read-more (suc most) text p values q within e =
         rw none (tt, rw (← same) (part-empty text p within))
 
 -- A front with its numbers, more numbers behind it, and the end of the line.
-unfoldable lineFrom : (front : List Item) (values rest : List ℕ) → List ℕ
+unfoldable pub lineFrom : (front : List Item) (values rest : List ℕ) → List ℕ
 lineFrom front values rest = writeForm front values ++ (spaced rest ++ writeForm lineEnd [])
 
-end-of-line : Line lineEnd
+-- The end of a line is a line with no numbers.
+pub end-of-line : Line lineEnd
 unfolding wellFormed wellFormedBehind goodWord noZero outside endsInNumber lineEnd
 end-of-line = (refl, refl)
 
@@ -111,7 +112,8 @@ end-of-line-fits : Fits lineEnd []
 unfolding lineEnd
 end-of-line-fits = tt
 
-end-of-line-numbers : (values : List ℕ) → Fits lineEnd values → values ≡ []
+-- Numbers that fit the end of a line are none.
+pub end-of-line-numbers : (values : List ℕ) → Fits lineEnd values → values ≡ []
 unfolding lineEnd
 end-of-line-numbers [] fits = refl
 end-of-line-numbers (x ∷ values) fits = absurd fits
@@ -173,20 +175,23 @@ read-line-from front text p numbers q good within e =
           (part-append text (spaced (two .front)) (writeForm lineEnd []) (one .behind) (two .behind) q (more .1) end);
     }
 
--- The two lines of a route, from their fronts.
-route-from : (a b : ℕ) (rest : List ℕ) → numbersLine (bytes "(route") (a ∷ b ∷ rest) ≡ lineFrom routeFront (a ∷ b ∷ []) rest
+-- A `(route ..)` line from its front.
+pub route-from : (a b : ℕ) (rest : List ℕ) → numbersLine (bytes "(route") (a ∷ b ∷ rest) ≡ lineFrom routeFront (a ∷ b ∷ []) rest
 unfolding numbersLine spaced lineFrom routeFront lineEnd writeForm
 route-from a b rest = simp (append-assoc, append-nil)
 
-over-from : (a : ℕ) (rest : List ℕ) → numbersLine (bytes "(over") (a ∷ rest) ≡ lineFrom overFront (a ∷ []) rest
+-- An `(over ..)` line from its front.
+pub over-from : (a : ℕ) (rest : List ℕ) → numbersLine (bytes "(over") (a ∷ rest) ≡ lineFrom overFront (a ∷ []) rest
 unfolding numbersLine spaced lineFrom overFront lineEnd writeForm
 over-from a rest = simp (append-assoc, append-nil)
 
-route-front-good : wellFormed routeFront ≡ true
+-- The front of a `(route ..)` line is well formed.
+pub route-front-good : wellFormed routeFront ≡ true
 unfolding wellFormed wellFormedBehind goodWord noZero outside routeFront
 route-front-good = refl
 
-over-front-good : wellFormed overFront ≡ true
+-- The front of an `(over ..)` line is well formed.
+pub over-front-good : wellFormed overFront ≡ true
 unfolding wellFormed wellFormedBehind goodWord noZero outside overFront
 over-front-good = refl
 

@@ -23,8 +23,8 @@ use Rattle.text_theory.specs.RoundTrip.{on-scan-done}
 use Rattle.text_theory.specs.NumberLines.{read-route, read-over}
 use Rattle.text_theory.specs.SheetRoundTrip.{LinesFit, SheetFits, sheet-line, kept-line, keptAndEnd, routesAndEnd}
 
--- The numbers of the first line and of the `(kept ..)` line, each of at most four digits.
-sheet-numbers : (values : List ℕ) → Fits sheetForm values
+-- The three numbers of the first line, each of at most four digits.
+pub sheet-numbers : (values : List ℕ) → Fits sheetForm values
     → (values ≡ getD values 0 0 ∷ getD values 1 0 ∷ getD values 2 0 ∷ [])
     × (getD values 0 0 < 10000) × (getD values 1 0 < 10000) × (getD values 2 0 < 10000)
 unfolding sheetForm
@@ -34,7 +34,8 @@ sheet-numbers (a ∷ b ∷ []) fits = absurd (fits .1 .1)
 sheet-numbers (a ∷ b ∷ c ∷ []) fits = (refl, fits .0, fits .1 .0, fits .1 .1 .0)
 sheet-numbers (a ∷ b ∷ c ∷ d ∷ values) fits = absurd (fits .1 .1 .1)
 
-kept-numbers : (values : List ℕ) → Fits keptForm values → (values ≡ getD values 0 0 ∷ []) × (getD values 0 0 < 10000)
+-- The number of the `(kept ..)` line, of at most four digits.
+pub kept-numbers : (values : List ℕ) → Fits keptForm values → (values ≡ getD values 0 0 ∷ []) × (getD values 0 0 < 10000)
 unfolding keptForm
 kept-numbers [] fits = absurd fits
 kept-numbers (a ∷ []) fits = (refl, fits .0)
