@@ -6,10 +6,11 @@
  * is two lists, lows and highs: link i joins relay lows[i] to relay highs[i], lows[i] below highs[i]. i, counted from 0, is the
  * link's index.
  *
- * The relays have an order. Relay 0 is first; next comes always the relay not yet placed that has the most links to placed ones,
- * of equals the one with the lowest number. A relay's place, 1 to n, is where it stands in the order. A relay's link to the i-th
- * of its neighbours with a lower place, in rising place, belongs to forest i; so each link is in one forest, and the links of a
- * forest close no ring. Two relays are in one tree of a forest if its links lead from one to the other.
+ * The relays have an order. The one with the most links is first; next comes always the relay not yet placed that has the most
+ * links to placed ones; of equals each time the one with the lowest number. A relay's place, 1 to n, is where it stands in the
+ * order. A relay's link to the i-th of its neighbours with a lower place, in rising place, belongs to forest i; so each link is in
+ * one forest, and the links of a forest close no ring. Two relays are in one tree of a forest if its links lead from one to the
+ * other.
  *
  * Cutting down to k keeps the links of forests 1 to k. As long as fewer than k relays are dead, two live relays are joined through
  * live relays over the kept links exactly if they are over all links. Between two relays in one tree of forest k there are k routes

@@ -1,4 +1,5 @@
-/* Document 01's examples through the C header: P1 to P12, with the links that document 02, #101, asks for, and the others. */
+/* Document 01's examples through the C header: P1 to P12 as they are since #104 of document 02, with the links that #101 asks for,
+ * and the others. */
 #include "nolkisei.h"
 #include <stdio.h>
 #include <string.h>
@@ -48,15 +49,17 @@ static void marked(void) {
     is("P4", nolkisei_route(4, TABLE(full), 3, 3, 2, LENT(counts), LENT(relays), LENT(scratch), answer), 0);
     list("P4 routes", relays, (const uint16_t[]){3, 0, 2, 3, 1, 2, 3, 2}, 8);
     is("P5", nolkisei_order(5, TABLE(mesh), LENT(relays), LENT(places), answer), 0);
-    list("P5 order", relays, (const uint16_t[]){0, 1, 2, 3, 4}, 5);
+    list("P5 order", relays, (const uint16_t[]){2, 0, 1, 3, 4}, 5);
+    list("P5 places", places, (const uint16_t[]){2, 3, 1, 4, 5}, 5);
     is("P5", nolkisei_split(5, TABLE(mesh), LENT(marks), answer), 0);
-    list("P5 forests", marks, (const uint16_t[]){1, 1, 2, 1, 2, 1, 2}, 7);
+    list("P5 forests", marks, (const uint16_t[]){2, 1, 1, 2, 1, 1, 2}, 7);
     is("P7", nolkisei_route(5, TABLE(mesh), 2, 1, 4, LENT(counts), LENT(relays), LENT(scratch), answer), 0);
-    list("P7 routes", relays, (const uint16_t[]){1, 3, 4, 1, 2, 4}, 6);
+    list("P7 routes", relays, (const uint16_t[]){1, 2, 4, 1, 3, 4}, 6);
     is("P8", nolkisei_route(5, TABLE(mesh), 1, 4, 1, LENT(counts), LENT(relays), LENT(scratch), answer), 0);
-    list("P8 routes", relays, (const uint16_t[]){4, 2, 0, 1}, 4);
+    list("P8 routes", relays, (const uint16_t[]){4, 2, 1}, 3);
+    is("P8 written", answer[0], 3);
     is("P9", nolkisei_cut(5, TABLE(mesh), 1, LENT(marks), answer), 0);
-    list("P9 marks", marks, (const uint16_t[]){1, 1, 0, 1, 0, 1, 0}, 7);
+    list("P9 marks", marks, (const uint16_t[]){0, 1, 1, 0, 1, 1, 0}, 7);
     is("P9 count", answer[0], 4);
     is("P10", nolkisei_cut(1, none, 0, none, 0, 32, LENT(marks), answer), 0);
     is("P10 count", answer[0], 0);
@@ -78,8 +81,8 @@ static void with_links(void) {
     is("P6", mesh_links(5), 0);
     is("P6 written", answer[0], 6);
     list("P6 counts", counts, (const uint16_t[]){3, 3}, 2);
-    list("P6 routes", relays, (const uint16_t[]){4, 3, 1, 4, 2, 1}, 6);
-    list("P6 links", links, (const uint16_t[]){6, 3, 5, 2, 0}, 5);
+    list("P6 routes", relays, (const uint16_t[]){4, 2, 1, 4, 3, 1}, 6);
+    list("P6 links", links, (const uint16_t[]){5, 2, 6, 3, 0}, 5);
     is("P6, too few links", mesh_links(4), NOLKISEI_ROOM);
     is("P2", nolkisei_route_links(4, TABLE(square), 2, 3, 2, LENT(counts), LENT(relays), LENT(links), LENT(scratch), answer), 0);
     list("P2 links", links, (const uint16_t[]){3, 0, 1, 2}, 4);
@@ -88,9 +91,9 @@ static void with_links(void) {
     is("P4", nolkisei_route_links(4, TABLE(full), 3, 3, 2, LENT(counts), LENT(relays), LENT(links), LENT(scratch), answer), 0);
     list("P4 links", links, (const uint16_t[]){3, 1, 4, 2, 5}, 5);
     is("P7", nolkisei_route_links(5, TABLE(mesh), 2, 1, 4, LENT(counts), LENT(relays), LENT(links), LENT(scratch), answer), 0);
-    list("P7 links", links, (const uint16_t[]){3, 6, 2, 5}, 4);
+    list("P7 links", links, (const uint16_t[]){2, 5, 3, 6}, 4);
     is("P8", nolkisei_route_links(5, TABLE(mesh), 1, 4, 1, LENT(counts), LENT(relays), LENT(links), LENT(scratch), answer), 0);
-    list("P8 links", links, (const uint16_t[]){5, 1, 0}, 3);
+    list("P8 links", links, (const uint16_t[]){5, 2}, 2);
 }
 
 typedef uint32_t program(const uint8_t *, size_t, uint8_t *, size_t, uint64_t[2]);
@@ -117,9 +120,9 @@ static void prints(const char *what, program *program, const char *line, const c
 
 static void programs(void) {
     prints("P6", nolkisei_plan, "(want 4 1 2)\n",
-           "(sheet (from 4) (to 1) (k 2))\n(route 4 3 1)\n(over 6 3)\n(route 4 2 1)\n(over 5 2)\n(kept 7)\n(end)\n");
+           "(sheet (from 4) (to 1) (k 2))\n(route 4 2 1)\n(over 5 2)\n(route 4 3 1)\n(over 6 3)\n(kept 7)\n(end)\n");
     prints("P9 as a list", nolkisei_keep, "(keep 1)\n",
-           "(lease (k 1))\n(keep 0 0 1)\n(keep 1 0 2)\n(drop 2 1 2)\n(keep 3 1 3)\n(drop 4 2 3)\n(keep 5 2 4)\n(drop 6 3 4)\n"
+           "(lease (k 1))\n(drop 0 0 1)\n(keep 1 0 2)\n(keep 2 1 2)\n(drop 3 1 3)\n(keep 4 2 3)\n(keep 5 2 4)\n(drop 6 3 4)\n"
            "(kept 4)\n(dropped 3)\n(end)\n");
     prints("no wish", nolkisei_plan, "", "(refused 1 1)\n");
     prints("no keep line", nolkisei_keep, "(keep)\n", "(refused 1 5)\n");
@@ -132,10 +135,10 @@ static uint32_t verify(const char *sheet) {
 }
 
 static void sheets(void) {
-    is("P6 read back", verify("(sheet (from 4) (to 1) (k 2))\n(route 4 3 1)\n(over 6 3)\n(route 4 2 1)\n(over 5 2)\n(kept 7)\n(end)\n"), 0);
+    is("P6 read back", verify("(sheet (from 4) (to 1) (k 2))\n(route 4 2 1)\n(over 5 2)\n(route 4 3 1)\n(over 6 3)\n(kept 7)\n(end)\n"), 0);
     is("P6 holds", answer[0], 1);
     is("circuits exchanged",
-       verify("(sheet (from 4) (to 1) (k 2))\n(route 4 3 1)\n(over 3 6)\n(route 4 2 1)\n(over 5 2)\n(kept 7)\n(end)\n"), 0);
+       verify("(sheet (from 4) (to 1) (k 2))\n(route 4 2 1)\n(over 5 2)\n(route 4 3 1)\n(over 3 6)\n(kept 7)\n(end)\n"), 0);
     is("circuits exchanged: fails", answer[0], 0);
     is("no circuits", verify("(sheet (from 4) (to 1) (k 1))\n(route 4 2 1)\n(kept 4)\n(end)\n"), NOLKISEI_SHEET_FORM);
     is("no circuits at", answer[0], 45);

@@ -1,8 +1,8 @@
 # For tests/launcher: what `verify` says of a sheet that fails, of each refusal, and of files and programs that are no good.
 cp "$mesh_file" "$work/m.net"
 front='(sheet (from 4) (to 1) (k 2))\n'
-first='(route 4 3 1)\n(over 6 3)\n'
-second='(route 4 2 1)\n(over 5 2)\n'
+via2='(route 4 2 1)\n(over 5 2)\n'
+via3='(route 4 3 1)\n(over 6 3)\n'
 back='(kept 7)\n(end)\n'
 
 # reads WHAT SHEET LINE STATUS WORDS: the mesh with this sheet gets this line and status, and just these words beside it.
@@ -18,27 +18,27 @@ wrong_one() {
     reads "$1" "$2" '(fails)' 1 "verify: fails: a.sheet, line $3: $4"
 }
 
-reads 'a sheet that holds' "$front$first$second$back" '(holds)' 0 ''
-reads 'routes in another order' "$front$second$first$back" '(holds)' 0 ''
+reads 'a sheet that holds' "$front$via2$via3$back" '(holds)' 0 ''
+reads 'routes in another order' "$front$via3$via2$back" '(holds)' 0 ''
 wrong_one 'equal ends' "(sheet (from 1) (to 1) (k 1))\n(route 1 0 1)\n(over 0 0)\n(kept 4)\n(end)\n" 1 'from and to are the same relay, 1'
 wrong_one 'an end that is no relay' "(sheet (from 4) (to 9) (k 1))\n(route 4 9)\n(over 0)\n(kept 4)\n(end)\n" 1 'relay 9 is not in the network; it has the relays 0 to 4'
-wrong_one 'a route too few' "$front$first$back" 1 'k is 2, and the sheet has 1 route'
-wrong_one 'a route too many' "$front$first$second$first$back" 1 'k is 2, and the sheet has 3 routes'
+wrong_one 'a route too few' "$front$via3$back" 1 'k is 2, and the sheet has 1 route'
+wrong_one 'a route too many' "$front$via3$via2$via3$back" 1 'k is 2, and the sheet has 3 routes'
 wrong_one 'no route' "$front$back" 1 'k is 2, and the sheet has 0 routes'
-wrong_one 'a route that starts elsewhere' "$front$second(route 3 1)\n(over 3)\n$back" '4, route 2' 'it starts at relay 3, not at 4'
-wrong_one 'a route that ends elsewhere' "$front(route 4 3)\n(over 6)\n$second$back" '2, route 1' 'it ends at relay 3, not at 1'
-wrong_one 'a relay that is not there' "$front(route 4 5 1)\n(over 6 3)\n$second$back" '2, route 1' 'relay 5 is not in the network; it has the relays 0 to 4'
-wrong_one 'a relay twice' "$front(route 4 3 1 0 1)\n(over 6 3 0 0)\n$second$back" '2, route 1' 'relay 1 stands twice in it'
+wrong_one 'a route that starts elsewhere' "$front$via2(route 3 1)\n(over 3)\n$back" '4, route 2' 'it starts at relay 3, not at 4'
+wrong_one 'a route that ends elsewhere' "$front(route 4 3)\n(over 6)\n$via2$back" '2, route 1' 'it ends at relay 3, not at 1'
+wrong_one 'a relay that is not there' "$front(route 4 5 1)\n(over 6 3)\n$via2$back" '2, route 1' 'relay 5 is not in the network; it has the relays 0 to 4'
+wrong_one 'a relay twice' "$front(route 4 3 1 0 1)\n(over 6 3 0 0)\n$via2$back" '2, route 1' 'relay 1 stands twice in it'
 wrong_one 'a relay on two routes' "$front(route 4 2 0 1)\n(over 5 1 0)\n(route 4 3 2 1)\n(over 6 4 2)\n$back" '4, route 2' 'relay 2 stands on route 1 too (line 2)'
-wrong_one 'no link' "$front$first(route 4 0 1)\n(over 5 0)\n$back" '4, route 2' 'relays 4 and 0 are not linked'
-wrong_one 'a circuit of another link' "$front$first(route 4 2 1)\n(over 5 3)\n$back" '5, route 2' 'from relay 2 to relay 1 it has circuit 3; the link between them is circuit 2 (m.net, line 4)'
-wrong_one 'a circuit of no link' "$front(route 4 3 1)\n(over 7 3)\n$second$back" '3, route 1' 'from relay 4 to relay 3 it has circuit 7; the link between them is circuit 6 (m.net, line 8)'
-wrong_one 'a circuit too few' "$front(route 4 3 1)\n(over 3)\n$second$back" '3, route 1' 'it has 1 circuit, and a route of 3 relays has 2'
-wrong_one 'a circuit too many' "$front(route 4 3 1)\n(over 6 3 3)\n$second$back" '3, route 1' 'it has 3 circuits, and a route of 3 relays has 2'
+wrong_one 'no link' "$front$via3(route 4 0 1)\n(over 5 0)\n$back" '4, route 2' 'relays 4 and 0 are not linked'
+wrong_one 'a circuit of another link' "$front$via3(route 4 2 1)\n(over 5 3)\n$back" '5, route 2' 'from relay 2 to relay 1 it has circuit 3; the link between them is circuit 2 (m.net, line 4)'
+wrong_one 'a circuit of no link' "$front(route 4 3 1)\n(over 7 3)\n$via2$back" '3, route 1' 'from relay 4 to relay 3 it has circuit 7; the link between them is circuit 6 (m.net, line 8)'
+wrong_one 'a circuit too few' "$front(route 4 3 1)\n(over 3)\n$via2$back" '3, route 1' 'it has 1 circuit, and a route of 3 relays has 2'
+wrong_one 'a circuit too many' "$front(route 4 3 1)\n(over 6 3 3)\n$via2$back" '3, route 1' 'it has 3 circuits, and a route of 3 relays has 2'
 wrong_one 'one link twice' "(sheet (from 0) (to 1) (k 2))\n(route 0 1)\n(over 0)\n(route 0 1)\n(over 0)\n$back" '4, route 2' 'it goes over one link alone, circuit 0, and so does route 1 (line 2)'
-wrong_one 'the count of kept links' "$front$first$second(kept 6)\n(end)\n" 6 'kept is 6, and that is not how many links are worth keeping for k 2; ./keep 2 m.net tells that'
+wrong_one 'the count of kept links' "$front$via3$via2(kept 6)\n(end)\n" 6 'kept is 6, and that is not how many links are worth keeping for k 2; ./keep 2 m.net tells that'
 reads 'k 0' "(sheet (from 4) (to 1) (k 0))\n$back" '(refused 15 0)' 1 'verify: refused (15): a.sheet, line 1: k is 0; 1 to 32 can be asked for'
-reads 'k 33' "(sheet (from 4) (to 4) (k 33))\n$first$back" '(refused 15 0)' 1 'verify: refused (15): a.sheet, line 1: k is 33; 1 to 32 can be asked for'
+reads 'k 33' "(sheet (from 4) (to 4) (k 33))\n$via3$back" '(refused 15 0)' 1 'verify: refused (15): a.sheet, line 1: k is 33; 1 to 32 can be asked for'
 
 # strays WHAT SHEET PLACE LINE COLUMN CAUSE SHOWN DUE [MARK]: a sheet refused with 14, and the column of the mark where it is another.
 strays() {
@@ -59,30 +59,30 @@ strays 'quoted mail' "> $front" 0 1 1 'a mark of quoted mail; take it off every 
 strays 'carriage returns' "(sheet (from 4) (to 1) (k 2))\r\n" 29 1 30 'a carriage return; save the file with the line ends of Unix (LF), not of Windows (CR LF)' '(sheet (from 4) (to 1) (k 2))?' "$head_due"
 strays 'a zero in front' '(sheet (from 04) (to 1) (k 2))\n' 14 1 15 'a number has a zero in front' '(sheet (from 04) (to 1) (k 2))' "$head_due"
 strays 'no circuits' "$front(route 4 3 1)\n(route 4 2 1)\n$back" 45 3 2 'the route above has no circuits: this sheet is from a planner that did not print them yet; ask for a new one' '(route 4 2 1)' "$over_due"
-strays 'no circuits on the last route' "$front$first(route 4 2 1)\n$back" 70 5 2 'the route above has no circuits: this sheet is from a planner that did not print them yet; ask for a new one' '(kept 7)' "$over_due"
+strays 'no circuits on the last route' "$front$via3(route 4 2 1)\n$back" 70 5 2 'the route above has no circuits: this sheet is from a planner that did not print them yet; ask for a new one' '(kept 7)' "$over_due"
 strays 'one relay' "$front(route 4)\n(over 6)\n$back" 38 2 9 'a route has at least two relays' '(route 4)' 'a line (route A B ..)'
 strays 'no index' "$front(route 4 3)\n(over)\n$back" 47 3 6 'a route has at least one circuit' '(over)' "$over_due"
 strays 'circuits without a route' "$front(over 6 3)\n$back" 31 2 2 'this is not the form that is due' '(over 6 3)' "$either_due"
 strays 'five digits' "$front(route 4 31000)\n" 43 2 14 'a number has more than four digits' '(route 4 31000)' 'a line (route A B ..)'
 strays 'a broken line' "$front(route 4 3\n1)\n(over 6 3)\n" 40 2 11 'the line ends too early (mail programs break long lines)' '(route 4 3' 'a line (route A B ..)'
 strays 'a capital letter' "$front(Kept 7)\n(end)\n" 31 2 2 'a capital letter; the words have small letters' '(Kept 7)' "$either_due"
-strays 'another character' "$front$first$second(kept \xc2\xbd)\n" 86 6 7 'a character that no line of a sheet has' '(kept ??)' 'the line (kept N)'
+strays 'another character' "$front$via3$via2(kept \xc2\xbd)\n" 86 6 7 'a character that no line of a sheet has' '(kept ??)' 'the line (kept N)'
 strays 'two spaces' "$front(route 4  3)\n" 39 2 10 'two spaces; one is due between words and numbers' '(route 4  3)' 'a line (route A B ..)'
-strays 'a blank line' "$front\n$first" 30 2 1 'a blank line' '' "$either_due"
+strays 'a blank line' "$front\n$via3" 30 2 1 'a blank line' '' "$either_due"
 strays 'the end for a route' "$front(end)\n" 31 2 2 'this is not the form that is due' '(end)' "$either_due"
-strays 'no kept line' "$front$first$second(end)\n" 81 6 2 'this is not the form that is due' '(end)' "$either_due"
+strays 'no kept line' "$front$via3$via2(end)\n" 81 6 2 'this is not the form that is due' '(end)' "$either_due"
 strays 'a line cut off' "$front(route 4 3" 40 2 11 'the file ends in the middle of a line' '(route 4 3' 'a line (route A B ..)'
-strays 'lines that are missing' "$front$first" 55 4 1 'the file ends too early; a sheet that is whole ends with (end)' '' "$either_due"
-strays 'no last line' "$front$first$second(kept 7)\n" 89 7 1 'the file ends without its last line, (end)' '' 'the line (end)'
-strays 'no last line end' "$front$first$second(kept 7)\n(end)" 94 7 6 'the last line end is missing; press Enter behind (end) and save' '(end)' 'the line (end)'
-strays 'more behind the end' "$front$first$second${back}Regards\n" 95 8 1 'something stands behind the last line' 'Regards' 'nothing, since (end) is the last line'
+strays 'lines that are missing' "$front$via3" 55 4 1 'the file ends too early; a sheet that is whole ends with (end)' '' "$either_due"
+strays 'no last line' "$front$via3$via2(kept 7)\n" 89 7 1 'the file ends without its last line, (end)' '' 'the line (end)'
+strays 'no last line end' "$front$via3$via2(kept 7)\n(end)" 94 7 6 'the last line end is missing; press Enter behind (end) and save' '(end)' 'the line (end)'
+strays 'more behind the end' "$front$via3$via2${back}Regards\n" 95 8 1 'something stands behind the last line' 'Regards' 'nothing, since (end) is the last line'
 strays 'far along a line' "$front(route 4$(printf ' 3%.0s' {1..50}) x$(printf ' 2%.0s' {1..50}))\n" 139 2 110 'this is not the form that is due' "...$(printf '3 %.0s' {1..20})x$(printf ' 2%.0s' {1..9}) ..." 'a line (route A B ..)' 44
 
 # The network file: its refusals, and what stands behind its end.
 # network WHAT TEXT LINE WORDS: this network with a sheet that holds for the mesh gets this line, and words with these among them.
 network() {
     printf '%b' "$2" >"$work/a.net"
-    printf '%b' "$front$first$second$back" >"$work/a.sheet"
+    printf '%b' "$front$via3$via2$back" >"$work/a.sheet"
     ask "$copy/verify" a.net a.sheet
     same "$1: the line" "$3"$'\nstatus 1' "$output"
     says "$1" 1 "$4"
@@ -98,7 +98,7 @@ network 'a network with a link twice' "$head(link 0 1)\n(link 0 1)\n(end)\n" '(r
 network 'a blank line behind the network' "$mesh\n" '(refused 14 0)' $'verify: refused (14): a.net, line 10, column 1: a blank line\n    \n    ^\nverify: due there: nothing, since (end) is the last line'
 network 'words behind the network' "${mesh}Regards\n" '(refused 14 0)' $'verify: refused (14): a.net, line 10, column 1: something stands behind the last line\n    Regards'
 network 'a network of one relay' '(net (relays 1) (links 0))\n(end)\n' '(fails)' 'verify: fails: a.sheet, line 1: relay 4 is not in the network; it has relay 0 alone'
-printf '%b' "$front$first$second$back" >"$work/-s"
+printf '%b' "$front$via3$via2$back" >"$work/-s"
 ask "$copy/verify" m.net -s
 same 'a sheet whose name begins with -' $'(holds)\nstatus 0' "$output$words"
 ask bash -c "'$copy/verify' m.net /dev/stdin <-s"

@@ -34,11 +34,15 @@ in_pieces() {
     done
 }
 
-# The networks of document 01, and one of one link to be spoilt.
+# The networks of document 01, and one of one link to be spoilt. Then networks whose order does not start at relay 0: of four relays
+# it starts at 1, which alone has three links; of seven at 4, which has three as 5 has, goes on to 3, 5 and 6, and then to the other
+# parts, 0 and 1 and then 2.
 mesh='(net (relays 5) (links 7))\n(link 0 1)\n(link 0 2)\n(link 1 2)\n(link 1 3)\n(link 2 3)\n(link 2 4)\n(link 3 4)\n(end)\n'
 square='(net (relays 4) (links 4))\n(link 0 1)\n(link 1 2)\n(link 2 3)\n(link 0 3)\n(end)\n'
 four='(net (relays 4) (links 6))\n(link 0 1)\n(link 0 2)\n(link 0 3)\n(link 1 2)\n(link 1 3)\n(link 2 3)\n(end)\n'
 one='(net (relays 5) (links 1))\n'
+busy='(net (relays 4) (links 4))\n(link 0 1)\n(link 0 2)\n(link 1 2)\n(link 1 3)\n(end)\n'
+parts='(net (relays 7) (links 6))\n(link 0 1)\n(link 3 4)\n(link 3 5)\n(link 4 5)\n(link 4 6)\n(link 5 6)\n(end)\n'
 
 # A longest text, of 45,039 bytes: 1,000 relays, and 3,000 links whose numbers all have three digits. A path from 100 to 174, and
 # among 923 to 999 every pair.
@@ -52,16 +56,19 @@ longest() {
 }
 
 # The network of the longest sheet, from 999 to 998 with k 32. A band from 0 to 967, each relay linked to the next two; every pair
-# among 968 to 997, each of these linked to 966 and 967 too; and 998 and 999 linked to all of these and to one end of the band. The
-# order is that of the numbers, so routes 1 and 2 go through the whole band, over the even and over the odd relays, and each other
-# one over one of 968 to 997. No relay is left out, so there are as many on the sheet as n - 2 + 2 k allows, and n - 2 + k links.
-# These come last in the file, route by route, so that each index has four digits; with 9,821 bytes no sheet is longer, and what is
-# proved of its length is that it fits into 9,935.
+# among 968 to 997, each of these linked to 0 and 967 too; and 998 and 999 linked to all of these and to one end of the band. Relay 0
+# has 33 links, and none has more, so the order is that of the numbers: routes 1 and 2 go through the whole band, over the even and
+# over the odd relays, and each other one over one of 968 to 997. No relay is left out, so there are as many on the sheet as
+# n - 2 + 2 k allows, and n - 2 + k links. These come last in the file, route by route, so that each index has four digits; with 9,821
+# bytes no sheet is longer, in whatever order, and what is proved of its length is that it fits into 9,935.
 crowded() {
     awk 'BEGIN {
         print "(net (relays 1000) (links 2492))"
         for (b = 1; b <= 967; b++) print "(link " b - 1 " " b ")"
-        for (b = 968; b <= 997; b++) for (a = 966; a < b; a++) print "(link " a " " b ")"
+        for (b = 968; b <= 997; b++) {
+            print "(link 0 " b ")"
+            for (a = 967; a < b; a++) print "(link " a " " b ")"
+        }
         for (odd = 0; odd <= 1; odd++) {
             print "(link " odd " 999)"
             for (b = 2 + odd; b <= 967; b += 2) print "(link " b - 2 " " b ")"

@@ -1,6 +1,7 @@
 /* Two versions of the library turn by turn on the same networks, for tests/turns: how long the table check, Read, the pair numbers
- * of all links, one call each, and Route take in the earlier one, whose functions begin with `before_`, and in this one. Each time
- * is the lower quartile of 200 batches. */
+ * of all links, one call each, Order and Route take in the earlier one, whose functions begin with `before_`, and in this one. Each
+ * time is the lower quartile of 200 batches. The two may order the relays in another way (document 02, #104): then the same wish has
+ * other routes, so behind k stands how many relays each version writes. */
 #define _POSIX_C_SOURCE 200112L
 #include "nolkisei.h"
 #include <stdio.h>
@@ -11,14 +12,18 @@
 #define BATCHES 200
 #define TABLE n, lows, m, highs, m
 #define ROUTE (uint16_t)k, from, to, counts, NOLKISEI_ROUTES, relays, NOLKISEI_ROUTE_RELAYS, scratch, (size_t)k * n, answer
+#define ORDER first, NOLKISEI_RELAYS, second, NOLKISEI_RELAYS, answer
 #define READ text, text_length, first, NOLKISEI_LINKS, second, NOLKISEI_LINKS, answer
 
 typedef uint32_t check_of(uint16_t, const uint16_t *, size_t, const uint16_t *, size_t, uint64_t *);
 typedef uint32_t read_of(const uint8_t *, size_t, uint16_t *, size_t, uint16_t *, size_t, uint64_t *);
+typedef uint32_t order_of(uint16_t, const uint16_t *, size_t, const uint16_t *, size_t, uint16_t *, size_t, uint16_t *, size_t,
+                          uint64_t *);
 typedef uint32_t route_of(uint16_t, const uint16_t *, size_t, const uint16_t *, size_t, uint16_t, uint16_t, uint16_t, uint16_t *,
                           size_t, uint16_t *, size_t, uint16_t *, size_t, uint64_t *);
 typedef uint32_t pair_of(uint16_t, uint16_t, uint64_t *);
 check_of before_nolkisei_check;
+order_of before_nolkisei_order;
 pair_of before_nolkisei_pair;
 read_of before_nolkisei_read;
 route_of before_nolkisei_route;
@@ -26,10 +31,10 @@ route_of before_nolkisei_route;
 static uint16_t n, lows[NOLKISEI_LINKS], highs[NOLKISEI_LINKS], from, to, first[NOLKISEI_LINKS], second[NOLKISEI_LINKS];
 static uint16_t counts[NOLKISEI_ROUTES], relays[NOLKISEI_ROUTE_RELAYS], scratch[NOLKISEI_ROUTE_SCRATCH];
 static uint8_t text[NOLKISEI_TEXT];
-static uint64_t answer[2], state = 88172645463325252u;
+static uint64_t answer[2], written[2], state = 88172645463325252u;
 static size_t m, text_length;
 static int k;
-static double worst[4];
+static double worst[5];
 static char linked[NOLKISEI_RELAYS][NOLKISEI_RELAYS];
 
 static unsigned random_below(unsigned bound) {
@@ -64,6 +69,7 @@ static void pairs(int now) {
     for (size_t i = 0; i < m; i++) (now ? nolkisei_pair : before_nolkisei_pair)(lows[i], highs[i], answer);
 }
 
+static void order(int now) { (now ? nolkisei_order : before_nolkisei_order)(TABLE, ORDER); }
 static void route(int now) { (now ? nolkisei_route : before_nolkisei_route)(TABLE, ROUTE); }
 
 static double microseconds(void) {
@@ -92,13 +98,17 @@ static void turns(int operation, const char *name, void call(int)) {
     printf(" | %s %.2f %.2f %.3f", name, was, is, is / was);
 }
 
-/* The longest routes of some at random; 0 if there are none. */
+/* The relays that a version writes for the wish; 0 if it is refused. */
+static uint64_t relays_of(route_of *version) { return version(TABLE, ROUTE) == NOLKISEI_DONE ? answer[0] : 0; }
+
+/* The longest routes of some at random, by the version with fewer relays; 0 if there are none that both give. */
 static int wish(void) {
     uint64_t most = 0;
     uint16_t ends[2] = {0, 0};
     for (int i = 0; i < 2000; i++) {
         from = (uint16_t)random_below(n), to = (uint16_t)random_below(n);
-        if (nolkisei_route(TABLE, ROUTE) == NOLKISEI_DONE && answer[0] > most) most = answer[0], ends[0] = from, ends[1] = to;
+        uint64_t was = relays_of(before_nolkisei_route), is = relays_of(nolkisei_route), fewer = was < is ? was : is;
+        if (fewer > most) most = fewer, ends[0] = from, ends[1] = to, written[0] = was, written[1] = is;
     }
     from = ends[0], to = ends[1];
     return most > 0;
@@ -113,14 +123,15 @@ int main(void) {
         for (int size = 0; size < 5; size++) {
             n = sizes[size], make(kind);
             printf("%s %u %zu", kinds[kind], n, m);
-            turns(0, "check", check), turns(1, "read", read_text), turns(2, "pairs", pairs);
+            turns(0, "check", check), turns(1, "read", read_text), turns(2, "pairs", pairs), turns(3, "order", order);
             for (int i = 0; i < 5; i++)
                 if (k = counts_of_routes[i], wish()) {
-                    char name[16];
-                    snprintf(name, sizeof name, "route %d", k), turns(3, name, route);
+                    char name[32];
+                    snprintf(name, sizeof name, "route %d (%d, %d)", k, (int)written[0], (int)written[1]), turns(4, name, route);
                 }
             puts("");
         }
-    printf("worst: check %.3f, read %.3f, pairs %.3f, route %.3f times\n", worst[0], worst[1], worst[2], worst[3]);
+    printf("worst: check %.3f, read %.3f, pairs %.3f, order %.3f, route %.3f times\n", worst[0], worst[1], worst[2], worst[3],
+           worst[4]);
     return 0;
 }

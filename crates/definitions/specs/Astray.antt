@@ -11,19 +11,40 @@ use lib.ListN.{length}
 use borrow.Author.Tests.{eqb-true}
 use Rattle.definitions.specs.Outcome.{refused}
 use Rattle.definitions.specs.Lists.{has}
+use Rattle.definitions.specs.Forests.{forestsOf}
 use Rattle.definitions.specs.Route.{routeAnswer, routesOf}
 use Rattle.definitions.specs.Text.{Network}
-use Rattle.definitions.specs.Demand.{AnyLink, uses, RouteHolds, Apart}
-use Rattle.definitions.specs.Networks.{square, mesh, lent}
+use Rattle.definitions.specs.Demand.{LinkOf, AnyLink, InForest, Along, uses, RouteHolds, Apart}
+use Rattle.definitions.specs.Networks.{square, lent}
 use Rattle.definitions.specs.Opened.{opened}
 
 abbrev routes : (w : Network) (from to k : ℕ) → List (List ℕ)
 routes w from to k = routesOf (w .relays) (w .lows) (w .highs) k from to
 
--- "Walking each forest's own tree path. In the mesh 4 2 0 1 and 4 3 2 1 share relay 2."
-pub not-tree-paths : routes mesh 4 1 2 ≡ (4 ∷ 3 ∷ 1 ∷ []) ∷ (4 ∷ 2 ∷ 1 ∷ []) ∷ []
+-- Six relays: 0 1, 0 2, 1 2, 0 3, 1 3, 0 4, 1 5, 2 5. The order is 0 1 2 3 5 4.
+abbrev six : Network
+six =
+    record {
+      relays = 6;
+      lows = 0 ∷ 0 ∷ 1 ∷ 0 ∷ 1 ∷ 0 ∷ 1 ∷ 2 ∷ [];
+      highs = 1 ∷ 2 ∷ 2 ∷ 3 ∷ 3 ∷ 4 ∷ 5 ∷ 5 ∷ [];
+    }
+
+-- A route of the six relays along links of forest f alone.
+abbrev sixAlong : (f : ℕ) (route : List ℕ) → Type 0
+sixAlong f = Along (LinkOf (six .lows) (six .highs) (InForest (forestsOf 6 (six .lows) (six .highs)) f))
+
+-- "Walking each forest's own tree path." Here these are 5 1 0 3 and 5 2 1 3, which share relay 1.
+pub not-tree-paths :
+    (routes six 5 3 2 ≡ (5 ∷ 2 ∷ 0 ∷ 3 ∷ []) ∷ (5 ∷ 1 ∷ 3 ∷ []) ∷ [])
+    × sixAlong 1 (5 ∷ 1 ∷ 0 ∷ 3 ∷ [])
+    × sixAlong 2 (5 ∷ 2 ∷ 1 ∷ 3 ∷ [])
 unfolding opened
-not-tree-paths = refl
+not-tree-paths = (
+  refl,
+  ((6, omega arith, refl, refl), ((0, omega arith, refl, refl), ((3, omega arith, refl, refl), tt))),
+  ((7, omega arith, refl, refl), ((2, omega arith, refl, refl), ((4, omega arith, refl, refl), tt))),
+)
 
 -- "Taking 13 to mean that no routes exist. P3 has two": Route refuses, and over all the links of the square 0 1 2 and
 -- 0 3 2 are routes that share the ends alone.
@@ -103,21 +124,17 @@ pub one-index-for-both : routes crossing 5 1 2 ≡ (5 ∷ 0 ∷ 4 ∷ 1 ∷ []) 
 unfolding opened
 one-index-for-both = refl
 
--- "Exchanging before replacing, so that left is looked up under the new index." Here the routes would come out as 3 2 4 1
--- and 3 2 1, which share relay 2.
-abbrev trading : Network
-trading =
-    record { relays = 5; lows = 0 ∷ 2 ∷ 0 ∷ 0 ∷ 2 ∷ 1 ∷ 1 ∷ []; highs = 3 ∷ 4 ∷ 4 ∷ 2 ∷ 3 ∷ 2 ∷ 4 ∷ [] }
-
-pub replaced-before-exchanged : routes trading 3 1 2 ≡ (3 ∷ 0 ∷ 4 ∷ 1 ∷ []) ∷ (3 ∷ 2 ∷ 1 ∷ []) ∷ []
+-- "Exchanging before replacing, so that left is looked up under the new index." Of the six relays again: the first route would
+-- come out as 5 2 1 3, its path left at relay 1, where the second goes; carried on under its own index, as 5 2 1 0 3.
+pub replaced-before-exchanged : routes six 5 3 2 ≡ (5 ∷ 2 ∷ 0 ∷ 3 ∷ []) ∷ (5 ∷ 1 ∷ 3 ∷ []) ∷ []
 unfolding opened
 replaced-before-exchanged = refl
 
--- "Ranking earlier neighbours by relay number instead of place." Here the order is 0 2 1 3, and the routes would come out
--- as 1 3 and 2 3.
+-- "Ranking earlier neighbours by relay number instead of place." Here the order is 1 0 2 3, and the forests would come out as
+-- 1 1 2 1.
 abbrev renumbered : Network
-renumbered = record { relays = 4; lows = 1 ∷ 2 ∷ 1 ∷ 0 ∷ []; highs = 2 ∷ 3 ∷ 3 ∷ 2 ∷ [] }
+renumbered = record { relays = 4; lows = 0 ∷ 0 ∷ 1 ∷ 1 ∷ []; highs = 1 ∷ 2 ∷ 2 ∷ 3 ∷ [] }
 
-pub ranked-by-place : routes renumbered 1 3 2 ≡ (1 ∷ 2 ∷ 3 ∷ []) ∷ (1 ∷ 3 ∷ []) ∷ []
+pub ranked-by-place : forestsOf 4 (renumbered .lows) (renumbered .highs) ≡ 1 ∷ 2 ∷ 1 ∷ 1 ∷ []
 unfolding opened
 ranked-by-place = refl

@@ -10,7 +10,7 @@ use lib.ListN.{length, getD, take, drop}
 use Rattle.definitions.specs.Outcome.{Answer, refused, done}
 use Rattle.definitions.specs.Lists.{has, count, total}
 use Rattle.definitions.specs.Network.{joins, linked, Accepted}
-use Rattle.definitions.specs.Order.{allRelays, relaysAfter, placesAfter}
+use Rattle.definitions.specs.Order.{allRelays, linksAt, relaysAfter, placesAfter}
 use Rattle.definitions.specs.Forests.{forestsAfter, marksAfter}
 use Rattle.definitions.specs.Route.{tooShort, routeAnswer, countsAfter, routeRelaysAfter}
 
@@ -104,14 +104,17 @@ pub record RouteDelivers (n : ℕ) (lows highs forests marks : List ℕ) (k from
       → (answer ≡ done (total (take k counts) ∷ [])) × RoutesHold n lows highs marks k from to counts relays
   pub thirteen : (answer ≡ refused 13 0) ↔ (OneTree lows highs forests k from to → ⊥)
 
--- The order as Order's two lists give it: each turns the other's numbers back, and "for every two vertices v < w, v has at
--- least as many neighbors in {1, …, v − 1} as w has" (document 002, section 2).
+-- The order as Order's two lists give it: each turns the other's numbers back, "for every two vertices v < w, v has at least as
+-- many neighbors in {1, …, v − 1} as w has" (document 002, section 2), and "the first relay is the one with the most links, of
+-- equals the lowest number" (document 02, #104).
 pub record MaximalOrder (n : ℕ) (lows highs relays places : List ℕ) : Type 0 where
   pub placed : (r : ℕ) → r < n → (1 ≤ getD places r 0) × (getD places r 0 ≤ n) × (getD relays (getD places r 0 - 1) 0 ≡ r)
   pub named : (v : ℕ) → v < n → (getD relays v 0 < n) × (getD places (getD relays v 0) 0 ≡ v + 1)
   pub maximal : (v w : ℕ) → v < w → w < n
       → count (λ p. linked lows highs p (getD relays w 0)) (take v relays)
       ≤ count (λ p. linked lows highs p (getD relays v 0)) (take v relays)
+  pub busiest : (r : ℕ) → r < n → linksAt lows highs r ≤ linksAt lows highs (getD relays 0 0)
+  pub lowest : (r : ℕ) → r < n → linksAt lows highs r ≡ linksAt lows highs (getD relays 0 0) → getD relays 0 0 ≤ r
 
 -- The results of the four together, for one network, one k, and lists that were lent to Order, Split and Cut.
 pub record Holds (n : ℕ) (lows highs : List ℕ) (k : ℕ) (relays places forests marks : List ℕ) : Type 0 where

@@ -36,6 +36,10 @@ joins lows highs a b i = isPair lows highs a b i || isPair lows highs b a i
 unfoldable pub linked : (lows highs : List ℕ) (a b : ℕ) → Bool
 linked lows highs a b = someBelow (joins lows highs a b) (length lows)
 
+-- Link i of the table has relay r as an end.
+unfoldable pub touches : (lows highs : List ℕ) (r i : ℕ) → Bool
+touches lows highs r i = eqb (getD lows i 0) r || eqb (getD highs i 0) r
+
 -- What is wrong with a link a b that comes after the first i links of the table, or 0:
 -- "5, A or B not below n; 6, A not below B; 7, a pair that an earlier line has".
 unfoldable pub linkFault : (n : ℕ) (lows highs : List ℕ) (i a b : ℕ) → ℕ

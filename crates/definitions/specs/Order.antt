@@ -1,4 +1,5 @@
--- Document 01, 'The order': a maximal adjacency ordering (document 002, section 2) with its ties fixed.
+-- Document 01, 'The order': a maximal adjacency ordering (document 002, section 2) with its ties fixed, from the relay that
+-- document 02, #104 puts first.
 -- Over any test `linked`, any rising list of candidate relays and any first relay; `orderOf` takes all relays and `firstRelay`.
 use Prim.Native.Nat.{ℕ, zero, suc, _+_, pred}
 use mathlib.Core.Bool.{Bool, _||_, not}
@@ -7,7 +8,7 @@ use lib.Dec.{ltb}
 use lib.ListN.{length, getD}
 use Rattle.definitions.specs.Outcome.{pick, Answer, done, refuseIf, andThen, ifDone}
 use Rattle.definitions.specs.Lists.{table, overwrite, keep, has, count, position}
-use Rattle.definitions.specs.Network.{linked, tableCheck}
+use Rattle.definitions.specs.Network.{touches, linked, tableCheck}
 
 -- "the most links to placed ones": how many placed relays are linked to r.
 unfoldable pub weight : (linked : ℕ → ℕ → Bool) (placed : List ℕ) (r : ℕ) → ℕ
@@ -48,9 +49,13 @@ placedAfter linked first candidates (suc steps) =
 unfoldable pub allRelays : (n : ℕ) → List ℕ
 allRelays n = table (λ r. r) 0 n
 
--- "Relay 0 is first."
+-- How many links of the table relay r has.
+unfoldable pub linksAt : (lows highs : List ℕ) (r : ℕ) → ℕ
+linksAt lows highs r = count (touches lows highs r) (table (λ i. i) 0 (length lows))
+
+-- "the first relay is the one with the most links, of equals the lowest number" (document 02, #104).
 unfoldable pub firstRelay : (n : ℕ) (lows highs : List ℕ) → ℕ
-firstRelay n lows highs = 0
+firstRelay n lows highs = heaviestOf (linksAt lows highs) (allRelays n)
 
 -- "This goes on over unconnected parts too": all the relays, in their order.
 unfoldable pub orderOf : (n : ℕ) (lows highs : List ℕ) → List ℕ

@@ -139,7 +139,7 @@ otherExamples =
       due =
           record {
             answer = done (6 ∷ []);
-            lists = (3 ∷ 3 ∷ []) ∷ (4 ∷ 3 ∷ 1 ∷ 4 ∷ 2 ∷ 1 ∷ 7 ∷ []) ∷ (6 ∷ 3 ∷ 5 ∷ 2 ∷ 7 ∷ []) ∷ zeros 10 ∷ [];
+            lists = (3 ∷ 3 ∷ []) ∷ (4 ∷ 2 ∷ 1 ∷ 4 ∷ 3 ∷ 1 ∷ 7 ∷ []) ∷ (5 ∷ 2 ∷ 6 ∷ 3 ∷ 7 ∷ []) ∷ zeros 10 ∷ [];
           };
     }
     ∷ record {
@@ -153,25 +153,25 @@ otherExamples =
     -- Pair numbers out of range and out of order.
     ∷ record { found = pairOf 0 1000; due = refusedAt 5 0 [] }
     ∷ record { found = pairOf 3 3; due = refusedAt 6 0 [] }
-    -- The planner program: document 01's sheet of the mesh with the lines of document 02, #101, the other worked sheets, and
-    -- refusals as they are printed.
+    -- The planner program: the sheet of the mesh that document 01 prints, with the lines of document 02, #101 and in the order of
+    -- #104, the other worked sheets, and refusals as they are printed.
     ∷ record {
       found =
           printsFor
           "(want 4 1 2)\n(net (relays 5) (links 7))\n(link 0 1)\n(link 0 2)\n(link 1 2)\n(link 1 3)\n(link 2 3)\n(link 2 4)\n(link 3 4)\n(end)\n";
-      due = prints "(sheet (from 4) (to 1) (k 2))\n(route 4 3 1)\n(over 6 3)\n(route 4 2 1)\n(over 5 2)\n(kept 7)\n(end)\n";
+      due = prints "(sheet (from 4) (to 1) (k 2))\n(route 4 2 1)\n(over 5 2)\n(route 4 3 1)\n(over 6 3)\n(kept 7)\n(end)\n";
     }
     ∷ record {
       found =
           printsFor
           "(want 1 4 2)\n(net (relays 5) (links 7))\n(link 0 1)\n(link 0 2)\n(link 1 2)\n(link 1 3)\n(link 2 3)\n(link 2 4)\n(link 3 4)\n(end)\n";
-      due = prints "(sheet (from 1) (to 4) (k 2))\n(route 1 3 4)\n(over 3 6)\n(route 1 2 4)\n(over 2 5)\n(kept 7)\n(end)\n";
+      due = prints "(sheet (from 1) (to 4) (k 2))\n(route 1 2 4)\n(over 2 5)\n(route 1 3 4)\n(over 3 6)\n(kept 7)\n(end)\n";
     }
     ∷ record {
       found =
           printsFor
           "(want 4 1 1)\n(net (relays 5) (links 7))\n(link 0 1)\n(link 0 2)\n(link 1 2)\n(link 1 3)\n(link 2 3)\n(link 2 4)\n(link 3 4)\n(end)\n";
-      due = prints "(sheet (from 4) (to 1) (k 1))\n(route 4 2 0 1)\n(over 5 1 0)\n(kept 4)\n(end)\n";
+      due = prints "(sheet (from 4) (to 1) (k 1))\n(route 4 2 1)\n(over 5 2)\n(kept 4)\n(end)\n";
     }
     ∷ record {
       found =
@@ -198,7 +198,7 @@ otherExamples =
           "(keep 1)\n(net (relays 5) (links 7))\n(link 0 1)\n(link 0 2)\n(link 1 2)\n(link 1 3)\n(link 2 3)\n(link 2 4)\n(link 3 4)\n(end)\n";
       due =
           prints
-          "(lease (k 1))\n(keep 0 0 1)\n(keep 1 0 2)\n(drop 2 1 2)\n(keep 3 1 3)\n(drop 4 2 3)\n(keep 5 2 4)\n(drop 6 3 4)\n(kept 4)\n(dropped 3)\n(end)\n";
+          "(lease (k 1))\n(drop 0 0 1)\n(keep 1 0 2)\n(keep 2 1 2)\n(drop 3 1 3)\n(keep 4 2 3)\n(keep 5 2 4)\n(drop 6 3 4)\n(kept 4)\n(dropped 3)\n(end)\n";
     }
     ∷ record { found = listsFor "(keep 01)\n"; due = prints "(refused 1 7)\n" }
     ∷ record { found = listsFor "(keep 1)\n(net (relays 2) (links 1))\n(link 1 1)\n"; due = prints "(refused 6 0)\n" }

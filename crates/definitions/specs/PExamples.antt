@@ -1,4 +1,5 @@
--- The examples that document 01 marks P, from the definitions by computation, in one statement over one list.
+-- The examples that document 01 marks P, from the definitions by computation, in one statement over one list; those of the mesh
+-- as they come out from relay 2 on: "the mesh starts at 2 and has its examples worked out anew" (document 02, #104).
 -- Assumes nothing.
 use Prim.Native.Nat.{ℕ}
 use mathlib.Core.List.{List, [], _∷_, _++_}
@@ -54,38 +55,38 @@ pExamples =
       found = routeWith 40 80 200 fullFour 3 2 3;
       due = routed 8 (3 ∷ 3 ∷ 2 ∷ []) (lent 37) (3 ∷ 0 ∷ 2 ∷ 3 ∷ 1 ∷ 2 ∷ 3 ∷ 2 ∷ []) (lent 72);
     }
-    -- P5 mesh: order 0 to 4; forests 1 1 2 1 2 1 2.
+    -- P5 mesh: order 2 0 1 3 4; forests 2 1 1 2 1 1 2.
     ∷ record {
       found = orderWith 6 mesh;
       due =
           record {
             answer = done [];
-            lists = (0 ∷ 1 ∷ 2 ∷ 3 ∷ 4 ∷ 7 ∷ []) ∷ (1 ∷ 2 ∷ 3 ∷ 4 ∷ 5 ∷ 7 ∷ []) ∷ [];
+            lists = (2 ∷ 0 ∷ 1 ∷ 3 ∷ 4 ∷ 7 ∷ []) ∷ (2 ∷ 3 ∷ 1 ∷ 4 ∷ 5 ∷ 7 ∷ []) ∷ [];
           };
     }
     ∷ record {
       found = splitWith 7 mesh;
-      due = record { answer = done (2 ∷ []); lists = (1 ∷ 1 ∷ 2 ∷ 1 ∷ 2 ∷ 1 ∷ 2 ∷ []) ∷ [] };
+      due = record { answer = done (2 ∷ []); lists = (2 ∷ 1 ∷ 1 ∷ 2 ∷ 1 ∷ 1 ∷ 2 ∷ []) ∷ [] };
     }
-    -- P6 mesh, 4 to 1, k 2: 4 3 1 and 4 2 1.
+    -- P6 mesh, 4 to 1, k 2: 4 2 1 and 4 3 1.
     ∷ record {
       found = routeWith 40 80 200 mesh 4 1 2;
-      due = routed 6 (3 ∷ 3 ∷ []) (lent 38) (4 ∷ 3 ∷ 1 ∷ 4 ∷ 2 ∷ 1 ∷ []) (lent 74);
+      due = routed 6 (3 ∷ 3 ∷ []) (lent 38) (4 ∷ 2 ∷ 1 ∷ 4 ∷ 3 ∷ 1 ∷ []) (lent 74);
     }
-    -- P7 mesh, 1 to 4, k 2: 1 3 4 and 1 2 4.
+    -- P7 mesh, 1 to 4, k 2: 1 2 4 and 1 3 4.
     ∷ record {
       found = routeWith 40 80 200 mesh 1 4 2;
-      due = routed 6 (3 ∷ 3 ∷ []) (lent 38) (1 ∷ 3 ∷ 4 ∷ 1 ∷ 2 ∷ 4 ∷ []) (lent 74);
+      due = routed 6 (3 ∷ 3 ∷ []) (lent 38) (1 ∷ 2 ∷ 4 ∷ 1 ∷ 3 ∷ 4 ∷ []) (lent 74);
     }
-    -- P8 mesh, 4 to 1, k 1: 4 2 0 1.
+    -- P8 mesh, 4 to 1, k 1: 4 2 1.
     ∷ record {
       found = routeWith 40 80 200 mesh 4 1 1;
-      due = routed 4 (4 ∷ []) (lent 39) (4 ∷ 2 ∷ 0 ∷ 1 ∷ []) (lent 76);
+      due = routed 3 (3 ∷ []) (lent 39) (4 ∷ 2 ∷ 1 ∷ []) (lent 77);
     }
-    -- P9 mesh cut to 1: marks 1 1 0 1 0 1 0, count 4.
+    -- P9 mesh cut to 1: marks 0 1 1 0 1 1 0, count 4.
     ∷ record {
       found = cutWith 8 mesh 1;
-      due = record { answer = done (4 ∷ []); lists = (1 ∷ 1 ∷ 0 ∷ 1 ∷ 0 ∷ 1 ∷ 0 ∷ 7 ∷ []) ∷ [] };
+      due = record { answer = done (4 ∷ []); lists = (0 ∷ 1 ∷ 1 ∷ 0 ∷ 1 ∷ 1 ∷ 0 ∷ 7 ∷ []) ∷ [] };
     }
     -- P10 one relay, no link, cut to 32: count 0; highest forest 0.
     ∷ record { found = cutWith 1 (bare 1) 32; due = record { answer = done (0 ∷ []); lists = lent 1 ∷ [] } }

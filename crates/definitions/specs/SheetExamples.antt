@@ -33,8 +33,8 @@ between lines = bytes "(sheet (from 4) (to 1) (k 2))\n" ++ (bytes lines ++ bytes
 abbrev sheetExamples : List Example
 sheetExamples =
     -- The printed sheet, and its routes in the other order.
-    says mesh (between "(route 4 3 1)\n(over 6 3)\n(route 4 2 1)\n(over 5 2)\n(kept 7)\n") yes
-    ∷ says mesh (between "(route 4 2 1)\n(over 5 2)\n(route 4 3 1)\n(over 6 3)\n(kept 7)\n") yes
+    says mesh (between "(route 4 2 1)\n(over 5 2)\n(route 4 3 1)\n(over 6 3)\n(kept 7)\n") yes
+    ∷ says mesh (between "(route 4 3 1)\n(over 6 3)\n(route 4 2 1)\n(over 5 2)\n(kept 7)\n") yes
     -- Routes that ours are not: 0 1 2 and 0 3 2 in the square, where Route refuses with 13.
     ∷ says square
     (bytes "(sheet (from 0) (to 2) (k 2))\n(route 0 1 2)\n(over 0 1)\n(route 0 3 2)\n(over 3 2)\n(kept 4)\n(end)\n") yes

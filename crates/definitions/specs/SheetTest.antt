@@ -16,13 +16,14 @@ use Rattle.definitions.specs.SheetForm.{readSheet}
 unfoldable pub alsoMet : (met : ℕ → Bool) (r : ℕ) → ℕ → Bool
 alsoMet met r x = met x || eqb x r
 
--- The step from relay a to relay b over link l: the link joins the two, a is not yet the end, b is below n, and b is the end or was
--- not met before.
+-- The step from relay a to relay b over link l, "along links of the network, no relay twice in a route, no two routes sharing .. an
+-- inner relay, `over` lines right": l joins the two, a is not yet the end, b is below n, and b is the end or was not met before.
 unfoldable pub stepHolds : (n : ℕ) (lows highs : List ℕ) (to : ℕ) (met : ℕ → Bool) (a b l : ℕ) → Bool
 stepHolds n lows highs to met a b l =
     (ltb l (length lows) && joins lows highs a b l) && (not (eqb a to) && (ltb b n && (eqb b to || not (met b))))
 
--- The relays met once the step has led to b. The end is met by every route.
+-- The relays met once the step has led to b, for "no relay twice in a route, no two routes sharing .. an inner relay". The end is met
+-- by every route.
 unfoldable pub metAt : (to : ℕ) (met : ℕ → Bool) (b : ℕ) → ℕ → Bool
 metAt to met b = pick (eqb b to) met (alsoMet met b)
 
@@ -47,8 +48,8 @@ walkRoute n lows highs from to met [] over = record { steps = 0; met = met }
 walkRoute n lows highs from to met (a ∷ rest) over =
     pick (eqb a from) (walk n lows highs to met 0 a rest over) (record { steps = 0; met = met })
 
--- A route of so many steps is good after those before it: it did not fail, and at most one route of a sheet is a single step,
--- since two of them would share their link.
+-- "no two routes sharing a link": a route of so many steps is good after those before it if it did not fail, and at most one route
+-- of a sheet is a single step, since two of them would share their link.
 unfoldable pub goodSteps : (steps : ℕ) (direct : Bool) → Bool
 goodSteps steps direct = not (eqb steps 0) && not (eqb steps 1 && direct)
 

@@ -12,9 +12,22 @@ use lib.Dec.{eqb}
 use lib.ListN.{length, getD, set, replicate, length-set, length-replicate}
 use lib.Seq.{getD-set-same, getD-set-other, set-getD}
 use Rattle.definitions.specs.Outcome.{pick}
-use Rattle.lists.specs.Bitmap.{marked, flip, marked-none, flip-same, flip-other, length-flip, one-bit}
-use Rattle.forests.specs.Counts.{raisedCount, StartCounts}
-use Rattle.forests.specs.Buckets.{wordBits, columnWords, mostCount, bitFor, wordOf, slotOf, HasColumn, Buckets, Moved}
+use Rattle.lists.specs.Bitmap.{bitOf, marked, flip, marked-none, flip-same, flip-other, length-flip, one-bit}
+use Rattle.forests.specs.Counts.{raisedCount}
+use Rattle.forests.specs.Buckets.{
+  wordBits,
+  columnWords,
+  mostCount,
+  columnOf,
+  wordIn,
+  bitFor,
+  wordOf,
+  slotOf,
+  HasColumn,
+  Buckets,
+  NoBits,
+  Moved,
+}
 use Rattle.forests.proofs.CountLaws.{raised-none, raised-some}
 
 -- Each relay has a bit of its own for each count.
@@ -54,18 +67,22 @@ no-bit-of count r e = rw (eq-eqb count 0 e)
 pub bit-of : (count r : ℕ) → (count ≡ 0 → ⊥) → 1 * 2 ^ (r % wordBits) % 2 ^ 64 ≡ bitFor count r
 bit-of count r e = one-bit r ∙ rw (ne-eqb count 0 e)
 
--- No relay waits.
-pub buckets-none : (columns : ℕ) (counts bits : List ℕ) → StartCounts 0 counts → bits ≡ replicate (columns * columnWords) 0
-    → length counts ≤ columns * wordBits → Buckets counts bits
+-- The bit of a relay stands in its column's word.
+pub in-word : (bits : List ℕ) (count r : ℕ)
+    → marked bits (slotOf count r) ≡ bitOf (getD bits (wordIn (columnOf r) count) 0) (r % wordBits)
+unfolding marked wordOf
+in-word bits count r = rw (slot-word count r, slot-bit count r)
+
+-- Words of zeros have no bit.
+pub no-bits : (columns size : ℕ) (bits : List ℕ) → bits ≡ replicate (columns * columnWords) 0 → size ≤ columns * wordBits
+    → NoBits size bits
 unfolding wordOf
-buckets-none columns counts bits start e room =
+no-bits columns size bits e room =
     record {
       room = λ r h. omega (arith, long);
-      few = λ r. omega (arith, start .rest r (omega arith));
-      bit = λ c r some most h.
+      none = λ c r some most h.
           ap (λ (l : List ℕ). marked l (slotOf c r)) e
-          ∙ marked-none (columns * columnWords) (slotOf c r) (omega (arith, long, slot-word c r))
-          ∙ sym (ap (λ (x : ℕ). eqb x c) (start .rest r (omega arith)) ∙ ne-eqb 0 c (λ z. omega arith));
+          ∙ marked-none (columns * columnWords) (slotOf c r) (omega (arith, long, slot-word c r));
     }
   where
     long : length bits ≡ columns * columnWords
@@ -127,23 +144,6 @@ module _ {counts bits : List ℕ} (r : ℕ) (below : r < length counts) (s : Buc
 
     own-other : (c : ℕ) → 0 < c → c < columnWords → (c ≡ k → ⊥) → marked (flip bits (slotOf k r)) (slotOf c r) ≡ eqb (getD counts r 0) c
     own-other c from to e = flip-own bits k c most to e ∙ own-bit c from to
-
-  -- r begins to wait.
-  pub enter-moves : (at bit : ℕ) (bits′ : List ℕ) → getD counts r 0 ≡ 0 → at ≡ wordOf 1 r → bit ≡ bitFor 1 r
-      → bits′ ≡ set bits at (bitXor (getD bits at 0) bit) → Moved r 1 counts (set counts r 1) bits′
-  enter-moves at bit bits′ none a b t =
-      rw (t ∙ flips bits 1 1 at bit a b ∙ flipped-some bits 1 r 1 (omega arith))
-      (moved 1 (flip bits (slotOf 1 r)) (omega arith) (length-flip bits (slotOf 1 r))
-      (λ c q some most h e. flip-others bits 1 c q (omega arith) most e)
-      (λ c some most. own c some most (ℕ-discrete c 1)))
-    where
-      own : (c : ℕ) → 0 < c → c < columnWords → Dec (c ≡ 1) → marked (flip bits (slotOf 1 r)) (slotOf c r) ≡ eqb 1 c
-      own c some most (yes e) =
-          rw e (own-it 1 (omega arith) (omega arith) ∙ ap (λ (x : ℕ). not (eqb x 1)) none)
-      own c some most (no e) =
-          own-other 1 (omega arith) (omega arith) c some most e
-          ∙ ne-eqb (getD counts r 0) c (λ z. omega arith)
-          ∙ sym (ne-eqb 1 c (λ z. e (sym z)))
 
   -- r is placed.
   pub leave-moves : (count at bit : ℕ) (bits′ : List ℕ) → count ≡ getD counts r 0 → at ≡ wordOf count r

@@ -9,8 +9,9 @@ use borrow.Author.Tests.{eqb-true, eqb-false, lt-ltb, le-ltb}
 use lib.Dec.{eqb, ltb}
 use lib.ListN.{length, getD, set, length-set}
 use lib.Seq.{getD-set-same, getD-set-other}
+use Rattle.definitions.specs.Network.{touches}
 use Rattle.definitions.specs.Outcome.{pick}
-use Rattle.forests.specs.Chains.{touches, nextAt, nextFrom, halfOf, nextHalf, Chainable, ChainedFrom}
+use Rattle.forests.specs.Chains.{nextAt, nextFrom, halfOf, nextHalf, Chainable, ChainedFrom}
 
 module _ (lows highs : List ℕ) (r : ℕ) where
   at-within : (count i : ℕ) → (i ≤ nextAt lows highs r count i) × (nextAt lows highs r count i ≤ i + count)

@@ -1,17 +1,18 @@
--- The lowest of the relays with the greatest count is the one that follows in the order. Assumes nothing.
-use Prim.Native.Nat.{ℕ, zero, suc, _<_}
+-- The lowest of the relays with the greatest count is the one that follows in the order, from the second place on.
+-- Assumes nothing.
+use Prim.Native.Nat.{ℕ, suc, _≤_, _<_}
 use mathlib.Core.Bool.{Bool, true, false}
 use mathlib.Core.List.{List}
-use mathlib.Core.Path.{_≡_, refl, sym, _∙_}
+use mathlib.Core.Path.{_≡_, refl, _∙_}
 use native.Mathlib.Decide.{decLt}
 use native.Mathlib.Omega.{arith}
 use lib.ListN.{getD}
 use Rattle.definitions.specs.Lists.{has, count}
 use Rattle.definitions.specs.Network.{linked}
-use Rattle.definitions.specs.Order.{weight, placedAfter, firstRelay}
+use Rattle.definitions.specs.Order.{weight, placedAfter}
 use Rattle.forests.specs.Counts.{Heaviest}
 use Rattle.forests.specs.Scan.{placed, following, CountsAt}
-use Rattle.forests.proofs.OrderLaws.{following-new, following-is, following-first}
+use Rattle.forests.proofs.OrderLaws.{following-new, following-is}
 
 module _ {n : ℕ} {lows highs : List ℕ} {k : ℕ} {counts : List ℕ} (at : CountsAt n lows highs k counts) where
   -- A waiting relay's count, and a placed relay's.
@@ -46,24 +47,23 @@ module _ {n : ℕ} {lows highs : List ℕ} {k : ℕ} {counts : List ℕ} (at : C
         go (yes p) = p
         go (no p) = absurd (omega (arith, some, at .rest x (omega arith)))
 
-    later : 0 < k → following n lows highs k ≡ x
-    later more =
+    pub heaviest-follows : 0 < k → following n lows highs k ≡ x
+    heaviest-follows more =
         let waiting = waits x below some in
         let own = count-waiting x below waiting in
         following-is n lows highs k x more within below waiting (λ y p w.
         let other = count-waiting y p w in
         (omega (arith, h .most y, own, other), λ e. h .lowest y (omega (arith, own, other, e))))
 
--- Where no relay is placed, all counts are 1, and the lowest relay number comes first.
-first-follows : {n : ℕ} {lows highs counts : List ℕ} {x : ℕ} → CountsAt n lows highs 0 counts → 0 < n → Heaviest counts x
-    → following n lows highs 0 ≡ x
-unfolding placedAfter weight count has firstRelay
-first-follows {n} {lows} {highs} {counts} {x} at within h =
-    let own : getD counts x 0 ≡ 1 = at .count x (below at within h) in
-    let zeroth : getD counts 0 0 ≡ 1 = at .count 0 within in
-    omega (arith, following-first n lows highs, h .lowest 0 (zeroth ∙ sym own))
+-- Where no relay is placed, all counts are at most 1, and that of the first relay is 1.
+pub first-heaviest : {n : ℕ} {lows highs counts : List ℕ} → CountsAt n lows highs 0 counts → 0 < n
+    → (r : ℕ) → getD counts r 0 ≤ getD counts (following n lows highs 0) 0
+unfolding placedAfter weight count has
+first-heaviest {n} {lows} {highs} {counts} at within r = go (decLt r n)
+  where
+    own : getD counts (following n lows highs 0) 0 ≡ 1
+    own = at .count (following n lows highs 0) (following-new n lows highs 0 within .0)
 
-pub heaviest-follows : {n : ℕ} {lows highs : List ℕ} (k : ℕ) {counts : List ℕ} {x : ℕ} → CountsAt n lows highs k counts → k < n
-    → Heaviest counts x → following n lows highs k ≡ x
-heaviest-follows zero at within h = first-follows at within h
-heaviest-follows (suc k) at within h = later at within h (omega arith)
+    go : Dec (r < n) → getD counts r 0 ≤ getD counts (following n lows highs 0) 0
+    go (yes h) = let other : getD counts r 0 ≡ 1 = at .count r h in omega (arith, own)
+    go (no h) = omega (arith, at .rest r (omega arith))

@@ -2,13 +2,11 @@
 use Prim.Native.Nat.{ℕ, zero, suc, _+_, _≤_, _<_}
 use mathlib.Core.List.{List}
 use mathlib.Core.Path.{_≡_, refl, _∙_, ap}
-use native.Mathlib.Decide.{ℕ-discrete}
 use native.Mathlib.Omega.{arith}
 use borrow.Author.Tests.{eq-eqb, ne-eqb}
-use lib.ListN.{length, getD, set, replicate, length-set}
-use lib.Seq.{getD-set-same, getD-set-other}
+use lib.ListN.{getD, replicate}
 use Rattle.lists.specs.Tables.{getD-zeros}
-use Rattle.forests.specs.Counts.{raisedCount, forestNumber, StartCounts}
+use Rattle.forests.specs.Counts.{raisedCount, forestNumber, NoneBeyond}
 
 pub raised-none : (count : ℕ) → count ≡ 0 → raisedCount count ≡ 0
 unfolding raisedCount
@@ -39,22 +37,5 @@ pub number-small : (count old : ℕ) → (0 < count → old ≡ 0) → count < 6
 number-small zero old fresh few short = omega arith
 number-small (suc count) old fresh few short = omega (arith, fresh (omega arith))
 
-pub start-none : (size : ℕ) (counts : List ℕ) → counts ≡ replicate size 0 → StartCounts 0 counts
-start-none size counts e =
-    record {
-      room = omega arith;
-      waiting = λ r h. absurd (omega arith);
-      rest = λ r h. ap (λ l. getD l r 0) e ∙ getD-zeros size r;
-    }
-
-pub start-more : (n : ℕ) (counts : List ℕ) → n < length counts → StartCounts n counts → StartCounts (n + 1) (set counts n 1)
-start-more n counts h s =
-    record {
-      room = omega (arith, length-set counts n 1);
-      waiting = λ r p. go r p (ℕ-discrete r n);
-      rest = λ r p. getD-set-other counts n r 1 0 (λ z. omega arith) ∙ s .rest r (omega arith);
-    }
-  where
-    go : (r : ℕ) → r < n + 1 → Dec (r ≡ n) → getD (set counts n 1) r 0 ≡ 1
-    go r p (yes d) = rw d (getD-set-same counts n 1 0 h)
-    go r p (no d) = getD-set-other counts n r 1 0 d ∙ s .waiting r (omega arith)
+pub none-counted : (size : ℕ) (counts : List ℕ) → counts ≡ replicate size 0 → NoneBeyond 0 counts
+none-counted size counts e r h = ap (λ (l : List ℕ). getD l r 0) e ∙ getD-zeros size r

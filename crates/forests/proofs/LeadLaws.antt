@@ -1,5 +1,5 @@
 -- The laws of the search for the relay that leads: the lowest bit of the highest word that is not 0. Assumes nothing.
-use Prim.Native.Nat.{ℕ, _+_, _-_, _*_, _/_, _%_, _^_, _≤_, _<_}
+use Prim.Native.Nat.{ℕ, _+_, _-_, _*_, _%_, _^_, _≤_, _<_}
 use mathlib.Core.Bool.{true, false, true≢false}
 use mathlib.Core.List.{List}
 use mathlib.Core.Path.{_≡_, refl, sym, _∙_, ap}
@@ -12,6 +12,7 @@ use Rattle.lists.specs.Bitmap.{no-bit, bitOf, marked}
 use Rattle.lists.specs.LowestBit.{lowest-bit}
 use Rattle.forests.specs.Counts.{Heaviest}
 use Rattle.forests.specs.Buckets.{wordBits, columnWords, columnOf, wordIn, wordOf, slotOf, Buckets, FirstColumn, LowestBit, Leads}
+use Rattle.forests.proofs.BucketLaws.{in-word}
 
 pub lowest-relay : (g word : ℕ) → 0 < word → word < 2 ^ 64 → LowestBit g word (g * wordBits + trailingZeros 64 word)
 lowest-relay g word some few =
@@ -28,16 +29,8 @@ none-more count bits g below here h less = go (ℕ-discrete h g)
     go (no e) = below h (omega arith)
 
 module _ (bits : List ℕ) where
-  -- The bit of a relay stands in its column's word.
-  in-word : (count r : ℕ) → marked bits (slotOf count r) ≡ bitOf (getD bits (wordIn (columnOf r) count) 0) (r % wordBits)
-  unfolding marked slotOf wordOf
-  in-word count r =
-      let word : slotOf count r / wordBits ≡ wordOf count r = omega arith in
-      let bit : slotOf count r % wordBits ≡ r % wordBits = omega arith in
-      rw (word, bit)
-
   in-zero : (count r : ℕ) → getD bits (wordIn (columnOf r) count) 0 ≡ 0 → marked bits (slotOf count r) ≡ false
-  in-zero count r e = in-word count r ∙ ap (λ (x : ℕ). bitOf x (r % wordBits)) e ∙ no-bit (r % wordBits)
+  in-zero count r e = in-word bits count r ∙ ap (λ (x : ℕ). bitOf x (r % wordBits)) e ∙ no-bit (r % wordBits)
 
   -- No word of these counts has a bit.
   abbrev pub NoneAbove : ℕ → ℕ → ℕ → Type 0
@@ -77,7 +70,7 @@ module _ (bits : List ℕ) where
       at-x = ap (λ (h : ℕ). getD bits (wordIn h count) 0) (low .column) ∙ sym e
 
       own : marked bits (slotOf count x) ≡ true
-      own = in-word count x ∙ ap (λ (w : ℕ). bitOf w (x % wordBits)) at-x ∙ low .given
+      own = in-word bits count x ∙ ap (λ (w : ℕ). bitOf w (x % wordBits)) at-x ∙ low .given
 
       no-higher : (c r : ℕ) → c ≤ most → columnOf r < columns → marked bits (slotOf c r) ≡ true → c ≤ count
       no-higher c r to column set = go (decLe c count)
@@ -92,7 +85,7 @@ module _ (bits : List ℕ) where
           at-r : columnOf r ≡ g → bitOf word (r % wordBits) ≡ true
           at-r same =
               ap (λ (w : ℕ). bitOf w (r % wordBits)) (e ∙ ap (λ (h : ℕ). getD bits (wordIn h count) 0) (sym same))
-              ∙ sym (in-word count r)
+              ∙ sym (in-word bits count r)
               ∙ set
 
           here : r < x → Dec (columnOf r < g) → ⊥

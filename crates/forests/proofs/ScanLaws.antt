@@ -11,23 +11,23 @@ use lib.ListN.{length, getD, set, replicate, length-replicate, getD-replicate}
 use lib.Seq.{getD-set-same, getD-set-other, set-out}
 use Rattle.definitions.specs.Outcome.{pick}
 use Rattle.definitions.specs.Lists.{overwrite, someBelow, has}
-use Rattle.definitions.specs.Network.{joins, linked, Accepted}
-use Rattle.definitions.specs.Order.{placedAfter, orderOf}
+use Rattle.definitions.specs.Network.{joins, linked, touches, Accepted}
+use Rattle.definitions.specs.Order.{placedAfter, firstRelay, orderOf}
 use Rattle.lists.specs.Tables.{length-overwrite}
 use Rattle.theory.specs.Accepted.{ProperTable, accepted}
 use Rattle.theory.specs.Links.{joined-linked}
-use Rattle.forests.specs.Chains.{touches, Chainable}
+use Rattle.forests.specs.Chains.{Chainable}
 use Rattle.forests.specs.Counts.{raisedCount, Heaviest}
-use Rattle.forests.specs.Buckets.{wordBits, columnWords, mostColumns, mostCount, columnsFor, Buckets, Leads}
+use Rattle.forests.specs.Buckets.{wordBits, columnWords, mostColumns, mostCount, columnsFor, Buckets, NoBits, Leads}
 use Rattle.forests.specs.Walk.{farEnd, Walked}
 use Rattle.forests.specs.Scan.{placed, following, Placeable, PlacedOne, CountsAt, ScannedTo, ScanArrays, Startable, Scanned}
-use Rattle.forests.proofs.CountLaws.{raised-most, start-none}
-use Rattle.forests.proofs.BucketLaws.{buckets-none}
+use Rattle.forests.proofs.CountLaws.{raised-most, none-counted}
+use Rattle.forests.proofs.BucketLaws.{no-bits}
 use Rattle.forests.proofs.LeadLaws.{leads-heaviest}
 use Rattle.forests.proofs.WalkLaws.{joins-far, far-below}
-use Rattle.forests.proofs.OrderLaws.{placed-long, placed-suc, following-new, has-same, weight-linked}
+use Rattle.forests.proofs.OrderLaws.{placed-long, placed-suc, following-new, following-first, has-same, weight-linked}
 use Rattle.forests.proofs.WeightLaws.{weight-few}
-use Rattle.forests.proofs.ChoiceLaws.{count-waiting, count-placed, some-waits, heaviest-follows}
+use Rattle.forests.proofs.ChoiceLaws.{count-waiting, count-placed, some-waits, heaviest-follows, first-heaviest}
 use Rattle.forests.proofs.StepLaws.{
   counts-start,
   places-start,
@@ -42,7 +42,7 @@ use Rattle.forests.proofs.FinishLaws.{places-finish, forests-finish}
 
 -- What placing one relay did, in the code's terms.
 pub placed-one : {n v : ℕ} {lows highs counts counts′ bits′ relays relays′ places places′ forests forests′ : List ℕ} {count : ℕ} (x : ℕ)
-    → following n lows highs (v - 1) ≡ x → Heaviest counts x → getD counts x 0 ≤ mostCount
+    → following n lows highs (v - 1) ≡ x → ((r : ℕ) → getD counts r 0 ≤ getD counts x 0) → getD counts x 0 ≤ mostCount
     → relays′ ≡ set relays (v - 1) x → places′ ≡ set places x v
     → (count ≡ getD counts x 0) × Walked x lows highs counts counts′ forests forests′ × Buckets counts′ bits′
     → PlacedOne n v lows highs counts counts′ bits′ relays relays′ places places′ forests forests′ (count + 1)
@@ -58,8 +58,8 @@ placed-one {n} {v} {lows} {highs} {counts} {counts′} {count = count} x e h few
   where
     cleared : (q : ℕ) → Dec (q ≡ x) → Dec (x < length counts) → getD (set counts x 0) q 0 ≤ count
     cleared q (yes d) (yes below) = rw (d, getD-set-same counts x 0 0 below) (omega arith)
-    cleared q (yes d) (no below) = rw (set-out counts x 0 (omega arith)) (omega (arith, h .most q, w .0))
-    cleared q (no d) below = rw (getD-set-other counts x q 0 0 d) (omega (arith, h .most q, w .0))
+    cleared q (yes d) (no below) = rw (set-out counts x 0 (omega arith)) (omega (arith, h q, w .0))
+    cleared q (no d) below = rw (getD-set-other counts x q 0 0 d) (omega (arith, h q, w .0))
 
     go : (q : ℕ) (b : Bool) → pick b (raisedCount (getD (set counts x 0) q 0)) (getD (set counts x 0) q 0) ≤ count + 1
     go q true =
@@ -76,13 +76,33 @@ module _ {n v most : ℕ} {lows highs first nexts counts bits relays places fore
     pub columns-room : (columns ≤ mostColumns) × (columns * columnWords ≤ length bits)
     columns-room = omega (arith, e, p .few, within, p .walkable .sorted .room (n - 1) (omega (arith, within, p .countsAt .room)))
 
-    pub leads-most : {x : ℕ} → Leads columns most bits x → Heaviest counts x
-    leads-most {x} l =
-        leads-heaviest columns most x (following n lows highs (v - 1)) (p .walkable .sorted) l (p .mostFew) (columns-room .1)
-        (λ r h. p .countsAt .rest r (omega (arith, e, h))) (p .bounded) (some-waits (p .countsAt) within)
+    -- What `next_relay` gives: the first relay of the order at place 1, then the relay that leads.
+    module _ {x start : ℕ} (first′ : start ≡ firstRelay n lows highs)
+        (c : (v ≡ 1 → x ≡ start) × (1 < v → Leads columns most bits x))
+      where
+        heaviest : 1 < v → Heaviest counts x
+        heaviest h =
+            leads-heaviest columns most x (following n lows highs (v - 1)) (p .walkable .sorted) (c .1 h) (p .mostFew) (columns-room .1)
+            (λ r q. p .countsAt .rest r (omega (arith, e, q))) (p .bounded) (some-waits (p .countsAt) within)
 
-    pub leads-next : {x : ℕ} → Leads columns most bits x → following n lows highs (v - 1) ≡ x
-    leads-next l = heaviest-follows (v - 1) (p .countsAt) within (leads-most l)
+        pub next-is : following n lows highs (v - 1) ≡ x
+        next-is = go (decLt 1 v)
+          where
+            go : Dec (1 < v) → following n lows highs (v - 1) ≡ x
+            go (yes h) = heaviest-follows (p .countsAt) within (heaviest h) (omega arith)
+            go (no h) =
+                let one : v ≡ 1 = omega (arith, p .some) in
+                let none : v - 1 ≡ 0 = omega arith in
+                ap (following n lows highs) none ∙ following-first n lows highs ∙ sym first′ ∙ sym (c .0 one)
+
+        pub next-most : (r : ℕ) → getD counts r 0 ≤ getD counts x 0
+        next-most r = go (decLt 1 v)
+          where
+            go : Dec (1 < v) → getD counts r 0 ≤ getD counts x 0
+            go (yes h) = heaviest h .most r
+            go (no h) =
+                let none : v - 1 ≡ 0 = omega (arith, p .some) in
+                rw (← next-is, none) (first-heaviest (rw none at (p .countsAt)) (omega (arith, within)) r)
 
     -- It is one of the n.
     pub next-below : following n lows highs (v - 1) < n
@@ -109,7 +129,6 @@ pub scan-arrays : (size halves columns n : ℕ) {lows first nexts counts bits : 
 scan-arrays size halves columns n {lows} {first} {nexts} {counts} {bits} heads few room wide f h c b =
     let long : length first ≡ size = ap length f ∙ length-replicate size (2 * length lows) in
     let counted : length counts ≡ size = ap length c ∙ length-replicate {A = ℕ} size 0 in
-    let start = start-none size counts c in
     record {
       heads = omega arith;
       few = omega arith;
@@ -119,9 +138,13 @@ scan-arrays size halves columns n {lows} {first} {nexts} {counts} {bits} heads f
             room = omega (arith, ap length h, length-replicate {A = ℕ} halves 0);
           };
       countRoom = omega arith;
-      noCounts = start;
-      sorted = buckets-none columns counts bits start b (omega arith);
+      noCounts = none-counted size counts c;
+      noBits = no-bits columns (length counts) bits b (omega arith);
     }
+
+-- Columns of more relays are columns of fewer.
+pub fewer-columns : {size fewer : ℕ} {bits : List ℕ} → fewer ≤ size → NoBits size bits → NoBits fewer bits
+fewer-columns h b = record { room = λ r p. b .room r (omega arith); none = b .none }
 
 -- Chains can be made of an accepted table.
 pub chain-ready : {n : ℕ} {lows highs first nexts counts bits : List ℕ} → Accepted n lows highs

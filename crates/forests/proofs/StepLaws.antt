@@ -12,12 +12,11 @@ use lib.ListN.{length, getD, set, drop, length-set, length-append}
 use lib.Seq.{getD-set-same, getD-set-other, set-at, drop-cons}
 use Rattle.definitions.specs.Outcome.{pick}
 use Rattle.definitions.specs.Lists.{overwrite, someBelow, has, count, position}
-use Rattle.definitions.specs.Network.{joins, linked}
+use Rattle.definitions.specs.Network.{joins, linked, touches}
 use Rattle.definitions.specs.Order.{weight, placedAfter}
 use Rattle.lists.specs.Tests.{or-either}
 use Rattle.theory.specs.Accepted.{ProperTable}
 use Rattle.theory.specs.Links.{joins-ends, joins-sym, joined-linked}
-use Rattle.forests.specs.Chains.{touches}
 use Rattle.forests.specs.Counts.{raisedCount, forestNumber, StartCounts}
 use Rattle.forests.specs.Walk.{otherEnd, farEnd, Walked}
 use Rattle.forests.specs.Scan.{placed, following, CountsAt, PlacesAt, ForestsAt}

@@ -11,13 +11,13 @@ use lib.ListN.{length, getD, set, length-set}
 use lib.Seq.{getD-set-same, getD-set-other}
 use Rattle.definitions.specs.Outcome.{pick}
 use Rattle.definitions.specs.Lists.{someBelow}
-use Rattle.definitions.specs.Network.{isPair, joins}
+use Rattle.definitions.specs.Network.{isPair, joins, touches}
 use Rattle.lists.specs.Tests.{and-false, or-none}
 use Rattle.lists.specs.Below.{none-below}
 use Rattle.lists.specs.Stretches.{some-skip, and-skip}
 use Rattle.theory.specs.Accepted.{ProperTable}
 use Rattle.theory.specs.Links.{one-link}
-use Rattle.forests.specs.Chains.{touches, halfOf, nextHalf, ChainedFrom}
+use Rattle.forests.specs.Chains.{halfOf, nextHalf, ChainedFrom}
 use Rattle.forests.specs.Counts.{raisedCount, forestNumber}
 use Rattle.forests.specs.Walk.{otherEnd, farEnd, acrossOf, across, WalkedTo}
 

@@ -7,7 +7,8 @@ use native.Mathlib.Decide.{decLt}
 use native.Mathlib.Omega.{arith}
 use borrow.Author.Tests.{le-ltb}
 use lib.ListN.{length, getD, set, length-set}
-use Rattle.forests.specs.Chains.{touches, nextFrom, halfOf, nextHalf}
+use Rattle.definitions.specs.Network.{touches}
+use Rattle.forests.specs.Chains.{nextFrom, halfOf, nextHalf}
 use Rattle.forests.specs.Counts.{raisedCount, forestNumber}
 use Rattle.forests.specs.Buckets.{Buckets, Moved}
 use Rattle.forests.specs.Walk.{farEnd, across, Visitable, Visited, WalkedTo, Walkable}

@@ -1,10 +1,10 @@
 -- The waiting relays by their count, as bits: relays have columns of words, one word for each count, and a relay's bit is set in
 -- the word of its count alone. The search for the greatest count begins one above the last. Assumes nothing.
-use Prim.Native.Nat.{ℕ, _+_, _-_, _*_, _/_, _%_, _^_, _≤_, _<_}
+use Prim.Native.Nat.{ℕ, _+_, _-_, _*_, _/_, _%_, _^_, _≤_, _<_, min}
 use mathlib.Core.Bool.{true, false}
 use mathlib.Core.List.{List}
 use mathlib.Core.Path.{_≡_}
-use lib.Dec.{eqb}
+use lib.Dec.{eqb, ltb}
 use lib.ListN.{length, getD, set}
 use Rattle.definitions.specs.Outcome.{pick}
 use Rattle.lists.specs.Bitmap.{bitOf, marked}
@@ -39,6 +39,10 @@ wordIn g count = g * columnWords + count
 abbrev pub bitFor : (count r : ℕ) → ℕ
 bitFor count r = pick (eqb count 0) 0 (2 ^ (r % wordBits))
 
+-- The word of count 1 in a column, by how many relays there are from its first on: a bit for each of its relays.
+abbrev pub fullWord : (left : ℕ) → ℕ
+fullWord left = 2 ^ min left wordBits - 1
+
 -- How many columns n relays have.
 abbrev pub columnsFor : (n : ℕ) → ℕ
 columnsFor n = (n + wordBits - 1) / wordBits
@@ -60,6 +64,17 @@ pub record Buckets (counts bits : List ℕ) : Type 0 where
   pub few : (r : ℕ) → getD counts r 0 ≤ mostCount
   pub bit : (count r : ℕ) → 0 < count → count < columnWords → HasColumn bits r
       → marked bits (slotOf count r) ≡ eqb (getD counts r 0) count
+
+-- No bit is set, and each of so many relays has its column.
+pub record NoBits (size : ℕ) (bits : List ℕ) : Type 0 where
+  pub room : (r : ℕ) → r < size → HasColumn bits r
+  pub none : (count r : ℕ) → 0 < count → count < columnWords → HasColumn bits r → marked bits (slotOf count r) ≡ false
+
+-- The first n relays have their bits in the words of count 1, and no other bit is set.
+abbrev pub Filled : (n : ℕ) (bits : List ℕ) → Type 0
+Filled n bits =
+    (count r : ℕ) → 0 < count → count < columnWords → HasColumn bits r
+    → marked bits (slotOf count r) ≡ eqb (pick (ltb r n) 1 0) count
 
 -- What a change of one relay's count does.
 pub record Moved (r count : ℕ) (counts counts′ bits′ : List ℕ) : Type 0 where

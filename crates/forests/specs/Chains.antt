@@ -1,17 +1,13 @@
 -- Chains of links by a search: the next link at a relay from an index on. A link is in two chains, by its two halves.
 -- Assumes nothing.
 use Prim.Native.Nat.{ℕ, zero, suc, _+_, _-_, _*_, _≤_, _<_}
-use mathlib.Core.Bool.{Bool, _||_}
 use mathlib.Core.List.{List}
 use mathlib.Core.Path.{_≡_}
 use lib.Dec.{eqb, ltb}
 use lib.ListN.{length, getD}
 use Rattle.definitions.specs.Outcome.{pick}
+use Rattle.definitions.specs.Network.{touches}
 use Rattle.theory.specs.Accepted.{ProperTable}
-
--- Link i has relay r as an end.
-unfoldable pub touches : (lows highs : List ℕ) (r i : ℕ) → Bool
-touches lows highs r i = eqb (getD lows i 0) r || eqb (getD highs i 0) r
 
 -- The first of the `count` links from i on that r is an end of; the number behind them if there is none.
 unfoldable pub nextAt : (lows highs : List ℕ) (r count i : ℕ) → ℕ

@@ -13,7 +13,7 @@ use Rattle.definitions.specs.Forests.{forestsOf}
 use Rattle.forests.specs.Fronts.{SameBeyond}
 use Rattle.forests.specs.Chains.{NoChains, ChainedFrom}
 use Rattle.forests.specs.Counts.{NoneBeyond, StartCounts}
-use Rattle.forests.specs.Buckets.{columnWords, Buckets}
+use Rattle.forests.specs.Buckets.{columnWords, Buckets, NoBits}
 use Rattle.forests.specs.Walk.{Walkable, Walked}
 
 -- The first k relays of the order, and the one that comes after them.
@@ -88,16 +88,23 @@ pub record Scannable (n : ℕ) (lows highs relays places forests : List ℕ) : T
 unfoldable pub isSmall : (n m : ℕ) → Bool
 isSmall n m = leb n 128 && leb m 384
 
--- Arrays with room for the scan, without chains and counts.
+-- Arrays with room for the scan, without chains, counts and bits.
 pub record ScanArrays (n : ℕ) (lows first nexts counts bits : List ℕ) : Type 0 where
   pub heads : n ≤ length first
   pub few : length first ≤ 1000
   pub noChains : NoChains lows first nexts
   pub countRoom : length first ≤ length counts
-  pub noCounts : StartCounts 0 counts
-  pub sorted : Buckets counts bits
+  pub noCounts : NoneBeyond 0 counts
+  pub noBits : NoBits (length counts) bits
 
--- The same, with chains and counts made, and without forest numbers.
+-- What is made in them: the chains, all relays waiting; and the first relay of the order is found.
+pub record Prepared (n : ℕ) (lows highs first nexts counts bits : List ℕ) (start : ℕ) : Type 0 where
+  pub chained : ChainedFrom lows highs 0 first nexts
+  pub startCounts : StartCounts n counts
+  pub sorted : Buckets counts bits
+  pub starts : start ≡ firstRelay n lows highs
+
+-- The same arrays, with chains and counts made, and without forest numbers.
 pub record Startable (n : ℕ) (lows highs first nexts counts bits relays places forests : List ℕ) : Type 0 where
   pub scannable : Scannable n lows highs relays places forests
   pub heads : n ≤ length first

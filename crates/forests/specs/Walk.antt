@@ -8,9 +8,9 @@ use lib.Dec.{eqb, ltb}
 use lib.ListN.{length, getD, set}
 use Rattle.definitions.specs.Outcome.{pick}
 use Rattle.definitions.specs.Lists.{someBelow}
-use Rattle.definitions.specs.Network.{joins}
+use Rattle.definitions.specs.Network.{joins, touches}
 use Rattle.theory.specs.Accepted.{ProperTable}
-use Rattle.forests.specs.Chains.{touches, ChainedFrom}
+use Rattle.forests.specs.Chains.{ChainedFrom}
 use Rattle.forests.specs.Counts.{raisedCount, forestNumber}
 use Rattle.forests.specs.Buckets.{mostCount, Buckets}
 

@@ -7,7 +7,7 @@ ghost use Prim.Native.Nat.{_*_, _<_, _≤_};
 ghost use mathlib.Core.Path.{_≡_};
 ghost use lib.Bits.{bitXor};
 ghost use lib.ListN.{length, getD, set, replicate};
-ghost use Rattle.forests.specs.Counts.{raisedCount, StartCounts};
+ghost use Rattle.forests.specs.Counts.{raisedCount, NoneBeyond, StartCounts};
 ghost use Rattle.forests.specs.Buckets.{
   columnWords,
   mostColumns,
@@ -15,8 +15,11 @@ ghost use Rattle.forests.specs.Buckets.{
   mostCount,
   columnsFor,
   bitFor,
+  fullWord,
   wordOf,
   Buckets,
+  NoBits,
+  Filled,
   Moved,
   FirstColumn,
   LowestBit,
@@ -73,26 +76,51 @@ fn flip(at: usize, bit: u64, bits: &mut [u64])
     bits[at] = word ^ bit;
 }
 
-// Relay r begins to wait, with no link to a placed relay.
-fn enter(r: Relay, counts: &mut [u16], bits: &mut [u64])
-    requires { ⌜ (r .0 < length (now counts)) × (getD (now counts) (r .0) 0 ≡ 0) × Buckets (now counts) (now bits) ⌝ }
-    ensures { λ _. ⌜ Moved (r .0) 1 (now (counts .entry)) (now (counts .exit)) (now (bits .exit)) ⌝ }
+// Each of the first n relays has count 1.
+fn wait_all(n: u16, counts: &mut [u16])
+    requires { ⌜ (n ≤ length (now counts)) × NoneBeyond n (now counts) ⌝ }
+    ensures { λ _. ⌜ StartCounts n (now (counts .exit)) ⌝ }
 {
-    let at = r.0 as usize;
-    counts[at] = 1;
-    flip(word_of(1, r), bit_of(1, r), bits);
+    let size = n as usize;
+    let mut r = 0;
+    while r < size {
+        counts[r] = 1;
+        r += 1;
+    }
+}
+
+// The word of count 1 in a column, by how many relays there are from its first on: a bit for each of its relays.
+fn full_word(left: usize) -> u64
+    ensures { λ word. ⌜ word ≡ fullWord left ⌝ }
+{
+    if left < WORD_BITS {
+        (1u64 << left) - 1
+    } else {
+        18446744073709551615
+    }
+}
+
+// The first n relays have their bits in the words of count 1.
+fn fill_words(n: u16, bits: &mut [u64])
+    requires { ⌜ NoBits n (now bits) ⌝ }
+    ensures { λ _. ⌜ Filled n (now (bits .exit)) ⌝ }
+{
+    let size = n as usize;
+    let columns = columns_of(n);
+    let mut g = 0;
+    while g < columns {
+        bits[g * COLUMN_WORDS + 1] = full_word(size - g * WORD_BITS);
+        g += 1;
+    }
 }
 
 // Relays 0 to n − 1 wait for their places.
 pub(crate) fn start_counts(n: u16, counts: &mut [u16], bits: &mut [u64])
-    requires { ⌜ (n ≤ length (now counts)) × StartCounts 0 (now counts) × Buckets (now counts) (now bits) ⌝ }
+    requires { ⌜ (n ≤ length (now counts)) × NoneBeyond n (now counts) × NoBits (length (now counts)) (now bits) ⌝ }
     ensures { λ _. ⌜ StartCounts n (now (counts .exit)) × Buckets (now (counts .exit)) (now (bits .exit)) ⌝ }
 {
-    let mut r = 0;
-    while r < n {
-        enter(Relay(r), counts, bits);
-        r += 1;
-    }
+    wait_all(n, counts);
+    fill_words(n, bits);
 }
 
 // Relay r is placed and waits no more. Gives its count before.

@@ -14,6 +14,7 @@ ghost use Rattle.forests.specs.Answers.{orderOutcome, splitOutcome, cutO
 
 pub mod arrays;
 mod buckets;
+mod busiest;
 mod chains;
 pub mod clear;
 mod counts;

@@ -10,19 +10,21 @@ use crate::buckets::columns_of;
 use crate::buckets::few_column_zeros;
 use crate::buckets::leading;
 use crate::buckets::start_counts;
+use crate::busiest::busiest;
 use crate::chains::link_up;
 use crate::clear::clear;
 use crate::walk::walk;
 use network::Place;
 use network::Relay;
-ghost use Prim.Native.Nat.{_-_, _<_, _≤_};
+ghost use Prim.Native.Nat.{_-_, _*_, _<_, _≤_};
 ghost use mathlib.Core.Path.{_≡_};
 ghost use lib.ListN.{length, getD, set};
 ghost use Rattle.definitions.specs.Lists.{overwrite};
 ghost use Rattle.definitions.specs.Network.{Accepted};
-ghost use Rattle.definitions.specs.Order.{orderOf, placesOf};
+ghost use Rattle.definitions.specs.Order.{firstRelay, orderOf, placesOf};
 ghost use Rattle.definitions.specs.Forests.{forestsOf};
-ghost use Rattle.forests.specs.Scan.{Startable, Scannable, ScanArrays, isSmall, Scanned};
+ghost use Rattle.forests.specs.Buckets.{columnWords, mostColumns, Leads};
+ghost use Rattle.forests.specs.Scan.{Prepared, Startable, Scannable, ScanArrays, isSmall, Scanned};
 
 // The place of a relay, from the list of places.
 pub fn place_of(places: &[u16], r: Relay) -> Place
@@ -45,9 +47,21 @@ fn put(x: Relay, v: Place, relays: &mut [u16], places: &mut [u16])
     places[r] = v.0;
 }
 
-// All n relays get their places, each time the one that leads; no count is greater than `most`.
+// The relay that gets place v: the first is given, and then it is the one that leads.
+fn next_relay(v: Place, start: Relay, columns: usize, most: u16, bits: &[u64]) -> Relay
+    requires { ⌜ (most < columnWords) × (columns ≤ mostColumns) × (columns * columnWords ≤ length (now bits)) ⌝ }
+    ensures { λ x. ⌜ (v .0 ≡ 1 → x .0 ≡ start .0) × (1 < v .0 → Leads columns most (now (bits .entry)) (x .0)) ⌝ }
+{
+    if v.0 <= 1 {
+        return start;
+    }
+    leading(columns, most, bits)
+}
+
+// All n relays get their places, `start` the first; no count is greater than `most`.
 fn place_all(
     n: u16,
+    start: Relay,
     lows: &[u16],
     highs: &[u16],
     first: &[u16],
@@ -59,7 +73,7 @@ fn place_all(
     forests: &mut [u16],
 )
     requires { ⌜ Startable n (now lows) (now highs) (now first) (now nexts) (now counts) (now bits)
-        (now relays) (now places) (now forests) ⌝ }
+        (now relays) (now places) (now forests) × (start .0 ≡ firstRelay n (now lows) (now highs)) ⌝ }
     ensures { λ _. ⌜ Scanned n (now (lows .entry)) (now (highs .entry)) (now (relays .entry)) (now (relays .exit))
         (now (places .entry)) (now (places .exit)) (now (forests .entry)) (now (forests .exit)) ⌝ }
 {
@@ -68,10 +82,31 @@ fn place_all(
     let mut most = 1;
     while v < n {
         v += 1;
-        let x = leading(columns, most, bits);
+        let x = next_relay(Place(v), start, columns, most, bits);
         put(x, Place(v), relays, places);
         most = walk(x, lows, highs, first, nexts, counts, bits, forests) + 1;
     }
+}
+
+// Makes the chains and lets all relays wait. Gives the first relay of the order.
+fn prepare(
+    n: u16,
+    lows: &[u16],
+    highs: &[u16],
+    first: &mut [u16],
+    nexts: &mut [u16],
+    counts: &mut [u16],
+    bits: &mut [u64],
+) -> Relay
+    requires { ⌜ Accepted n (now lows) (now highs)
+        × ScanArrays n (now lows) (now first) (now nexts) (now counts) (now bits) ⌝ }
+    ensures { λ x. ⌜ Prepared n (now (lows .entry)) (now (highs .entry)) (now (first .exit)) (now (nexts .exit))
+        (now (counts .exit)) (now (bits .exit)) (x .0) ⌝ }
+{
+    link_up(lows, highs, first, nexts, counts);
+    let start = busiest(n, counts);
+    start_counts(n, counts, bits);
+    start
 }
 
 // The scan in arrays that are lent to it.
@@ -92,11 +127,11 @@ fn scan_in(
     ensures { λ _. ⌜ Scanned n (now (lows .entry)) (now (highs .entry)) (now (relays .entry)) (now (relays .exit))
         (now (places .entry)) (now (places .exit)) (now (forests .entry)) (now (forests .exit)) ⌝ }
 {
-    link_up(lows, highs, first, nexts);
-    start_counts(n, counts, bits);
+    let start = prepare(n, lows, highs, first, nexts, counts, bits);
     clear(forests, lows.len());
     place_all(
         n,
+        start,
         lows,
         highs,
         first,

@@ -168,8 +168,15 @@ fn mesh_short() {
 
 fn good_networks() {
     twelve_entries(b"square", 4, &[0u16, 1, 2, 0], &[1u16, 2, 3, 3], 1);
-    four_entries(b"renumbered", 4, &[1u16, 2, 1, 0], &[2u16, 3, 3, 2], 1);
+    four_entries(b"renumbered", 4, &[0u16, 0, 1, 1], &[1u16, 2, 2, 3], 1);
     five_entries(b"two parts", 5, &[3u16, 0], &[4u16, 2], 1);
+    seven_entries(
+        b"two busiest",
+        7,
+        &[0u16, 3, 3, 4, 4, 5],
+        &[1u16, 4, 5, 5, 6, 6],
+        1,
+    );
     four_entries(b"one relay", 1, &[0u16; 0], &[0u16; 0], 32);
     no_entries(b"one relay", 1, &[0u16; 0], &[0u16; 0], 32);
 }

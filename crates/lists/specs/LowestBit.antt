@@ -1,14 +1,15 @@
--- The lowest set bit of a word stands where its trailing zeros end. Assumes nothing.
-use Prim.Native.Nat.{ℕ, zero, suc, _/_, _%_, _^_, _<_}
+-- The lowest set bit of a word stands where its trailing zeros end, and the bits of a number of ones. Assumes nothing.
+use Prim.Native.Nat.{ℕ, zero, suc, _-_, _/_, _%_, _^_, _<_}
 use mathlib.Core.Bool.{true, false}
 use mathlib.Core.Path.{_≡_, refl, sym, _∙_, ap}
-use native.Mathlib.Nat.{div-one, zero-lt-suc}
+use native.Mathlib.Nat.{div-one, zero-lt-suc, pow-succ'}
 use native.Mathlib.Numerals.{add-one, one-add}
 use native.Mathlib.Omega.{arith}
+use borrow.Author.Tests.{lt-ltb, le-ltb}
 use lib.Count.{trailingZeros, under}
-use lib.Dec.{eqb}
-use lib.Pow.{shr-shr, shr-lt}
-use Rattle.lists.specs.Bitmap.{bitOf}
+use lib.Dec.{eqb, ltb, leb·suc-suc}
+use lib.Pow.{pow-pos, shr-shr, shr-lt}
+use Rattle.lists.specs.Bitmap.{bitOf, no-bit}
 
 -- Bit 0 is the lowest digit, and bit s + 1 is bit s of the half.
 bit-zero : (word digit : ℕ) → word % 2 ≡ digit → bitOf word 0 ≡ eqb digit 1
@@ -46,3 +47,12 @@ pub lowest-bit : (word : ℕ) → 0 < word → word < 2 ^ 64
     × (bitOf word (trailingZeros 64 word) ≡ true)
     × ((s : ℕ) → s < trailingZeros 64 word → bitOf word s ≡ false)
 lowest-bit = lowest 64
+
+-- The number of k ones has the k lowest bits and no other.
+pub bit-ones : (k s : ℕ) → bitOf (2 ^ k - 1) s ≡ ltb s k
+bit-ones zero s = no-bit s ∙ sym (le-ltb s 0 (omega arith))
+bit-ones (suc k) zero =
+    bit-zero (2 ^ suc k - 1) 1 (omega (arith, pow-succ' 2 k, pow-pos k)) ∙ sym (lt-ltb 0 (suc k) (omega arith))
+bit-ones (suc k) (suc s) =
+    let half : (2 ^ suc k - 1) / 2 ≡ 2 ^ k - 1 = omega (arith, pow-succ' 2 k) in
+    bit-suc (2 ^ suc k - 1) s ∙ ap (λ (x : ℕ). bitOf x s) half ∙ bit-ones k s ∙ sym (leb·suc-suc (suc s) k)

@@ -1,5 +1,5 @@
--- The choice of the ordering's next relay: the greatest weight, of equals the first in the list; where the list rises, the
--- lowest number.
+-- The choice of the ordering's first and next relay: the greatest weight, of equals the first in the list; where the list rises,
+-- the lowest number.
 use Prim.Native.Nat.{ℕ, zero, suc, _≤_, _<_}
 use mathlib.Core.Bool.{Bool, true, false}
 use mathlib.Core.List.{List, [], _∷_}
@@ -109,3 +109,14 @@ module _ (w : ℕ → ℕ) where
           after false q =
               let same : i .0 ≡ c .at = omega (arith, ltb-false (i .0) (c .at) e, ltb-false (c .at) (i .0) q) in
               omega (arith, sym (i .2) ∙ ap (λ (j : ℕ). getD l j 0) same ∙ c .here)
+
+  -- Where the list rises, the choice is told by weight and number: nothing is heavier, and of equals it is the lowest.
+  pub chosen-is : (l : List ℕ) (c : ℕ) → Ascending l → Chosen w l c → (b : ℕ) → has l b ≡ true
+      → ((y : ℕ) → has l y ≡ true → (w y ≤ w b) × (w y ≡ w b → b ≤ y)) → c ≡ b
+  chosen-is l c rise chosen b h top =
+      let up : w b ≤ w c = chosen-most l c chosen b h in
+      let down : (w c ≤ w b) × (w c ≡ w b → b ≤ c) = top c (chosen-has l c chosen) in
+      let low : b ≤ c = down .1 (omega (arith, down .0)) in
+      let high : b < c → w b < w c = chosen-lowest l c rise chosen b h in
+      let within : ¬ (b < c) = λ less. omega (arith, high less, down .0) in
+      omega arith

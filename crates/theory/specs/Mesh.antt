@@ -30,14 +30,13 @@ pub mesh-accepted : Accepted 5 lows highs
 unfolding opened
 mesh-accepted = refl
 
--- Over links of forest 2 alone: 4 3, 3 2, 2 1.
+-- Over links of forest 2 alone: 4 3, 3 1.
 pub mesh-one-tree : OneTree lows highs forests 2 4 1
 unfolding opened
 mesh-one-tree =
     onward {b = 3} tt (6, omega arith, refl, refl)
-    (onward {b = 2} tt (4, omega arith, refl, refl)
-    (onward {b = 1} tt (2, omega arith, refl, refl)
-    (alone tt)))
+    (onward {b = 1} tt (3, omega arith, refl, refl)
+    (alone tt))
 
 abbrev dead : ℕ → Bool
 dead = eqb 2

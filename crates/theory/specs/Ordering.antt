@@ -19,7 +19,7 @@ use Rattle.lists.specs.Distinct.{no-repeat-snoc, distinct}
 use Rattle.lists.specs.Counting.{count-has, count-not, count-once, count-present, length-keep, covers}
 use Rattle.lists.specs.Ascending.{Ascending, ascending-keep}
 use Rattle.theory.specs.AllRelays.{all-long, all-once, all-has, all-below, first-of-all}
-use Rattle.theory.specs.Heaviest.{Chosen, heaviestOf-chosen, chosen-has, chosen-most, chosen-lowest}
+use Rattle.theory.specs.Heaviest.{Chosen, heaviestOf-chosen, chosen-has, chosen-most, chosen-is}
 
 -- What has no place yet: a candidate that is not placed.
 pub unplaced-has : (placed candidates : List ℕ) (r : ℕ)
@@ -130,18 +130,10 @@ module _
     next-is rise k some few b candidate waits top =
         let placed = placedAfter linked first candidates k in
         let w = weight linked placed in
-        let open′ = unplaced placed candidates in
-        let c = nextRelay linked first candidates placed in
-        let chosen : Chosen w open′ c = next-chosen k some few in
-        let cOpen = has-unplaced placed candidates c (chosen-has w open′ c chosen) in
-        let bOpen : has open′ b ≡ true = unplaced-has placed candidates b candidate waits in
-        let up : w b ≤ w c = chosen-most w open′ c chosen b bOpen in
-        let down : (w c ≤ w b) × (w c ≡ w b → b ≤ c) = top c (cOpen .0) (cOpen .1) in
-        let low : b ≤ c = down .1 (omega (arith, down .0)) in
-        let high : b < c → w b < w c =
-        chosen-lowest w open′ c (ascending-keep (λ x. not (has placed x)) candidates rise) chosen b bOpen in
-        let within : ¬ (b < c) = λ h. omega (arith, high h, down .0) in
-        omega arith
+        chosen-is w (unplaced placed candidates) (nextRelay linked first candidates placed)
+        (ascending-keep (λ x. not (has placed x)) candidates rise) (next-chosen k some few) b
+        (unplaced-has placed candidates b candidate waits)
+        (λ y open′. let found = has-unplaced placed candidates y open′ in top y (found .0) (found .1))
 
     pub next-new : (k : ℕ) → k < length candidates
         → (has candidates (nextRelay linked first candidates (placedAfter linked first candidates k)) ≡ true)
@@ -271,3 +263,8 @@ module _ (n : ℕ) (lows highs : List ℕ) where
   unfolding orderOf
   order-maximal v w h k =
       placed-maximal (linkedIn lows highs) (firstRelay n lows highs) (allRelays n) (all-once n) (first-of-all n lows highs) n v w (omega (arith, all-long n)) h k
+
+  -- "the first relay is the one with the most links, of equals the lowest number"
+  pub order-first : 0 < n → getD (orderOf n lows highs) 0 0 ≡ firstRelay n lows highs
+  unfolding orderOf placedAfter nextRelay
+  order-first h = placed-at (linkedIn lows highs) (firstRelay n lows highs) (allRelays n) n 0 h

@@ -14,14 +14,15 @@ use Rattle.definitions.specs.Outcome.{done, refuseIf}
 use Rattle.definitions.specs.Lists.{overwrite, has}
 use Rattle.definitions.specs.Network.{tableCheck, Accepted}
 use Rattle.definitions.specs.Demand.{NoRepeat, MaximalOrder}
-use Rattle.definitions.specs.Order.{orderOf, placeOf, relayAt, orderAnswer, placesOf, relaysAfter, placesAfter}
+use Rattle.definitions.specs.Order.{firstRelay, orderOf, placeOf, relayAt, orderAnswer, placesOf, relaysAfter, placesAfter}
 use Rattle.lists.specs.Outcomes.{refuse-not, then-done, if-done}
 use Rattle.lists.specs.Tests.{or-neither}
 use Rattle.lists.specs.Tables.{length-table, getD-table}
 use Rattle.lists.specs.Overwritten.{getD-overwrite, take-overwrite}
 use Rattle.lists.specs.Members.{has-at}
 use Rattle.lists.specs.Positions.{position-which, position-at, position-absent}
-use Rattle.theory.specs.Ordering.{order-length, order-no-repeat, order-has, order-at, order-maximal}
+use Rattle.theory.specs.AllRelays.{first-busiest, first-lowest}
+use Rattle.theory.specs.Ordering.{order-length, order-no-repeat, order-has, order-at, order-maximal, order-first}
 
 pub relay-of-place : (order : List ℕ) (r : ℕ) → has order r ≡ true
     → (1 ≤ placeOf order r) × (placeOf order r ≤ length order) × (relayAt order (placeOf order r) ≡ r)
@@ -134,10 +135,16 @@ module _ (n : ℕ) (lows highs : List ℕ) where
               getD-overwrite order relays w 0 (omega (arith, order-length n lows highs)),
             )
             (order-maximal n lows highs v w h k);
+        busiest = λ r h. rw (first-entry (omega arith)) (first-busiest n lows highs r h);
+        lowest = λ r h. rw (first-entry (omega arith)) (first-lowest n lows highs r h);
       }
     where
       order : List ℕ
       order = orderOf n lows highs
+
+      first-entry : 0 < n → getD (overwrite order relays) 0 0 ≡ firstRelay n lows highs
+      first-entry some =
+          getD-overwrite order relays 0 0 (omega (arith, order-length n lows highs)) ∙ order-first n lows highs some
 
 pub maximal-order : (n : ℕ) (lows highs relays places : List ℕ)
     → Accepted n lows highs → n ≤ length relays → n ≤ length places

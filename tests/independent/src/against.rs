@@ -1,7 +1,7 @@
 //! The proved library against the second version: the same answers and lists from both, and what must hold of them.
 
 use crate::boundaries::boundaries;
-use crate::facts::{kept, parts};
+use crate::facts::{first_relay, kept, parts};
 use crate::flow::greatest;
 use crate::generate::{Network, any, damage, scratch};
 use crate::lengths::{Lengths, any_length, mostly_enough};
@@ -76,6 +76,14 @@ fn ordered(random: &mut Random, tally: &mut Tally, net: &Network, lengths: Lengt
     let reference = Report::one(forests::cut(*n, lows, highs, k, &mut ours));
     let report = library::cut(*n, lows, highs, k, &mut theirs);
     tally.same("cut", reference.code, (report, theirs), (reference, ours), &(net, k));
+}
+
+/// The first relay of the library's order.
+fn started(tally: &mut Tally, net: &Network) {
+    let mut lists = [vec![0; usize::from(net.n)], vec![0; usize::from(net.n)]];
+    let [relays, places] = &mut lists;
+    library::order(net.n, &net.lows, &net.highs, relays, places);
+    first_relay(tally, net, relays[0]);
 }
 
 /// Kept links against all links: with fewer than k relays dead they join the same live relays, and between two relays
@@ -172,6 +180,7 @@ pub fn operations(random: &mut Random, tally: &mut Tally, net: &Network, wishes:
         before_sheets(random, tally, net);
         return None;
     }
+    started(tally, net);
     certified(random, tally, net);
     let numbers = forests::numbers(net.n, &net.lows, &net.highs);
     let known = Known { net, numbers: &numbers };

@@ -1,5 +1,5 @@
-//! Document 01's examples, P1 to P12 and the others, sheets and kept lists worked out by hand, and the plain program against the
-//! fast one and the flow program.
+//! Document 01's examples, P1 to P12 as they are since #104 of document 02, and the others; sheets and kept lists worked out by hand,
+//! and the plain program against the fast one and the flow program.
 
 use crate::boundaries::boundaries;
 use crate::forests::{cut, order, split};
@@ -29,6 +29,11 @@ pub(crate) fn mesh() -> Network {
     net(5, &[(0, 1), (0, 2), (1, 2), (1, 3), (2, 3), (2, 4), (3, 4)])
 }
 
+/// Relays 4 and 5 have three links each; 0 and 1 are a part by themselves, and so is 2.
+fn in_parts() -> Network {
+    net(7, &[(0, 1), (3, 4), (3, 5), (4, 5), (4, 6), (5, 6)])
+}
+
 pub(crate) fn refused<T>(number: u32, place: usize) -> Result<T, Refusal> {
     Err(Refusal { number, place })
 }
@@ -51,17 +56,33 @@ fn marked() {
     assert_eq!(route(&square(), 3, 2, 2), Some(vec![vec![3, 0, 1, 2], vec![3, 2]]));
     assert_eq!(route(&square(), 0, 2, 2), None);
     assert_eq!(route(&full_four(), 3, 2, 3), Some(vec![vec![3, 0, 2], vec![3, 1, 2], vec![3, 2]]));
-    assert_eq!(order_and_forests(&mesh()), (vec![0, 1, 2, 3, 4], vec![1, 1, 2, 1, 2, 1, 2]));
-    assert_eq!(route(&mesh(), 4, 1, 2), Some(vec![vec![4, 3, 1], vec![4, 2, 1]]));
-    assert_eq!(route(&mesh(), 1, 4, 2), Some(vec![vec![1, 3, 4], vec![1, 2, 4]]));
-    assert_eq!(route(&mesh(), 4, 1, 1), Some(vec![vec![4, 2, 0, 1]]));
+    assert_eq!(order_and_forests(&mesh()), (vec![2, 0, 1, 3, 4], vec![2, 1, 1, 2, 1, 1, 2]));
+    assert_eq!(route(&mesh(), 4, 1, 2), Some(vec![vec![4, 2, 1], vec![4, 3, 1]]));
+    assert_eq!(route(&mesh(), 1, 4, 2), Some(vec![vec![1, 2, 4], vec![1, 3, 4]]));
+    assert_eq!(route(&mesh(), 4, 1, 1), Some(vec![vec![4, 2, 1]]));
     let mut marks = [9; 7];
     assert_eq!(cut(5, &mesh().lows, &mesh().highs, 1, &mut marks), Ok(4));
-    assert_eq!(marks, [1, 1, 0, 1, 0, 1, 0]);
+    assert_eq!(marks, [0, 1, 1, 0, 1, 1, 0]);
     assert_eq!(cut(1, &[], &[], 32, &mut []), Ok(0));
     assert_eq!(split(1, &[], &[], &mut []), Ok(0));
     assert_eq!(route(&net(2, &[]), 0, 1, 1), None);
     assert_eq!((pair(0, 1), pair(998, 999)), (Ok(0), Ok(499_499)));
+}
+
+/// The first relay has the most links: one alone, of several the lowest, in another part than relay 0, and relay 0 without links.
+#[test]
+fn busiest_first() {
+    assert_eq!(order_and_forests(&net(4, &[(0, 1), (0, 2), (1, 2), (1, 3)])), (vec![1, 0, 2, 3], vec![1, 2, 1, 1]));
+    assert_eq!(order_and_forests(&net(4, &[(0, 1), (1, 2), (2, 3)])), (vec![1, 0, 2, 3], vec![1, 1, 1]));
+    assert_eq!(order_and_forests(&in_parts()), (vec![4, 3, 5, 6, 0, 1, 2], vec![1, 1, 2, 1, 1, 2]));
+    assert_eq!(order_and_forests(&net(5, &[(3, 4)])), (vec![3, 4, 0, 1, 2], vec![1]));
+    assert_eq!(order_and_forests(&net(3, &[])), (vec![0, 1, 2], vec![]));
+    assert_eq!(route(&in_parts(), 6, 3, 2), Some(vec![vec![6, 4, 3], vec![6, 5, 3]]));
+    assert_eq!(route(&in_parts(), 1, 0, 1), Some(vec![vec![1, 0]]));
+    assert_eq!(route(&in_parts(), 0, 6, 1), None);
+    let six = net(6, &[(0, 1), (0, 2), (1, 2), (0, 3), (1, 3), (0, 4), (1, 5), (2, 5)]);
+    assert_eq!(order_and_forests(&six), (vec![0, 1, 2, 3, 5, 4], vec![1, 1, 2, 1, 2, 1, 1, 2]));
+    assert_eq!(route(&six, 5, 3, 2), Some(vec![vec![5, 2, 0, 3], vec![5, 1, 3]]));
 }
 
 #[test]
@@ -91,17 +112,19 @@ fn sheets() {
     let sheet = |from: u16, to: u16, k: u16, routes: &str, kept: u16| {
         format!("(sheet (from {from}) (to {to}) (k {k}))\n{routes}\n(kept {kept})\n(end)\n")
     };
-    let routes = "(route 4 3 1)\n(over 6 3)\n(route 4 2 1)\n(over 5 2)";
+    let routes = "(route 4 2 1)\n(over 5 2)\n(route 4 3 1)\n(over 6 3)";
     assert_eq!(planned(4, 1, 2, mesh()), sheet(4, 1, 2, routes, 7));
-    let routes = "(route 1 3 4)\n(over 3 6)\n(route 1 2 4)\n(over 2 5)";
+    let routes = "(route 1 2 4)\n(over 2 5)\n(route 1 3 4)\n(over 3 6)";
     assert_eq!(planned(1, 4, 2, mesh()), sheet(1, 4, 2, routes, 7));
-    assert_eq!(planned(4, 1, 1, mesh()), sheet(4, 1, 1, "(route 4 2 0 1)\n(over 5 1 0)", 4));
+    assert_eq!(planned(4, 1, 1, mesh()), sheet(4, 1, 1, "(route 4 2 1)\n(over 5 2)", 4));
     let routes = "(route 3 0 1 2)\n(over 3 0 1)\n(route 3 2)\n(over 2)";
     assert_eq!(planned(3, 2, 2, square()), sheet(3, 2, 2, routes, 4));
     let routes = "(route 3 0 2)\n(over 2 1)\n(route 3 1 2)\n(over 4 3)\n(route 3 2)\n(over 5)";
     let rising = net(4, &[(0, 1), (0, 2), (0, 3), (1, 2), (1, 3), (2, 3)]);
     assert_eq!(planned(3, 2, 3, rising), sheet(3, 2, 3, routes, 6));
     assert_eq!(planned(0, 2, 2, square()), "(refused 13 0)\n");
+    let routes = "(route 6 4 3)\n(over 4 1)\n(route 6 5 3)\n(over 5 2)";
+    assert_eq!(planned(6, 3, 2, in_parts()), sheet(6, 3, 2, routes, 6));
 }
 
 #[test]
@@ -136,7 +159,7 @@ fn text_of(net: Network) -> String {
 
 #[test]
 fn kept_lists() {
-    let due = "(lease (k 1))\n(keep 0 0 1)\n(keep 1 0 2)\n(drop 2 1 2)\n(keep 3 1 3)\n(drop 4 2 3)\n(keep 5 2 4)\n(drop 6 3 4)\n\
+    let due = "(lease (k 1))\n(drop 0 0 1)\n(keep 1 0 2)\n(keep 2 1 2)\n(drop 3 1 3)\n(keep 4 2 3)\n(keep 5 2 4)\n(drop 6 3 4)\n\
                (kept 4)\n(dropped 3)\n(end)\n";
     assert_eq!(kept("1", &text_of(mesh())), due);
     assert_eq!(
@@ -147,6 +170,9 @@ fn kept_lists() {
     let due = "(lease (k 1))\n(keep 0 0 1)\n(keep 1 1 2)\n(drop 2 2 3)\n(keep 3 0 3)\n(kept 3)\n(dropped 1)\n(end)\n";
     assert_eq!(kept("1", &square), due);
     assert_eq!(kept("32", &text_of(net(1, &[]))), "(lease (k 32))\n(kept 0)\n(dropped 0)\n(end)\n");
+    let due = "(lease (k 1))\n(keep 0 0 1)\n(keep 1 3 4)\n(drop 2 3 5)\n(keep 3 4 5)\n(keep 4 4 6)\n(drop 5 5 6)\n(kept 4)\n\
+               (dropped 2)\n(end)\n";
+    assert_eq!(kept("1", &text_of(in_parts())), due);
 }
 
 #[test]

@@ -1,5 +1,6 @@
-//! What must hold of routes and of kept links, whoever found them.
+//! What must hold of routes, of kept links and of the first relay of an order, whoever found them.
 
+use crate::forests::links;
 use crate::generate::Network;
 use crate::sweep::Wish;
 use crate::tally::Tally;
@@ -62,6 +63,36 @@ pub fn parts(net: &Network, dead: &[bool], marks: Option<&[u16]>) -> Vec<usize> 
         }
     }
     (0..parent.len()).map(|relay| root(&mut parent, relay)).collect()
+}
+
+/// Networks by where their order starts.
+pub const STARTS: [&str; 6] = [
+    "no links",
+    "relay 0 alone has the most links",
+    "relay 0 and others have the most links",
+    "another relay alone has the most links",
+    "several others have the most links",
+    "the first relay and relay 0 are not joined",
+];
+
+/// The first relay of an order: none has more links, and none with as many has a lower number. Counts which such network it is.
+pub fn first_relay(tally: &mut Tally, net: &Network, first: u16) {
+    let links = links(net.n, &net.lows, &net.highs);
+    let most = *links.iter().max().expect("a relay");
+    let lowest = links.iter().position(|&count| count == most);
+    tally.holds("order", "the first relay has the most links, of equals the lowest number", lowest == Some(first.into()), net);
+    let alone = links.iter().filter(|&&count| count == most).count() == 1;
+    let start = match (most, links[0] == most, alone) {
+        (0, ..) => 0,
+        (_, true, true) => 1,
+        (_, true, false) => 2,
+        (_, false, true) => 3,
+        (_, false, false) => 4,
+    };
+    tally.start(STARTS[start]);
+    if parts(net, &vec![false; links.len()], None)[usize::from(first)] != 0 {
+        tally.start(STARTS[5]);
+    }
 }
 
 /// The network of the links with a mark.

@@ -2,15 +2,27 @@
 
 use crate::table::{Refusal, check, known, room};
 
-/// The order of an accepted network: the relay at place p stands at index p − 1.
+/// How many links each relay of an accepted network has.
+pub fn links(n: u16, lows: &[u16], highs: &[u16]) -> Vec<u32> {
+    let mut links = vec![0; usize::from(n)];
+    for &relay in lows.iter().chain(highs) {
+        links[usize::from(relay)] += 1;
+    }
+    links
+}
+
+/// The order of an accepted network: the relay at place p stands at index p − 1. First the one with the most links (document 02,
+/// #104), then always the one with the most to placed relays, of equals the lowest number.
 pub fn ordering(n: u16, lows: &[u16], highs: &[u16]) -> Vec<u16> {
     let mut order: Vec<u16> = Vec::new();
     let mut placed = vec![false; usize::from(n)];
+    let links = links(n, lows, highs);
     let mut to_placed = vec![0u32; usize::from(n)];
     while order.len() < usize::from(n) {
+        let most = if order.is_empty() { &links } else { &to_placed };
         let mut best: Option<u16> = None;
         for relay in (0..n).filter(|&relay| !placed[usize::from(relay)]) {
-            if best.is_none_or(|best| to_placed[usize::from(relay)] > to_placed[usize::from(best)]) {
+            if best.is_none_or(|best| most[usize::from(relay)] > most[usize::from(best)]) {
                 best = Some(relay);
             }
         }

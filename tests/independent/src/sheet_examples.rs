@@ -35,6 +35,17 @@ fn sheets_that_hold() {
     assert_eq!(of(mesh(), "(sheet (from 0) (to 1) (k 1))\n(route 0 1)\n(over 0)\n(kept 4)\n(end)\n"), Ok(vec![]));
 }
 
+/// Sheets of the planner that began with relay 0: their routes hold, and `kept` may be another number by now.
+#[test]
+fn older_sheets() {
+    let sheet = |k: u16, routes: &str, kept: u16| format!("(sheet (from 4) (to 1) (k {k}))\n{routes}\n(kept {kept})\n(end)\n");
+    assert_eq!(of(mesh(), &sheet(1, "(route 4 2 0 1)\n(over 5 1 0)", 4)), Ok(vec![]));
+    let other = || net(5, &[(0, 2), (0, 3), (1, 2), (1, 3), (1, 4), (2, 4), (3, 4)]);
+    let routes = "(route 4 2 1)\n(over 5 2)\n(route 4 1)\n(over 4)";
+    assert_eq!(of(other(), &sheet(2, routes, 6)), Ok(vec![Fault::Kept]));
+    assert_eq!(of(other(), &sheet(2, routes, 7)), Ok(vec![]));
+}
+
 #[test]
 fn one_fault() {
     let (one, two) = ("(route 4 3 1)\n(over 6 3)\n", "(route 4 2 1)\n(over 5 2)\n");

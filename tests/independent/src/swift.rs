@@ -44,7 +44,8 @@ pub fn link(n: u16, seen: &mut [u64], index: usize, a: u16, b: u16) -> Result<()
 /// Who is placed next: the waiting relay with the greatest key, which is its count of placed neighbours first and then the lower
 /// relay number.
 pub trait Keys {
-    fn new(n: usize) -> Self;
+    /// All relays wait but the one that is placed first.
+    fn new(n: usize, first: usize) -> Self;
     /// Takes the relay with the greatest key out.
     fn take(&mut self) -> usize;
     /// One more placed neighbour: the count so far, or 0 for a placed relay.
@@ -58,8 +59,10 @@ pub struct Plain {
 }
 
 impl Keys for Plain {
-    fn new(n: usize) -> Plain {
-        Plain { keys: std::array::from_fn(|relay| if relay < n { 1024 + (1023 - relay as u32) } else { 0 }), n }
+    fn new(n: usize, first: usize) -> Plain {
+        let mut keys = std::array::from_fn(|relay| if relay < n { 1024 + (1023 - relay as u32) } else { 0 });
+        keys[first] = 0;
+        Plain { keys, n }
     }
 
     fn take(&mut self) -> usize {
@@ -89,11 +92,12 @@ pub struct Buckets {
 }
 
 impl Keys for Buckets {
-    fn new(n: usize) -> Buckets {
+    fn new(n: usize, first: usize) -> Buckets {
         let mut columns = vec![[0; 80]; n.div_ceil(64)];
         for (index, column) in columns.iter_mut().enumerate() {
             column[0] = u64::MAX >> (64 - (n - 64 * index).min(64));
         }
+        columns[first / 64][0] ^= 1 << (first % 64);
         Buckets { columns, counts: [0; 1000], most: 0 }
     }
 
@@ -123,21 +127,25 @@ impl Keys for Buckets {
     }
 }
 
-/// Order, places and forest numbers in one pass over chains of links.
+/// Order, places and forest numbers in one pass over chains of links, from the relay with the longest chain on.
 pub fn scan_by<K: Keys>(n: u16, lows: &[u16], highs: &[u16], relays: &mut [u16], places: &mut [u16], forests: &mut [u16]) {
     const NONE: u16 = u16::MAX;
     let size = usize::from(n);
     let mut first = [NONE; 1000];
     let mut next = [[NONE; 2]; 3000];
+    let mut links = [0u16; 1000];
     for link in (0..lows.len()).rev() {
         for (side, relay) in [lows[link], highs[link]].into_iter().enumerate() {
             next[link][side] = first[usize::from(relay)];
             first[usize::from(relay)] = link as u16;
+            links[usize::from(relay)] += 1;
         }
     }
-    let mut keys = K::new(size);
+    let most = links[..size].iter().copied().fold(0, u16::max);
+    let start = links.iter().position(|&count| count == most).expect("a relay has the most links");
+    let mut keys = K::new(size, start);
     for (step, at_step) in relays[..size].iter_mut().enumerate() {
-        let relay = keys.take();
+        let relay = if step == 0 { start } else { keys.take() };
         *at_step = relay as u16;
         places[relay] = step as u16 + 1;
         let mut at = first[relay];

@@ -1,6 +1,7 @@
-//! What a comparison counts: the answers by operation and code, the facts that held, and the sheets that were read back by how they
-//! were made and by the one fault that they have.
+//! What a comparison counts: the answers by operation and code, the facts that held, the networks by where their order starts, and the
+//! sheets that were read back by how they were made and by the one fault that they have.
 
+use crate::facts::STARTS;
 use crate::sheets::{CHANGES, STILL};
 use crate::verify::Fault;
 use std::collections::BTreeMap;
@@ -43,11 +44,12 @@ const MADE: [&str; 12] = [
 const ALONE: [Fault; 8] =
     [Fault::Routes, Fault::Ends, Fault::Twice, Fault::Count, Fault::Link, Fault::SharedRelay, Fault::SharedLink, Fault::Kept];
 
-/// How often each operation gave each code, how often each fact was looked at, and how often there were such sheets.
+/// How often each operation gave each code, how often each fact was looked at, and how often there were such networks and sheets.
 #[derive(Default)]
 pub struct Tally {
     codes: BTreeMap<(&'static str, u32), u64>,
     facts: BTreeMap<(&'static str, &'static str), u64>,
+    starts: BTreeMap<&'static str, u64>,
     sheets: BTreeMap<&'static str, u64>,
     faults: BTreeMap<Fault, u64>,
 }
@@ -72,6 +74,11 @@ impl Tally {
         assert!(held, "{operation}: {fact}\ninput {input:?}");
     }
 
+    /// A network whose order starts so.
+    pub fn start(&mut self, start: &'static str) {
+        *self.starts.entry(start).or_default() += 1;
+    }
+
     /// A sheet that was made so, and its fault if it has one alone.
     pub fn sheet(&mut self, made: &'static str, alone: Option<Fault>) {
         *self.sheets.entry(made).or_default() += 1;
@@ -80,7 +87,7 @@ impl Tally {
         }
     }
 
-    /// One line for each operation, each fact and each kind of sheet; then the codes and kinds of sheets never met.
+    /// One line for each operation, each fact and each kind of network and sheet; then the codes and kinds never met.
     pub fn lines(&self) -> (Vec<String>, Vec<String>) {
         let (mut lines, mut missing) = (vec![], vec![]);
         for (operation, codes) in CODES {
@@ -93,7 +100,8 @@ impl Tally {
         let changed = STILL.iter().chain(&CHANGES).map(|change| change.0);
         let made = MADE.into_iter().chain(changed).map(|made| (format!("sheets: {made}"), self.sheets.get(made)));
         let alone = ALONE.iter().map(|fault| (format!("sheets with one fault: {fault:?}"), self.faults.get(fault)));
-        for (kind, times) in made.chain(alone) {
+        let starts = STARTS.iter().map(|start| (format!("networks: {start}"), self.starts.get(start)));
+        for (kind, times) in starts.chain(made).chain(alone) {
             lines.push(format!("{:9} {kind}", times.unwrap_or(&0)));
             missing.extend(times.is_none().then_some(kind));
         }

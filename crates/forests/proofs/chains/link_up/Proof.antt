@@ -1,34 +1,58 @@
--- The chains of half-links meet their contract: after each turn they are those of all links from i on. Assumes nothing.
-use Prim.Native.Nat.{_≤_, _<_, _-_}
+-- The chains of half-links and the links counted meet their contract: after each turn they are those of all links from i on.
+-- Assumes nothing.
+use Prim.Native.Nat.{_+_, _-_, _≤_, _<_}
 use mathlib.Core.Path.{_≡_, refl}
 use native.Mathlib.Omega.{arith}
 use lib.ListN.{length, getD, length-set}
 use Rattle.forests.specs.Chains.{ChainedFrom}
+use Rattle.forests.specs.Busiest.{CountedFrom}
 use Rattle.forests.proofs.ChainLaws.{chained-none, chained-more}
+use Rattle.forests.proofs.BusiestLaws.{counted-none, counted-few, counted-other, counted-more}
 use Rattle.forests.proofs.chains.link_up.Statement.{statement}
 use Rattle.forests.proofs.chains.link_up.Tie as tie
 
 abbrev Inv-loop : tie.InvT-loop
-Inv-loop lows highs first₀ nexts₀ i₀ first nexts i =
+Inv-loop lows highs first₀ nexts₀ counts₀ i₀ first nexts counts i =
     (i ≤ length lows)
     × ChainedFrom lows highs i first nexts
+    × CountedFrom lows highs i counts
     × (length first ≡ length first₀)
     × (length nexts ≡ length nexts₀)
+    × (length counts ≡ length counts₀)
 
 abbrev μ-loop : tie.MeasureT-loop
-μ-loop lows highs first₀ nexts₀ i₀ first nexts i = i
+μ-loop lows highs first₀ nexts₀ counts₀ i₀ first nexts counts i = i
 
 ends : (c : tie.In-loop Inv-loop μ-loop)
-    → (getD (c .before .before .args .lows .now) (c .before .loop .i - 1) 0 < length (c .before .loop .first))
-    × (getD (c .before .before .args .highs .now) (c .before .loop .i - 1) 0 < length (c .before .loop .first))
-ends c =
+    → let start = c .before .before .before .before .before .before .before in
     let i = c .before .loop .i in
-    let h : i - 1 < length (c .before .before .args .lows .now) = omega arith in
-    let p = c .before .before .pre .proper in
-    (omega (arith, p .ordered (i - 1) h, p .below (i - 1) h), omega (arith, p .below (i - 1) h))
+    (getD (start .args .lows .now) (i - 1) 0 < length (c .before .loop .first))
+    × (getD (start .args .highs .now) (i - 1) 0 < length (c .before .loop .first))
+    × (getD (start .args .lows .now) (i - 1) 0 < getD (start .args .highs .now) (i - 1) 0)
+    × (length (c .before .loop .first) ≤ length (c .before .loop .counts))
+ends c =
+    let start = c .before .before .before .before .before .before .before in
+    let at = c .before .loop in
+    let i = at .i in
+    let h : i - 1 < length (start .args .lows .now) = omega arith in
+    let p = start .pre .0 .proper in (
+      omega (arith, p .ordered (i - 1) h, p .below (i - 1) h, at .inv .3),
+      omega (arith, p .below (i - 1) h, at .inv .3),
+      p .ordered (i - 1) h,
+      omega (arith, start .pre .1, at .inv .3, at .inv .5),
+    )
 
 loop-holds : tie.Need-loop-holds Inv-loop μ-loop
-loop-holds c = (omega arith, chained-none (c .pre), refl, refl)
+loop-holds c =
+    let start = c .before .before .before .before .before in
+    let lent = start .args in (
+      omega arith,
+      chained-none (start .pre .0),
+      counted-none (lent .lows .now) (lent .highs .now) (lent .counts .now) (start .pre .2),
+      refl,
+      refl,
+      refl,
+    )
 
 sub-i : tie.Need-sub-i Inv-loop μ-loop
 sub-i c = omega arith
@@ -99,28 +123,69 @@ mul-first-2 c = omega (arith, ends (c .before .before .before .before))
 slice-write-first-2 : tie.Need-slice-write-first-2 Inv-loop μ-loop
 slice-write-first-2 c = simp length-set (ends (c .before .before .before .before) .1)
 
+count-link-requires : tie.Need-count-link-requires Inv-loop μ-loop
+count-link-requires c κs =
+    let turn = c .before .before .before .before .before in
+    let at = turn .before .loop in
+    let start = turn .before .before .before .before .before .before .before in
+    let e = ends turn in (
+      omega (arith, e .0, e .3),
+      counted-few (start .args .lows .now) (start .args .highs .now) (at .counts) (at .i) (at .inv .2) (omega (arith, turn .loop-test .taken))
+          (start .pre .0 .proper .short) (getD (start .args .lows .now) (at .i - 1) 0),
+    )
+
+count-link-requires-2 : tie.Need-count-link-requires-2 Inv-loop μ-loop
+count-link-requires-2 c κs =
+    let once = c .before .before .before in
+    let turn = once .before .before .before .before .before .before in
+    let at = turn .before .loop in
+    let start = turn .before .before .before .before .before .before .before in
+    let e = ends turn in (
+      omega (arith, e .1, e .3, once .count-link .kept),
+      rw (once .count-link .ensures)
+          (counted-other (start .args .lows .now) (start .args .highs .now) (at .counts) (at .i) (at .inv .2)
+          (omega (arith, turn .loop-test .taken)) (start .pre .0 .proper .short) (getD (start .args .lows .now) (at .i - 1) 0)
+          (getD (at .counts) (getD (start .args .lows .now) (at .i - 1) 0) 0 + 1) (getD (start .args .highs .now) (at .i - 1) 0) (e .2)),
+    )
+
 loop-less : tie.Need-loop-less Inv-loop μ-loop
-loop-less c = omega arith
+loop-less c = let turn = c .before .before .before .before .before .before .before .before .before .before .before .before in omega (arith, turn .loop-test .taken)
 
 loop-again : tie.Need-loop-again Inv-loop μ-loop
 loop-again c =
-    let at = c .before .before .before .before .before in
-    let i = at .loop .i in
-    let e = ends (c .before .before .before .before) in (
-      omega arith,
-      chained-more i (i - 1) (at .loop .inv .1) (omega arith) (omega arith) (at .before .pre .proper .ordered (i - 1) (omega arith)) (e .1),
-      simp length-set (at .loop .inv .2),
-      simp length-set (at .loop .inv .3),
+    let twice = c .before .before in
+    let once = twice .before .before .before .before in
+    let turn = once .before .before .before .before .before .before in
+    let at = turn .before .loop in
+    let start = turn .before .before .before .before .before .before .before in
+    let lows = start .args .lows .now in
+    let highs = start .args .highs .now in
+    let i = at .i in
+    let e = ends turn in
+    let some : 0 < i = turn .loop-test .taken in (
+      omega (arith, at .inv .0),
+      chained-more i (i - 1) (at .inv .1) (omega arith) (at .inv .0) (e .2) (e .1),
+      rw (twice .count-link2 .ensures, once .count-link .ensures)
+          (counted-more lows highs (at .counts) i (i - 1) (at .inv .2) (omega arith) (at .inv .0) (e .2) (omega (arith, e .1, e .3))),
+      simp length-set (at .inv .3),
+      simp length-set (at .inv .4),
+      omega (arith, twice .count-link2 .kept, once .count-link .kept, at .inv .5),
     )
 
 same-length : tie.Need-same-length Inv-loop μ-loop
-same-length c = c .before .loop .inv .2
+same-length c = c .before .loop .inv .3
 
 same-length-2 : tie.Need-same-length-2 Inv-loop μ-loop
-same-length-2 c = c .before .loop .inv .3
+same-length-2 c = c .before .loop .inv .4
+
+same-length-3 : tie.Need-same-length-3 Inv-loop μ-loop
+same-length-3 c = c .before .loop .inv .5
 
 returns : tie.Need-returns Inv-loop μ-loop
-returns c = let p : c .before .loop .i ≡ 0 = omega arith in rw p at (c .before .loop .inv .1)
+returns c =
+    let at = c .before .loop in
+    let p : at .i ≡ 0 = omega arith in
+    (rw p at (at .inv .1), rw p at (at .inv .2))
 
 pub link-up-spec : {M : Type 1} → statement M
 link-up-spec =
@@ -152,8 +217,11 @@ link-up-spec =
     slice-write-first
     mul-first-2
     slice-write-first-2
+    count-link-requires
+    count-link-requires-2
     loop-less
     loop-again
     same-length
     same-length-2
+    same-length-3
     returns)

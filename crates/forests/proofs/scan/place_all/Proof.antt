@@ -1,4 +1,4 @@
--- After each turn one relay more has its place: the one that leads, which is the next one. Assumes nothing.
+-- After each turn one relay more has its place: the first, then the one that leads, which is the next one. Assumes nothing.
 use Prim.Native.Nat.{ℕ, _+_, _-_, _≤_, _<_}
 use mathlib.Core.Path.{_≡_, refl, sym, _∙_}
 use native.Mathlib.Omega.{arith}
@@ -8,8 +8,8 @@ use Rattle.forests.specs.Buckets.{columnWords, Buckets}
 use Rattle.forests.specs.Scan.{following, Placeable, ScannedTo}
 use Rattle.forests.proofs.ScanLaws.{
   columns-room,
-  leads-most,
-  leads-next,
+  next-is,
+  next-most,
   next-below,
   placed-one,
   relays-long,
@@ -23,7 +23,7 @@ use Rattle.forests.proofs.scan.place_all.Statement.{statement}
 use Rattle.forests.proofs.scan.place_all.Tie as tie
 
 abbrev Inv-loop : tie.InvT-loop
-Inv-loop n lows highs first nexts counts₀ bits₀ relays₀ places₀ forests₀ columns v₀ most₀ counts bits relays places forests v most =
+Inv-loop n start lows highs first nexts counts₀ bits₀ relays₀ places₀ forests₀ columns v₀ most₀ counts bits relays places forests v most =
     (v ≤ n)
     × ScannedTo n lows highs v counts relays₀ relays places₀ places forests₀ forests
     × Buckets counts bits
@@ -33,7 +33,7 @@ Inv-loop n lows highs first nexts counts₀ bits₀ relays₀ places₀ forests�
     × (length bits ≡ length bits₀)
 
 abbrev μ-loop : tie.MeasureT-loop
-μ-loop n lows highs first nexts counts₀ bits₀ relays₀ places₀ forests₀ columns v₀ most₀ counts bits relays places forests v most = n - v
+μ-loop n start lows highs first nexts counts₀ bits₀ relays₀ places₀ forests₀ columns v₀ most₀ counts bits relays places forests v most = n - v
 
 -- Where a turn begins, the next relay can be placed.
 ready : (turn : tie.In-loop Inv-loop μ-loop)
@@ -43,31 +43,32 @@ ready : (turn : tie.In-loop Inv-loop μ-loop)
     (at .counts) (at .bits) (at .relays) (at .places) (at .forests)
 ready turn =
     let at = turn .before .loop in
-    let p = turn .before .before .before .before .before .before .before .before .before .before .before .before .pre in
+    let p = turn .before .before .before .before .before .before .before .before .before .before .before .before .pre .0 in
     let inv = at .inv in
     scan-places p (at .v) (turn .loop-test .taken) (inv .1) (at .most) (inv .2) (inv .3) (inv .4) (omega (arith, p .countRoom, inv .5))
 
--- The relay that leads is the next one.
-which : (led : tie.After-leading Inv-loop μ-loop)
+-- The relay that gets the place is the next one.
+which : (led : tie.After-next-relay Inv-loop μ-loop)
     → let a = led .before .before .before .before .before .before .before .before .before .before .before .before .before .before .args in
-    following (a .n) (a .lows .now) (a .highs .now) (led .before .before .before .loop .v + 1 - 1) ≡ led .leading .result .0
+    following (a .n) (a .lows .now) (a .highs .now) (led .before .before .before .loop .v + 1 - 1) ≡ led .next-relay .result .0
 which led =
     let turn = led .before .before in
     let columns = turn .before .before .columns-of in
-    leads-next (ready turn) (columns .result) (columns .ensures) (led .leading .ensures)
+    let start = turn .before .before .before .before .before .before .before .before .before .before .before .before in
+    next-is (ready turn) (columns .result) (columns .ensures) (start .pre .1) (led .next-relay .ensures)
 
 columns-of-requires : tie.Need-columns-of-requires Inv-loop μ-loop
 columns-of-requires c κs = search needs
 
 loop-holds : tie.Need-loop-holds Inv-loop μ-loop
 loop-holds c =
-    let p = c .before .before .before .before .before .before .before .before .before .before .pre in (omega arith, scan-starts p, p .sorted, first-most p, omega arith, refl, refl)
+    let p = c .before .before .before .before .before .before .before .before .before .before .pre .0 in (omega arith, scan-starts p, p .sorted, first-most p, omega arith, refl, refl)
 
 add-v : tie.Need-add-v Inv-loop μ-loop
 add-v c = omega arith
 
-leading-requires : tie.Need-leading-requires Inv-loop μ-loop
-leading-requires c κs =
+next-relay-requires : tie.Need-next-relay-requires Inv-loop μ-loop
+next-relay-requires c κs =
     let turn = c .before in
     let columns = turn .before .before .columns-of in
     let room = columns-room (ready turn) (columns .result) (columns .ensures) in
@@ -91,7 +92,7 @@ add-most : tie.Need-add-most Inv-loop μ-loop
 add-most c =
     let walked = c .before .before .before .before .before .before in
     let led = walked .before .before .before .before .before .before .before .before .before .before .before in
-    omega (arith, walked .walk .ensures .0, led .before .before .before .loop .inv .2 .few (led .leading .result .0))
+    omega (arith, walked .walk .ensures .0, led .before .before .before .loop .inv .2 .few (led .next-relay .result .0))
 
 loop-less : tie.Need-loop-less Inv-loop μ-loop
 loop-less c = let turn = c .before .before .before .before .before .before .before .before .before .before .before .before .before .before .before .before .before .before .before in omega (arith, turn .loop-test .taken)
@@ -106,12 +107,12 @@ loop-again c =
     let columns = turn .before .before .columns-of in
     let s = turn .before .before .before .before .before .before .before .before .before .before .before .before in
     let w = walked .walk .ensures in
-    let most = leads-most (ready turn) (columns .result) (columns .ensures) (led .leading .ensures) in
+    let most = next-most (ready turn) (columns .result) (columns .ensures) (s .pre .1) (led .next-relay .ensures) in
     let one = placed-one {n = s .args .n} {v = at .v + 1} {lows = s .args .lows .now} {highs = s .args .highs .now}
-    (led .leading .result .0) (which led) most (at .inv .2 .few (led .leading .result .0))
+    (led .next-relay .result .0) (which led) most (at .inv .2 .few (led .next-relay .result .0))
     (stored .put .ensures .0) (stored .put .ensures .1) (w .0, w .1 .0, w .1 .1) in (
       omega (arith, turn .loop-test .taken),
-      scan-moves (s .pre) (at .v) (turn .loop-test .taken) (at .inv .1) one,
+      scan-moves (s .pre .0) (at .v) (turn .loop-test .taken) (at .inv .1) one,
       one .sorted,
       one .bounded,
       one .mostFew,
@@ -129,7 +130,7 @@ same-length-3 : tie.Need-same-length-3 Inv-loop μ-loop
 same-length-3 c =
     let start = c .before .before .before .before .before .before .before .before .before .before .before .before in
     let at = c .before .loop in
-    relays-long (start .pre) (at .v) (omega arith) (at .inv .1)
+    relays-long (start .pre .0) (at .v) (omega arith) (at .inv .1)
 
 same-length-4 : tie.Need-same-length-4 Inv-loop μ-loop
 same-length-4 c = c .before .loop .inv .1 .placesAt .long
@@ -141,7 +142,7 @@ returns : tie.Need-returns Inv-loop μ-loop
 returns c =
     let s = c .before .before .before .before .before .before .before .before .before .before .before .before in
     let p : c .before .loop .v ≡ s .args .n = omega arith in
-    scan-ends (s .pre) (rw p at (c .before .loop .inv .1))
+    scan-ends (s .pre .0) (rw p at (c .before .loop .inv .1))
 
 pub place-all-spec : {M : Type 1} → statement M
 place-all-spec =
@@ -152,7 +153,7 @@ place-all-spec =
     columns-of-requires
     loop-holds
     add-v
-    leading-requires
+    next-relay-requires
     put-requires
     walk-requires
     add-most

@@ -2,18 +2,14 @@
 use native.Mathlib.Omega.{arith}
 use lib.ListN.{length}
 use Rattle.forests.proofs.ClearLaws.{cleared, scan-cleared}
-use Rattle.forests.proofs.ScanLaws.{chain-ready}
 use borrow.Author.Needs.{needs}
 use Rattle.forests.proofs.scan.scan_in.Statement.{statement}
 use Rattle.forests.proofs.scan.scan_in.Tie as tie
 
-link-up-requires : tie.Need-link-up-requires
-link-up-requires c κs =
-    let start = c .before .before .before .before .before .before .before .before .before .before .before in
-    let p = start .pre in chain-ready (p .0 .accepted) (p .1)
-
-start-counts-requires : tie.Need-start-counts-requires
-start-counts-requires c κs = search needs
+prepare-requires : tie.Need-prepare-requires
+prepare-requires c κs =
+    let p = c .before .before .before .before .before .before .before .before .before .before .before .before .before .pre in
+    (p .0 .accepted, p .1)
 
 clear-requires : tie.Need-clear-requires
 clear-requires c κs = search needs
@@ -21,27 +17,29 @@ clear-requires c κs = search needs
 place-all-requires : tie.Need-place-all-requires
 place-all-requires c κs =
     let emptied = c .before .before .before .before .before .before .before .before .before in
-    let started = emptied .before .before .before .before .before .before in
-    let chained = started .before .before .before .before .before .before .before in
-    let s = chained .before .before .before .before .before .before .before .before .before .before .before .before in
+    let prepared = emptied .before .before .before .before .before .before .before .before .before .before in
+    let s = prepared .before .before .before .before .before .before .before .before .before .before .before .before .before .before in
     let p = s .pre .0 in
     let w = s .pre .1 in
-    record {
-      scannable =
-          record {
-            accepted = p .accepted;
-            relayRoom = p .relayRoom;
-            placeRoom = p .placeRoom;
-            forestRoom = omega (arith, p .forestRoom, emptied .clear .kept .0);
-          };
-      heads = omega (arith, w .heads);
-      few = omega (arith, w .few);
-      countRoom = omega (arith, w .countRoom);
-      chained = chained .link-up .ensures;
-      startCounts = started .start-counts .ensures .0;
-      sorted = started .start-counts .ensures .1;
-      zeros = cleared (length (s .args .lows .now)) (s .args .forests .now) (emptied .clear .ensures) .0;
-    }
+    let made = prepared .prepare .ensures in (
+      record {
+        scannable =
+            record {
+              accepted = p .accepted;
+              relayRoom = p .relayRoom;
+              placeRoom = p .placeRoom;
+              forestRoom = omega (arith, p .forestRoom, emptied .clear .kept .0);
+            };
+        heads = omega (arith, w .heads, prepared .prepare .kept);
+        few = omega (arith, w .few, prepared .prepare .kept);
+        countRoom = omega (arith, w .countRoom, prepared .prepare .kept);
+        chained = made .chained;
+        startCounts = made .startCounts;
+        sorted = made .sorted;
+        zeros = cleared (length (s .args .lows .now)) (s .args .forests .now) (emptied .clear .ensures) .0;
+      },
+      made .starts,
+    )
 
 same-length : tie.Need-same-length
 same-length c = search needs
@@ -74,8 +72,7 @@ pub scan-in-spec : {M : Type 1} → statement M
 scan-in-spec =
     tie.close
     (tie.spec
-    link-up-requires
-    start-counts-requires
+    prepare-requires
     clear-requires
     place-all-requires
     same-length
