@@ -1,12 +1,12 @@
 -- The laws of the links counted at each relay: what one link more adds, and that the relay with the most is the first of the order.
 -- Assumes nothing.
-use Prim.Native.Nat.{ℕ, suc, _+_, _-_, _*_, _%_, _≤_, _<_, max}
+use Prim.Native.Nat.{ℕ, suc, _+_, _-_, _%_, _≤_, _<_, max}
 use mathlib.Core.Bool.{Bool, true, false, _||_}
 use mathlib.Core.List.{List}
 use mathlib.Core.Path.{_≡_, refl, sym, _∙_, ap, subst}
 use native.Mathlib.Decide.{ℕ-discrete, decLt}
 use native.Mathlib.Omega.{arith}
-use borrow.Author.Tests.{eqb-true, eqb-false, ne-eqb}
+use borrow.Author.Tests.{eqb-true, eqb-false, eq-eqb, ne-eqb}
 use lib.Dec.{eqb}
 use lib.ListN.{length, getD, set, length-set}
 use lib.Seq.{getD-set-same, getD-set-other}
@@ -19,7 +19,7 @@ use Rattle.lists.specs.Members.{range-bounds}
 use Rattle.lists.specs.Tables.{length-table}
 use Rattle.theory.specs.Accepted.{ProperTable}
 use Rattle.theory.specs.AllRelays.{first-is}
-use Rattle.forests.specs.Busiest.{linksFrom, CountedFrom, keyOf, Busiest}
+use Rattle.forests.specs.Busiest.{linksFrom, CountedFrom, CountedBut, moreLinks, runOn, listOn, keyOf, Busiest}
 use Rattle.forests.specs.Counts.{NoneBeyond}
 
 module _ (lows highs : List ℕ) where
@@ -55,60 +55,105 @@ module _ (lows highs : List ℕ) where
       let below = t .below i (omega (arith, within)) in
       rw (ne-eqb (getD lows i 0) r (λ e. omega (arith, less, below)), ne-eqb (getD highs i 0) r (λ e. omega (arith, below))))
 
--- Two ends have one more each.
-ends-more : (counts : List ℕ) (a b r : ℕ) → a < b → b < length counts
-    → let once = set counts a (getD counts a 0 + 1) in
-    getD (set once b (getD once b 0 + 1)) r 0 ≡ pick (eqb a r || eqb b r) 1 0 + getD counts r 0
-ends-more counts a b r less within = go (eqb a r) refl (eqb b r) refl
+-- Links more at p are links more of p alone.
+more-at : (counts : List ℕ) (p more r : ℕ) → p < length counts
+    → getD (moreLinks p more counts) r 0 ≡ getD counts r 0 + pick (eqb p r) more 0
+more-at counts p more r within = go (eqb p r) refl
   where
-    once : List ℕ
-    once = set counts a (getD counts a 0 + 1)
+    go : (b : Bool) → eqb p r ≡ b → getD (set counts p (getD counts p 0 + more)) r 0 ≡ getD counts r 0 + pick b more 0
+    go true e =
+        subst (λ z. getD (set counts p (getD counts p 0 + more)) z 0 ≡ getD counts z 0 + more) (eqb-true p r e)
+        (getD-set-same counts p (getD counts p 0 + more) 0 within)
+    go false e = getD-set-other counts p r (getD counts p 0 + more) 0 (λ z. eqb-false p r e (sym z)) ∙ omega arith
 
-    other : getD once b 0 ≡ getD counts b 0
-    other = getD-set-other counts a b (getD counts a 0 + 1) 0 (λ e. omega arith)
+more-long : (counts : List ℕ) (p more : ℕ) → length (moreLinks p more counts) ≡ length counts
+more-long counts p more = length-set counts p (getD counts p 0 + more)
 
-    go : (x : Bool) → eqb a r ≡ x → (y : Bool) → eqb b r ≡ y
-        → getD (set once b (getD once b 0 + 1)) r 0 ≡ pick (x || y) 1 0 + getD counts r 0
-    go true f true g = absurd (omega (arith, eqb-true a r f, eqb-true b r g))
-    go true f false g =
-        let d : a ≡ r = eqb-true a r f in
-        getD-set-other once b r (getD once b 0 + 1) 0 (λ z. eqb-false b r g (sym z))
-        ∙ subst (λ z. getD once z 0 ≡ 1 + getD counts z 0) d
-        (getD-set-same counts a (getD counts a 0 + 1) 0 (omega arith) ∙ omega arith)
-    go false f true g =
-        let d : b ≡ r = eqb-true b r g in
-        subst (λ z. getD (set once b (getD once b 0 + 1)) z 0 ≡ 1 + getD counts z 0) d
-        (getD-set-same once b (getD once b 0 + 1) 0 (omega (arith, length-set counts a (getD counts a 0 + 1))) ∙ omega (arith, other))
-    go false f false g =
-        getD-set-other once b r (getD once b 0 + 1) 0 (λ z. eqb-false b r g (sym z))
-        ∙ getD-set-other counts a r (getD counts a 0 + 1) 0 (λ z. eqb-false a r f (sym z))
-        ∙ omega arith
+-- One link more at b behind a run at `last`: list and run together have one more at b.
+on-at : (counts : List ℕ) (b last run r : ℕ) → last < length counts
+    → getD (listOn b last run counts) r 0 + pick (eqb b r) (runOn b last run) 0
+    ≡ getD counts r 0 + pick (eqb last r) run 0 + pick (eqb b r) 1 0
+unfolding listOn runOn
+on-at counts b last run r within = go (eqb b last) refl
+  where
+    again : (y : Bool) → getD counts r 0 + pick y (run + 1) 0 ≡ getD counts r 0 + pick y run 0 + pick y 1 0
+    again true = omega arith
+    again false = omega arith
+
+    go : (t : Bool) → eqb b last ≡ t
+        → getD (pick t counts (moreLinks last run counts)) r 0 + pick (eqb b r) (pick t (run + 1) 1) 0
+        ≡ getD counts r 0 + pick (eqb last r) run 0 + pick (eqb b r) 1 0
+    go true e = rw (sym (eqb-true b last e)) (again (eqb b r))
+    go false e = rw (more-at counts last run r within)
+
+-- The two ways of a link behind a run, as the code takes them.
+pub run-goes-on : (r last run : ℕ) (counts : List ℕ) → r ≡ last → (run + 1 ≡ runOn r last run) × (counts ≡ listOn r last run counts)
+unfolding runOn listOn
+run-goes-on r last run counts e = rw (eq-eqb r last e) (refl, refl)
+
+pub run-is-over : (r last run : ℕ) (counts : List ℕ) {counts′ : List ℕ} → (r ≡ last → ⊥) → counts′ ≡ moreLinks last run counts
+    → (1 ≡ runOn r last run) × (counts′ ≡ listOn r last run counts)
+unfolding runOn listOn
+run-is-over r last run counts e stored = rw (ne-eqb r last e) (refl, stored)
 
 -- Before the first turn no link is counted.
-pub counted-none : (lows highs counts : List ℕ) → NoneBeyond 0 counts → CountedFrom lows highs (length lows) counts
-counted-none lows highs counts none r = none r (omega arith) ∙ sym (links-end lows highs r)
+pub counted-none : (lows highs counts : List ℕ) → NoneBeyond 0 counts → CountedBut lows highs (length lows) 0 0 counts
+counted-none lows highs counts none r = go (eqb 0 r)
+  where
+    go : (b : Bool) → getD counts r 0 + pick b 0 0 ≡ linksFrom lows highs (length lows) r
+    go true = omega (arith, none r (omega arith), links-end lows highs r)
+    go false = omega (arith, none r (omega arith), links-end lows highs r)
 
--- No relay has more links than there are, so another one can be counted at a relay, and then at the other end.
-pub counted-few : (lows highs counts : List ℕ) (i : ℕ) → CountedFrom lows highs i counts → 0 < i → length lows ≤ 3000
-    → (r : ℕ) → getD counts r 0 < 3000
-counted-few lows highs counts i c some short r = omega (arith, c r, links-few lows highs i r)
+-- No relay has more links than there are, with those in hand.
+module _ (lows highs counts : List ℕ) (i last run : ℕ) (c : CountedBut lows highs i last run counts) (short : length lows ≤ 3000) where
+  pub in-hand-few : getD counts last 0 + run ≤ 3000 - i
+  in-hand-few =
+      let own : getD counts last 0 + run ≡ linksFrom lows highs i last = rw (eq-eqb last last refl) at (c last) in
+      omega (arith, own, links-few lows highs i last)
 
-pub counted-other : (lows highs counts : List ℕ) (i : ℕ) → CountedFrom lows highs i counts → 0 < i → length lows ≤ 3000
-    → (a x b : ℕ) → a < b → getD (set counts a x) b 0 < 3000
-counted-other lows highs counts i c some short a x b less =
-    rw (getD-set-other counts a b x 0 (λ e. omega arith)) (counted-few lows highs counts i c some short b)
+  pub in-list-few : (r : ℕ) → getD counts r 0 ≤ 3000 - i
+  in-list-few r = omega (arith, c r, links-few lows highs i r)
 
--- One turn: link h is counted at its two ends.
-pub counted-more : (lows highs counts : List ℕ) (i h : ℕ) → CountedFrom lows highs i counts → h + 1 ≡ i → i ≤ length lows
-    → getD lows h 0 < getD highs h 0 → getD highs h 0 < length counts
-    → let once = set counts (getD lows h 0) (getD counts (getD lows h 0) 0 + 1) in
-    CountedFrom lows highs h (set once (getD highs h 0) (getD once (getD highs h 0) 0 + 1))
-unfolding touches
-counted-more lows highs counts i h c e within less below r =
-    let rest : getD counts r 0 ≡ linksFrom lows highs (h + 1) r = c r ∙ ap (λ j. linksFrom lows highs j r) (sym e) in
-    ends-more counts (getD lows h 0) (getD highs h 0) r less below
-    ∙ ap (λ x. pick (eqb (getD lows h 0) r || eqb (getD highs h 0) r) 1 0 + x) rest
-    ∙ sym (links-more lows highs h r (omega arith))
+  -- Behind a link more at a.
+  pub behind-few : (a : ℕ) → a < length counts → 0 < i → i ≤ length lows → getD (moreLinks a 1 counts) last 0 + run ≤ 3000
+  behind-few a within some front = go (eqb a last) (more-at counts a 1 last within)
+    where
+      go : (b : Bool) → getD (moreLinks a 1 counts) last 0 ≡ getD counts last 0 + pick b 1 0
+          → getD (moreLinks a 1 counts) last 0 + run ≤ 3000
+      go true e = omega (arith, e, in-hand-few)
+      go false e = omega (arith, e, in-hand-few)
+
+  -- All are counted once those in hand are in the list.
+  pub counted-all : last < length counts → CountedFrom lows highs i (moreLinks last run counts)
+  counted-all within r = more-at counts last run r within ∙ c r
+
+  -- One turn: link h is counted at its two ends.
+  pub counted-more : (h : ℕ) → h + 1 ≡ i → i ≤ length lows → getD lows h 0 < getD highs h 0 → getD highs h 0 < length counts
+      → last < length counts
+      → CountedBut lows highs h (getD highs h 0) (runOn (getD highs h 0) last run)
+      (listOn (getD highs h 0) last run (moreLinks (getD lows h 0) 1 counts))
+  unfolding touches
+  counted-more h e front less below within r =
+      let a = getD lows h 0 in
+      let b = getD highs h 0 in
+      let once = moreLinks a 1 counts in
+      let rest : getD counts r 0 + pick (eqb last r) run 0 ≡ linksFrom lows highs (h + 1) r =
+      c r ∙ ap (λ j. linksFrom lows highs j r) (sym e) in
+      omega (
+        arith,
+        on-at once b last run r (omega (arith, more-long counts a 1)),
+        more-at counts a 1 r (omega arith),
+        rest,
+        links-more lows highs h r (omega arith),
+        both (eqb a r) refl (eqb b r) refl,
+      )
+    where
+      both : (x : Bool) → eqb (getD lows h 0) r ≡ x → (y : Bool) → eqb (getD highs h 0) r ≡ y
+          → pick (x || y) 1 0 ≡ pick x 1 0 + pick y 1 0
+      both true f true g = absurd (omega (arith, eqb-true (getD lows h 0) r f, eqb-true (getD highs h 0) r g))
+      both true f false g = refl
+      both false f true g = refl
+      both false f false g = refl
 
 -- What is counted when all links are.
 module _ (lows highs counts : List ℕ) (c : CountedFrom lows highs 0 counts) where

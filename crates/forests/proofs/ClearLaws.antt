@@ -1,13 +1,15 @@
--- What clearing the front of a list leaves; and forest numbers are cleared before the scan: what the scan then gives does
--- not depend on what stood there. Assumes nothing.
+-- What clearing the front of a list leaves; and forest numbers are cleared and the first relay is stored before the scan: what the
+-- scan then gives does not depend on what stood there. Assumes nothing.
 use Prim.Native.Nat.{ℕ, _<_}
 use mathlib.Core.List.{List, _++_}
 use mathlib.Core.Path.{_≡_, _∙_, ap}
 use native.Mathlib.Omega.{arith}
-use lib.ListN.{length, getD, drop, replicate, length-replicate, getD-replicate, List·getD-append}
-use lib.Seq.{drop-at}
+use lib.ListN.{length, getD, set, drop, replicate, length-replicate, getD-replicate, List·getD-append}
+use lib.Seq.{drop-at, drop-set-lt}
 use Rattle.definitions.specs.Lists.{overwrite}
+use Rattle.definitions.specs.Order.{orderOf}
 use Rattle.definitions.specs.Forests.{forestsOf}
+use Rattle.theory.specs.Ordering.{order-length}
 use Rattle.theory.specs.ForestBound.{forests-length}
 use Rattle.forests.specs.Scan.{Scanned}
 
@@ -35,4 +37,19 @@ scan-cleared {n} {lows} {highs} {old = old} {mid = mid} e s =
       theOrder = s .theOrder;
       thePlaces = s .thePlaces;
       theForests = s .theForests ∙ ap (λ l. forestsOf n lows highs ++ l) past;
+    }
+
+-- The first entry of the list of relays is written.
+pub scan-begun : {n : ℕ} {lows highs relays relays′ places places′ forests forests′ : List ℕ} (x : ℕ) → 0 < n
+    → Scanned n lows highs (set relays 0 x) relays′ places places′ forests forests′
+    → Scanned n lows highs relays relays′ places places′ forests forests′
+unfolding overwrite
+scan-begun {n} {lows} {highs} {relays} x some s =
+    let order = orderOf n lows highs in
+    record {
+      theOrder =
+          s .theOrder
+          ∙ ap (λ l. order ++ l) (drop-set-lt (length order) relays 0 x (omega (arith, order-length n lows highs)));
+      thePlaces = s .thePlaces;
+      theForests = s .theForests;
     }

@@ -77,7 +77,7 @@ module _ {n v most : ℕ} {lows highs first nexts counts bits relays places fore
     columns-room = omega (arith, e, p .few, within, p .walkable .sorted .room (n - 1) (omega (arith, within, p .countsAt .room)))
 
     -- What `next_relay` gives: the first relay of the order at place 1, then the relay that leads.
-    module _ {x start : ℕ} (first′ : start ≡ firstRelay n lows highs)
+    module _ {x start : ℕ} (first′ : v ≡ 1 → start ≡ firstRelay n lows highs)
         (c : (v ≡ 1 → x ≡ start) × (1 < v → Leads columns most bits x))
       where
         heaviest : 1 < v → Heaviest counts x
@@ -93,7 +93,7 @@ module _ {n v most : ℕ} {lows highs first nexts counts bits relays places fore
             go (no h) =
                 let one : v ≡ 1 = omega (arith, p .some) in
                 let none : v - 1 ≡ 0 = omega arith in
-                ap (following n lows highs) none ∙ following-first n lows highs ∙ sym first′ ∙ sym (c .0 one)
+                ap (following n lows highs) none ∙ following-first n lows highs ∙ sym (first′ one) ∙ sym (c .0 one)
 
         pub next-most : (r : ℕ) → getD counts r 0 ≤ getD counts x 0
         next-most r = go (decLt 1 v)
@@ -211,6 +211,14 @@ module _ {n : ℕ} {lows highs first nexts counts bits relays places forests : L
         go : Dec (r < n) → getD counts r 0 ≤ 1
         go (yes h) = omega (arith, can .startCounts .waiting r h)
         go (no h) = omega (arith, can .startCounts .rest r (omega arith))
+
+    -- Where no relay is placed yet, the list of relays begins as it did.
+    pub first-stays : {counts′ relays′ places′ forests′ : List ℕ} (k : ℕ) → k ≡ 0
+        → ScannedTo n lows highs k counts′ relays relays′ places places′ forests forests′ → getD relays′ 0 0 ≡ getD relays 0 0
+    unfolding placedAfter overwrite
+    first-stays {relays′ = relays′} k none at =
+        let same : relays′ ≡ relays = at .relaysAt ∙ ap (λ (j : ℕ). overwrite (placed n lows highs j) relays) none in
+        ap (λ (l : List ℕ). getD l 0 0) same
 
     pub relays-long : {counts′ relays′ places′ forests′ : List ℕ} (k : ℕ) → k ≤ n
         → ScannedTo n lows highs k counts′ relays relays′ places places′ forests forests′ → length relays′ ≡ length relays

@@ -2,18 +2,32 @@
 // has its first half-link, and each half-link the next one at its relay; twice the number of links stands for none.
 ghost use Prim.Native.Nat.{_+_, _≤_, _<_};
 ghost use mathlib.Core.Path.{_≡_};
-ghost use lib.ListN.{length, getD, set};
+ghost use lib.ListN.{length, getD};
 ghost use Rattle.forests.specs.Chains.{Chainable, ChainedFrom};
-ghost use Rattle.forests.specs.Busiest.{CountedFrom};
+ghost use Rattle.forests.specs.Busiest.{moreLinks, runOn, listOn, CountedFrom};
 ghost use Rattle.forests.specs.Counts.{NoneBeyond};
 
-// Relay r has one link more.
-fn count_link(r: usize, counts: &mut [u16])
-    requires { ⌜ (r < length (now counts)) × (getD (now counts) r 0 < 3000) ⌝ }
-    ensures { λ _. ⌜ now (counts .exit) ≡ set (now (counts .entry)) r (getD (now (counts .entry)) r 0 + 1) ⌝ }
+// Relay r has so many links more.
+fn count_links(r: usize, more: u16, counts: &mut [u16])
+    requires { ⌜ (r < length (now counts)) × (getD (now counts) r 0 + more ≤ 3000) ⌝ }
+    ensures { λ _. ⌜ now (counts .exit) ≡ moreLinks r more (now (counts .entry)) ⌝ }
 {
     let count = counts[r];
-    counts[r] = count + 1;
+    counts[r] = count + more;
+}
+
+// Relay r has one link more, behind a run of links at `last`. Gives the run at r. The links of a table often stand in the order of
+// one end: then a run is counted in hand, and no sum waits for the store of the one before it.
+fn count_on(r: usize, last: usize, run: u16, counts: &mut [u16]) -> u16
+    requires { ⌜ (last < length (now counts)) × (getD (now counts) last 0 + run ≤ 3000) ⌝ }
+    ensures { λ next. ⌜ next ≡ runOn r last run ⌝ }
+    ensures { λ _. ⌜ now (counts .exit) ≡ listOn r last run (now (counts .entry)) ⌝ }
+{
+    if r == last {
+        return run + 1;
+    }
+    count_links(last, run, counts);
+    1
 }
 
 // From the last link down, so that what stands in `first` is the next half-link; the links at each relay are counted with it.
@@ -30,6 +44,8 @@ pub(crate) fn link_up(
     ensures { λ _. ⌜ CountedFrom (now (lows .entry)) (now (highs .entry)) 0 (now (counts .exit)) ⌝ }
 {
     let mut i = lows.len();
+    let mut last = 0;
+    let mut run = 0;
     while i > 0 {
         i -= 1;
         let a = lows[i] as usize;
@@ -42,7 +58,9 @@ pub(crate) fn link_up(
         nexts[high] = first[b];
         first[a] = here;
         first[b] = there;
-        count_link(a, counts);
-        count_link(b, counts);
+        count_links(a, 1, counts);
+        run = count_on(b, last, run, counts);
+        last = b;
     }
+    count_links(last, run, counts);
 }

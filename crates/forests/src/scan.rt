@@ -58,10 +58,9 @@ fn next_relay(v: Place, start: Relay, columns: usize, most: u16, bits: &[u64]) -
     leading(columns, most, bits)
 }
 
-// All n relays get their places, `start` the first; no count is greater than `most`.
+// All n relays get their places, first the one that `relays` begins with; no count is greater than `most`.
 fn place_all(
     n: u16,
-    start: Relay,
     lows: &[u16],
     highs: &[u16],
     first: &[u16],
@@ -73,7 +72,7 @@ fn place_all(
     forests: &mut [u16],
 )
     requires { ⌜ Startable n (now lows) (now highs) (now first) (now nexts) (now counts) (now bits)
-        (now relays) (now places) (now forests) × (start .0 ≡ firstRelay n (now lows) (now highs)) ⌝ }
+        (now relays) (now places) (now forests) × (getD (now relays) 0 0 ≡ firstRelay n (now lows) (now highs)) ⌝ }
     ensures { λ _. ⌜ Scanned n (now (lows .entry)) (now (highs .entry)) (now (relays .entry)) (now (relays .exit))
         (now (places .entry)) (now (places .exit)) (now (forests .entry)) (now (forests .exit)) ⌝ }
 {
@@ -82,7 +81,7 @@ fn place_all(
     let mut most = 1;
     while v < n {
         v += 1;
-        let x = next_relay(Place(v), start, columns, most, bits);
+        let x = next_relay(Place(v), Relay(relays[0]), columns, most, bits);
         put(x, Place(v), relays, places);
         most = walk(x, lows, highs, first, nexts, counts, bits, forests) + 1;
     }
@@ -128,10 +127,10 @@ fn scan_in(
         (now (places .entry)) (now (places .exit)) (now (forests .entry)) (now (forests .exit)) ⌝ }
 {
     let start = prepare(n, lows, highs, first, nexts, counts, bits);
+    relays[0] = start.0;
     clear(forests, lows.len());
     place_all(
         n,
-        start,
         lows,
         highs,
         first,

@@ -1,6 +1,6 @@
 -- After each turn `best` is the greatest key of the relays before r. Assumes nothing.
 use Prim.Native.Nat.{_-_, _≤_}
-use mathlib.Core.Path.{_≡_, _∙_, ap₂}
+use mathlib.Core.Path.{_≡_}
 use native.Mathlib.Omega.{arith}
 use borrow.Author.Needs.{needs}
 use Rattle.forests.proofs.BusiestLaws.{Best, best-one, best-more, best-busiest}

@@ -1,27 +1,28 @@
 -- The chains of half-links and the links counted meet their contract: after each turn they are those of all links from i on.
 -- Assumes nothing.
-use Prim.Native.Nat.{_+_, _-_, _≤_, _<_}
+use Prim.Native.Nat.{_-_, _≤_, _<_}
 use mathlib.Core.Path.{_≡_, refl}
 use native.Mathlib.Omega.{arith}
 use lib.ListN.{length, getD, length-set}
 use Rattle.forests.specs.Chains.{ChainedFrom}
-use Rattle.forests.specs.Busiest.{CountedFrom}
+use Rattle.forests.specs.Busiest.{CountedBut}
 use Rattle.forests.proofs.ChainLaws.{chained-none, chained-more}
-use Rattle.forests.proofs.BusiestLaws.{counted-none, counted-few, counted-other, counted-more}
+use Rattle.forests.proofs.BusiestLaws.{counted-none, in-hand-few, in-list-few, behind-few, counted-all, counted-more}
 use Rattle.forests.proofs.chains.link_up.Statement.{statement}
 use Rattle.forests.proofs.chains.link_up.Tie as tie
 
 abbrev Inv-loop : tie.InvT-loop
-Inv-loop lows highs first₀ nexts₀ counts₀ i₀ first nexts counts i =
+Inv-loop lows highs first₀ nexts₀ counts₀ i₀ last₀ run₀ first nexts counts i last run =
     (i ≤ length lows)
     × ChainedFrom lows highs i first nexts
-    × CountedFrom lows highs i counts
+    × CountedBut lows highs i last run counts
+    × (last < length counts)
     × (length first ≡ length first₀)
     × (length nexts ≡ length nexts₀)
     × (length counts ≡ length counts₀)
 
 abbrev μ-loop : tie.MeasureT-loop
-μ-loop lows highs first₀ nexts₀ counts₀ i₀ first nexts counts i = i
+μ-loop lows highs first₀ nexts₀ counts₀ i₀ last₀ run₀ first nexts counts i last run = i
 
 ends : (c : tie.In-loop Inv-loop μ-loop)
     → let start = c .before .before .before .before .before .before .before in
@@ -36,10 +37,10 @@ ends c =
     let i = at .i in
     let h : i - 1 < length (start .args .lows .now) = omega arith in
     let p = start .pre .0 .proper in (
-      omega (arith, p .ordered (i - 1) h, p .below (i - 1) h, at .inv .3),
-      omega (arith, p .below (i - 1) h, at .inv .3),
+      omega (arith, p .ordered (i - 1) h, p .below (i - 1) h, at .inv .4),
+      omega (arith, p .below (i - 1) h, at .inv .4),
       p .ordered (i - 1) h,
-      omega (arith, start .pre .1, at .inv .3, at .inv .5),
+      omega (arith, start .pre .1, at .inv .4, at .inv .6),
     )
 
 loop-holds : tie.Need-loop-holds Inv-loop μ-loop
@@ -49,6 +50,7 @@ loop-holds c =
       omega arith,
       chained-none (start .pre .0),
       counted-none (lent .lows .now) (lent .highs .now) (lent .counts .now) (start .pre .2),
+      omega (arith, start .pre .0 .proper .some, start .pre .1),
       refl,
       refl,
       refl,
@@ -123,29 +125,29 @@ mul-first-2 c = omega (arith, ends (c .before .before .before .before))
 slice-write-first-2 : tie.Need-slice-write-first-2 Inv-loop μ-loop
 slice-write-first-2 c = simp length-set (ends (c .before .before .before .before) .1)
 
-count-link-requires : tie.Need-count-link-requires Inv-loop μ-loop
-count-link-requires c κs =
+count-links-requires : tie.Need-count-links-requires Inv-loop μ-loop
+count-links-requires c κs =
     let turn = c .before .before .before .before .before in
     let at = turn .before .loop in
     let start = turn .before .before .before .before .before .before .before in
-    let e = ends turn in (
-      omega (arith, e .0, e .3),
-      counted-few (start .args .lows .now) (start .args .highs .now) (at .counts) (at .i) (at .inv .2) (omega (arith, turn .loop-test .taken))
-          (start .pre .0 .proper .short) (getD (start .args .lows .now) (at .i - 1) 0),
-    )
+    let e = ends turn in
+    let few =
+    in-list-few (start .args .lows .now) (start .args .highs .now) (at .counts) (at .i) (at .last) (at .run) (at .inv .2)
+    (start .pre .0 .proper .short) (getD (start .args .lows .now) (at .i - 1) 0) in
+    (omega (arith, e .0, e .3), omega (arith, few, turn .loop-test .taken))
 
-count-link-requires-2 : tie.Need-count-link-requires-2 Inv-loop μ-loop
-count-link-requires-2 c κs =
+count-on-requires : tie.Need-count-on-requires Inv-loop μ-loop
+count-on-requires c κs =
     let once = c .before .before .before in
     let turn = once .before .before .before .before .before .before in
     let at = turn .before .loop in
     let start = turn .before .before .before .before .before .before .before in
     let e = ends turn in (
-      omega (arith, e .1, e .3, once .count-link .kept),
-      rw (once .count-link .ensures)
-          (counted-other (start .args .lows .now) (start .args .highs .now) (at .counts) (at .i) (at .inv .2)
-          (omega (arith, turn .loop-test .taken)) (start .pre .0 .proper .short) (getD (start .args .lows .now) (at .i - 1) 0)
-          (getD (at .counts) (getD (start .args .lows .now) (at .i - 1) 0) 0 + 1) (getD (start .args .highs .now) (at .i - 1) 0) (e .2)),
+      omega (arith, at .inv .3, once .count-links .kept),
+      rw (once .count-links .ensures)
+          (behind-few (start .args .lows .now) (start .args .highs .now) (at .counts) (at .i) (at .last) (at .run) (at .inv .2)
+          (start .pre .0 .proper .short) (getD (start .args .lows .now) (at .i - 1) 0) (omega (arith, e .0, e .3))
+          (turn .loop-test .taken) (at .inv .0)),
     )
 
 loop-less : tie.Need-loop-less Inv-loop μ-loop
@@ -153,39 +155,58 @@ loop-less c = let turn = c .before .before .before .before .before .before .befo
 
 loop-again : tie.Need-loop-again Inv-loop μ-loop
 loop-again c =
-    let twice = c .before .before in
-    let once = twice .before .before .before .before in
+    let both = c .before .before in
+    let once = both .before .before .before .before in
     let turn = once .before .before .before .before .before .before in
     let at = turn .before .loop in
     let start = turn .before .before .before .before .before .before .before in
-    let lows = start .args .lows .now in
-    let highs = start .args .highs .now in
     let i = at .i in
     let e = ends turn in
-    let some : 0 < i = turn .loop-test .taken in (
+    let some : 0 < i = turn .loop-test .taken in
+    let below : getD (start .args .highs .now) (i - 1) 0 < length (at .counts) = omega (arith, e .1, e .3) in (
       omega (arith, at .inv .0),
       chained-more i (i - 1) (at .inv .1) (omega arith) (at .inv .0) (e .2) (e .1),
-      rw (twice .count-link2 .ensures, once .count-link .ensures)
-          (counted-more lows highs (at .counts) i (i - 1) (at .inv .2) (omega arith) (at .inv .0) (e .2) (omega (arith, e .1, e .3))),
-      simp length-set (at .inv .3),
+      rw (both .count-on .ensures .0, both .count-on .ensures .1, once .count-links .ensures)
+          (counted-more (start .args .lows .now) (start .args .highs .now) (at .counts) i (at .last) (at .run) (at .inv .2)
+          (start .pre .0 .proper .short) (i - 1) (omega arith) (at .inv .0) (e .2) below (at .inv .3)),
+      omega (arith, below, both .count-on .kept, once .count-links .kept),
       simp length-set (at .inv .4),
-      omega (arith, twice .count-link2 .kept, once .count-link .kept, at .inv .5),
+      simp length-set (at .inv .5),
+      omega (arith, both .count-on .kept, once .count-links .kept, at .inv .6),
     )
 
+count-links-requires-2 : tie.Need-count-links-requires-2 Inv-loop μ-loop
+count-links-requires-2 c κs =
+    let at = c .before .before .loop in
+    let start = c .before .before .before .before .before .before .before .before in
+    let few =
+    in-hand-few (start .args .lows .now) (start .args .highs .now) (at .counts) (at .i) (at .last) (at .run) (at .inv .2)
+    (start .pre .0 .proper .short) in
+    (at .inv .3, omega (arith, few))
+
 same-length : tie.Need-same-length Inv-loop μ-loop
-same-length c = c .before .loop .inv .3
+same-length c = c .before .before .before .before .before .loop .inv .4
 
 same-length-2 : tie.Need-same-length-2 Inv-loop μ-loop
-same-length-2 c = c .before .loop .inv .4
+same-length-2 c = c .before .before .before .before .before .loop .inv .5
 
 same-length-3 : tie.Need-same-length-3 Inv-loop μ-loop
-same-length-3 c = c .before .loop .inv .5
+same-length-3 c =
+    let at = c .before .before .before .before .before .loop in
+    omega (arith, c .before .before .count-links2 .kept, at .inv .6)
 
 returns : tie.Need-returns Inv-loop μ-loop
 returns c =
-    let at = c .before .loop in
-    let p : at .i ≡ 0 = omega arith in
-    (rw p at (at .inv .1), rw p at (at .inv .2))
+    let end = c .before .before .before .before in
+    let at = end .before .loop in
+    let start = end .before .before .before .before .before .before .before in
+    let lows = start .args .lows .now in
+    let highs = start .args .highs .now in
+    let p : at .i ≡ 0 = omega arith in (
+      rw p at (at .inv .1),
+      rw (c .before .before .count-links2 .ensures)
+          (rw p at (counted-all lows highs (at .counts) (at .i) (at .last) (at .run) (at .inv .2) (start .pre .0 .proper .short) (at .inv .3))),
+    )
 
 pub link-up-spec : {M : Type 1} → statement M
 link-up-spec =
@@ -217,10 +238,11 @@ link-up-spec =
     slice-write-first
     mul-first-2
     slice-write-first-2
-    count-link-requires
-    count-link-requires-2
+    count-links-requires
+    count-on-requires
     loop-less
     loop-again
+    count-links-requires-2
     same-length
     same-length-2
     same-length-3

@@ -4,6 +4,7 @@ use mathlib.Core.Path.{_≡_, refl, sym, _∙_}
 use native.Mathlib.Omega.{arith}
 use borrow.Author.Needs.{needs}
 use lib.ListN.{length, getD, length-set}
+use Rattle.definitions.specs.Order.{firstRelay}
 use Rattle.forests.specs.Buckets.{columnWords, Buckets}
 use Rattle.forests.specs.Scan.{following, Placeable, ScannedTo}
 use Rattle.forests.proofs.ScanLaws.{
@@ -12,6 +13,7 @@ use Rattle.forests.proofs.ScanLaws.{
   next-most,
   next-below,
   placed-one,
+  first-stays,
   relays-long,
   first-most,
   scan-starts,
@@ -23,7 +25,7 @@ use Rattle.forests.proofs.scan.place_all.Statement.{statement}
 use Rattle.forests.proofs.scan.place_all.Tie as tie
 
 abbrev Inv-loop : tie.InvT-loop
-Inv-loop n start lows highs first nexts counts₀ bits₀ relays₀ places₀ forests₀ columns v₀ most₀ counts bits relays places forests v most =
+Inv-loop n lows highs first nexts counts₀ bits₀ relays₀ places₀ forests₀ columns v₀ most₀ counts bits relays places forests v most =
     (v ≤ n)
     × ScannedTo n lows highs v counts relays₀ relays places₀ places forests₀ forests
     × Buckets counts bits
@@ -33,7 +35,7 @@ Inv-loop n start lows highs first nexts counts₀ bits₀ relays₀ places₀ fo
     × (length bits ≡ length bits₀)
 
 abbrev μ-loop : tie.MeasureT-loop
-μ-loop n start lows highs first nexts counts₀ bits₀ relays₀ places₀ forests₀ columns v₀ most₀ counts bits relays places forests v most = n - v
+μ-loop n lows highs first nexts counts₀ bits₀ relays₀ places₀ forests₀ columns v₀ most₀ counts bits relays places forests v most = n - v
 
 -- Where a turn begins, the next relay can be placed.
 ready : (turn : tie.In-loop Inv-loop μ-loop)
@@ -47,15 +49,24 @@ ready turn =
     let inv = at .inv in
     scan-places p (at .v) (turn .loop-test .taken) (inv .1) (at .most) (inv .2) (inv .3) (inv .4) (omega (arith, p .countRoom, inv .5))
 
+-- At place 1 the list of relays begins with the first relay of the order.
+begins : (turn : tie.In-loop Inv-loop μ-loop)
+    → let a = turn .before .before .before .before .before .before .before .before .before .before .before .before .args in
+    let at = turn .before .loop in
+    at .v + 1 ≡ 1 → getD (at .relays) 0 0 ≡ firstRelay (a .n) (a .lows .now) (a .highs .now)
+begins turn e =
+    let at = turn .before .loop in
+    let p = turn .before .before .before .before .before .before .before .before .before .before .before .before .pre in
+    first-stays (p .0) (at .v) (omega arith) (at .inv .1) ∙ p .1
+
 -- The relay that gets the place is the next one.
 which : (led : tie.After-next-relay Inv-loop μ-loop)
-    → let a = led .before .before .before .before .before .before .before .before .before .before .before .before .before .before .args in
-    following (a .n) (a .lows .now) (a .highs .now) (led .before .before .before .loop .v + 1 - 1) ≡ led .next-relay .result .0
+    → let a = led .before .before .before .before .before .before .before .before .before .before .before .before .before .before .before .args in
+    following (a .n) (a .lows .now) (a .highs .now) (led .before .before .before .before .loop .v + 1 - 1) ≡ led .next-relay .result .0
 which led =
-    let turn = led .before .before in
+    let turn = led .before .before .before in
     let columns = turn .before .before .columns-of in
-    let start = turn .before .before .before .before .before .before .before .before .before .before .before .before in
-    next-is (ready turn) (columns .result) (columns .ensures) (start .pre .1) (led .next-relay .ensures)
+    next-is (ready turn) (columns .result) (columns .ensures) (begins turn) (led .next-relay .ensures)
 
 columns-of-requires : tie.Need-columns-of-requires Inv-loop μ-loop
 columns-of-requires c κs = search needs
@@ -67,9 +78,12 @@ loop-holds c =
 add-v : tie.Need-add-v Inv-loop μ-loop
 add-v c = omega arith
 
+slice-read-most : tie.Need-slice-read-most Inv-loop μ-loop
+slice-read-most c = let p = ready (c .before) in omega (arith, p .some, p .within, p .relayRoom)
+
 next-relay-requires : tie.Need-next-relay-requires Inv-loop μ-loop
 next-relay-requires c κs =
-    let turn = c .before in
+    let turn = c .before .before in
     let columns = turn .before .before .columns-of in
     let room = columns-room (ready turn) (columns .result) (columns .ensures) in
     (turn .before .loop .inv .4, room .0, room .1)
@@ -77,7 +91,7 @@ next-relay-requires c κs =
 put-requires : tie.Need-put-requires Inv-loop μ-loop
 put-requires c κs =
     let led = c .before .before in
-    let turn = led .before .before in
+    let turn = led .before .before .before in
     let p = ready turn in
     let columns = turn .before .before .columns-of in
     let new = next-below p (columns .result) (columns .ensures) in
@@ -86,28 +100,28 @@ put-requires c κs =
 walk-requires : tie.Need-walk-requires Inv-loop μ-loop
 walk-requires c κs =
     let led = c .before .before .before .before .before .before .before .before .before .before in
-    rw (sym (which led)) (ready (led .before .before) .walkable)
+    rw (sym (which led)) (ready (led .before .before .before) .walkable)
 
 add-most : tie.Need-add-most Inv-loop μ-loop
 add-most c =
     let walked = c .before .before .before .before .before .before in
     let led = walked .before .before .before .before .before .before .before .before .before .before .before in
-    omega (arith, walked .walk .ensures .0, led .before .before .before .loop .inv .2 .few (led .next-relay .result .0))
+    omega (arith, walked .walk .ensures .0, led .before .before .before .before .loop .inv .2 .few (led .next-relay .result .0))
 
 loop-less : tie.Need-loop-less Inv-loop μ-loop
-loop-less c = let turn = c .before .before .before .before .before .before .before .before .before .before .before .before .before .before .before .before .before .before .before in omega (arith, turn .loop-test .taken)
+loop-less c = let turn = c .before .before .before .before .before .before .before .before .before .before .before .before .before .before .before .before .before .before .before .before in omega (arith, turn .loop-test .taken)
 
 loop-again : tie.Need-loop-again Inv-loop μ-loop
 loop-again c =
     let walked = c .before .before .before .before .before .before in
     let stored = walked .before .before .before .before .before .before .before .before in
     let led = stored .before .before .before in
-    let turn = led .before .before in
+    let turn = led .before .before .before in
     let at = turn .before .loop in
     let columns = turn .before .before .columns-of in
     let s = turn .before .before .before .before .before .before .before .before .before .before .before .before in
     let w = walked .walk .ensures in
-    let most = next-most (ready turn) (columns .result) (columns .ensures) (s .pre .1) (led .next-relay .ensures) in
+    let most = next-most (ready turn) (columns .result) (columns .ensures) (begins turn) (led .next-relay .ensures) in
     let one = placed-one {n = s .args .n} {v = at .v + 1} {lows = s .args .lows .now} {highs = s .args .highs .now}
     (led .next-relay .result .0) (which led) most (at .inv .2 .few (led .next-relay .result .0))
     (stored .put .ensures .0) (stored .put .ensures .1) (w .0, w .1 .0, w .1 .1) in (
@@ -153,6 +167,7 @@ place-all-spec =
     columns-of-requires
     loop-holds
     add-v
+    slice-read-most
     next-relay-requires
     put-requires
     walk-requires
