@@ -54,13 +54,13 @@ pub(crate) fn link_up(
         let high = low + 1;
         let here = low as u16;
         let there = high as u16;
+        count_links(a, 1, counts);
+        run = count_on(b, last, run, counts);
+        last = b;
         nexts[low] = first[a];
         nexts[high] = first[b];
         first[a] = here;
         first[b] = there;
-        count_links(a, 1, counts);
-        run = count_on(b, last, run, counts);
-        last = b;
     }
     count_links(last, run, counts);
 }

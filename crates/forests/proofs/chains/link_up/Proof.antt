@@ -89,45 +89,9 @@ cast-here c = omega arith
 cast-there : tie.Need-cast-there Inv-loop μ-loop
 cast-there c = omega arith
 
-mul-nexts : tie.Need-mul-nexts Inv-loop μ-loop
-mul-nexts c = omega (arith, ends (c .before .before))
-
-slice-read-nexts : tie.Need-slice-read-nexts Inv-loop μ-loop
-slice-read-nexts c = ends (c .before .before .before) .0
-
-mul-nexts-2 : tie.Need-mul-nexts-2 Inv-loop μ-loop
-mul-nexts-2 c = omega arith
-
-slice-write-nexts : tie.Need-slice-write-nexts Inv-loop μ-loop
-slice-write-nexts c = omega arith
-
-mul-nexts-3 : tie.Need-mul-nexts-3 Inv-loop μ-loop
-mul-nexts-3 c = omega (arith, ends (c .before .before .before))
-
-slice-read-nexts-2 : tie.Need-slice-read-nexts-2 Inv-loop μ-loop
-slice-read-nexts-2 c = ends (c .before .before .before .before) .1
-
-mul-nexts-4 : tie.Need-mul-nexts-4 Inv-loop μ-loop
-mul-nexts-4 c = omega arith
-
-slice-write-nexts-2 : tie.Need-slice-write-nexts-2 Inv-loop μ-loop
-slice-write-nexts-2 c = simp length-set (omega arith)
-
-mul-first : tie.Need-mul-first Inv-loop μ-loop
-mul-first c = omega (arith, ends (c .before .before .before .before))
-
-slice-write-first : tie.Need-slice-write-first Inv-loop μ-loop
-slice-write-first c = ends (c .before .before .before .before) .0
-
-mul-first-2 : tie.Need-mul-first-2 Inv-loop μ-loop
-mul-first-2 c = omega (arith, ends (c .before .before .before .before))
-
-slice-write-first-2 : tie.Need-slice-write-first-2 Inv-loop μ-loop
-slice-write-first-2 c = simp length-set (ends (c .before .before .before .before) .1)
-
 count-links-requires : tie.Need-count-links-requires Inv-loop μ-loop
 count-links-requires c κs =
-    let turn = c .before .before .before .before .before in
+    let turn = c .before .before .before in
     let at = turn .before .loop in
     let start = turn .before .before .before .before .before .before .before in
     let e = ends turn in
@@ -139,7 +103,7 @@ count-links-requires c κs =
 count-on-requires : tie.Need-count-on-requires Inv-loop μ-loop
 count-on-requires c κs =
     let once = c .before .before .before in
-    let turn = once .before .before .before .before .before .before in
+    let turn = once .before .before .before .before in
     let at = turn .before .loop in
     let start = turn .before .before .before .before .before .before .before in
     let e = ends turn in (
@@ -150,14 +114,50 @@ count-on-requires c κs =
           (turn .loop-test .taken) (at .inv .0)),
     )
 
+mul-nexts : tie.Need-mul-nexts Inv-loop μ-loop
+mul-nexts c = omega (arith, ends (c .before .before .before .before .before .before .before .before .before .before))
+
+slice-read-nexts : tie.Need-slice-read-nexts Inv-loop μ-loop
+slice-read-nexts c = ends (c .before .before .before .before .before .before .before .before .before .before .before) .0
+
+mul-nexts-2 : tie.Need-mul-nexts-2 Inv-loop μ-loop
+mul-nexts-2 c = omega arith
+
+slice-write-nexts : tie.Need-slice-write-nexts Inv-loop μ-loop
+slice-write-nexts c = omega arith
+
+mul-nexts-3 : tie.Need-mul-nexts-3 Inv-loop μ-loop
+mul-nexts-3 c = omega (arith, ends (c .before .before .before .before .before .before .before .before .before .before .before))
+
+slice-read-nexts-2 : tie.Need-slice-read-nexts-2 Inv-loop μ-loop
+slice-read-nexts-2 c = ends (c .before .before .before .before .before .before .before .before .before .before .before .before) .1
+
+mul-nexts-4 : tie.Need-mul-nexts-4 Inv-loop μ-loop
+mul-nexts-4 c = omega arith
+
+slice-write-nexts-2 : tie.Need-slice-write-nexts-2 Inv-loop μ-loop
+slice-write-nexts-2 c = simp length-set (omega arith)
+
+mul-first : tie.Need-mul-first Inv-loop μ-loop
+mul-first c = omega (arith, ends (c .before .before .before .before .before .before .before .before .before .before .before .before))
+
+slice-write-first : tie.Need-slice-write-first Inv-loop μ-loop
+slice-write-first c = ends (c .before .before .before .before .before .before .before .before .before .before .before .before) .0
+
+mul-first-2 : tie.Need-mul-first-2 Inv-loop μ-loop
+mul-first-2 c = omega (arith, ends (c .before .before .before .before .before .before .before .before .before .before .before .before))
+
+slice-write-first-2 : tie.Need-slice-write-first-2 Inv-loop μ-loop
+slice-write-first-2 c = simp length-set (ends (c .before .before .before .before .before .before .before .before .before .before .before .before) .1)
+
 loop-less : tie.Need-loop-less Inv-loop μ-loop
 loop-less c = let turn = c .before .before .before .before .before .before .before .before .before .before .before .before in omega (arith, turn .loop-test .taken)
 
 loop-again : tie.Need-loop-again Inv-loop μ-loop
 loop-again c =
-    let both = c .before .before in
+    let both = c .before .before .before .before in
     let once = both .before .before .before .before in
-    let turn = once .before .before .before .before .before .before in
+    let turn = once .before .before .before .before in
     let at = turn .before .loop in
     let start = turn .before .before .before .before .before .before .before in
     let i = at .i in
@@ -226,6 +226,8 @@ link-up-spec =
     add-high
     cast-here
     cast-there
+    count-links-requires
+    count-on-requires
     mul-nexts
     slice-read-nexts
     mul-nexts-2
@@ -238,8 +240,6 @@ link-up-spec =
     slice-write-first
     mul-first-2
     slice-write-first-2
-    count-links-requires
-    count-on-requires
     loop-less
     loop-again
     count-links-requires-2
