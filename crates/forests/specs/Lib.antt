@@ -2,6 +2,7 @@
 -- chains of links to the walk over them; the scan, step by step; the left table from what it gives; and the answers.
 pub mod Fronts
 pub mod Chains
+pub mod LinkCounts
 pub mod Busiest
 pub mod Counts
 pub mod Buckets

@@ -4,7 +4,7 @@ ghost use Prim.Native.Nat.{_+_, _≤_, _<_};
 ghost use mathlib.Core.Path.{_≡_};
 ghost use lib.ListN.{length, getD};
 ghost use Rattle.forests.specs.Chains.{Chainable, ChainedFrom};
-ghost use Rattle.forests.specs.Busiest.{moreLinks, runOn, listOn, CountedFrom};
+ghost use Rattle.forests.specs.LinkCounts.{moreLinks, runOn, listOn, CountedFrom};
 ghost use Rattle.forests.specs.Counts.{NoneBeyond};
 
 // Relay r has so many links more.

@@ -1,7 +1,7 @@
 -- The run goes on, or that at `last` is over and goes into the list. Assumes nothing.
 use native.Mathlib.Omega.{arith}
 use borrow.Author.Needs.{needs}
-use Rattle.forests.proofs.BusiestLaws.{run-goes-on, run-is-over}
+use Rattle.forests.proofs.LinkCountLaws.{run-goes-on, run-is-over}
 use Rattle.forests.proofs.chains.count_on.Statement.{statement}
 use Rattle.forests.proofs.chains.count_on.Tie as tie
 

@@ -5,9 +5,9 @@ use mathlib.Core.Path.{_≡_, refl}
 use native.Mathlib.Omega.{arith}
 use lib.ListN.{length, getD, length-set}
 use Rattle.forests.specs.Chains.{ChainedFrom}
-use Rattle.forests.specs.Busiest.{CountedBut}
+use Rattle.forests.specs.LinkCounts.{CountedBut}
 use Rattle.forests.proofs.ChainLaws.{chained-none, chained-more}
-use Rattle.forests.proofs.BusiestLaws.{counted-none, in-hand-few, in-list-few, behind-few, counted-all, counted-more}
+use Rattle.forests.proofs.LinkCountLaws.{counted-none, in-hand-few, in-list-few, behind-few, counted-all, counted-more}
 use Rattle.forests.proofs.chains.link_up.Statement.{statement}
 use Rattle.forests.proofs.chains.link_up.Tie as tie
 

@@ -3,7 +3,8 @@
 use native.Mathlib.Omega.{arith}
 use borrow.Author.Needs.{needs}
 use Rattle.theory.specs.Accepted.{accepted}
-use Rattle.forests.proofs.BusiestLaws.{counted-beyond, busiest-first}
+use Rattle.forests.proofs.LinkCountLaws.{counted-beyond}
+use Rattle.forests.proofs.BusiestLaws.{busiest-first}
 use Rattle.forests.proofs.ScanLaws.{fewer-columns, chain-ready}
 use Rattle.forests.proofs.scan.prepare.Statement.{statement}
 use Rattle.forests.proofs.scan.prepare.Tie as tie
@@ -56,8 +57,8 @@ returns c =
       startCounts = started .start-counts .ensures .0;
       sorted = started .start-counts .ensures .1;
       starts =
-          busiest-first (start .args .lows .now) (start .args .highs .now) (linked .link-up .last .1 .1 .1 .1 .0)
-          (linked .link-up .ensures .1) (start .args .n) (found .busiest .result .0) (found .busiest .ensures);
+          busiest-first (start .args .n) (start .args .lows .now) (start .args .highs .now) (linked .link-up .last .1 .1 .1 .1 .0)
+          (found .busiest .result .0) (linked .link-up .ensures .1) (found .busiest .ensures);
     }
 
 pub prepare-spec : {M : Type 1} → statement M
