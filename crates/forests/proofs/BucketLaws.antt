@@ -1,18 +1,18 @@
 -- The laws of the waiting relays by their count: what a change of one count does to the bits. Assumes nothing.
 use Prim.Native.Nat.{ℕ, zero, suc, _+_, _*_, _/_, _%_, _^_, _≤_, _<_}
-use mathlib.Core.Bool.{Bool, not}
+use mathlib.Core.Bool.{Bool, true, not, _||_, or-false, or-true}
 use mathlib.Core.List.{List}
 use mathlib.Core.Logic.{_≢_}
 use mathlib.Core.Path.{_≡_, refl, sym, _∙_, ap, ap₂}
 use native.Mathlib.Decide.{ℕ-discrete}
 use native.Mathlib.Omega.{arith}
 use borrow.Author.Tests.{eq-eqb, ne-eqb}
-use lib.Bits.{bitXor, xor-zero-r}
+use lib.Bits.{bitOr, bitXor, or-zero-r, xor-zero-r}
 use lib.Dec.{eqb}
 use lib.ListN.{length, getD, set, replicate, length-set, length-replicate}
 use lib.Seq.{getD-set-same, getD-set-other, set-getD}
 use Rattle.definitions.specs.Outcome.{pick}
-use Rattle.lists.specs.Bitmap.{bitOf, marked, flip, marked-none, flip-same, flip-other, length-flip, one-bit}
+use Rattle.lists.specs.Bitmap.{bitOf, marked, mark, flip, marked-none, marked-mark, length-mark, flip-same, flip-other, length-flip, one-bit}
 use Rattle.forests.specs.Counts.{raisedCount}
 use Rattle.forests.specs.Buckets.{
   wordBits,
@@ -43,22 +43,35 @@ slot-bit : (c r : ℕ) → slotOf c r % wordBits ≡ r % wordBits
 unfolding slotOf
 slot-bit c r = omega arith
 
--- The bit of r, none if it is placed, flipped in the word of count c.
-abbrev flipped : (bits : List ℕ) (c r count : ℕ) → List ℕ
-flipped bits c r count = set bits (wordOf c r) (bitXor (getD bits (wordOf c r) 0) (bitFor count r))
+-- The word of count c changed with the bit of r, which is none if r is placed.
+module _ (op : ℕ → ℕ → ℕ) (bits : List ℕ) (c r count : ℕ) where
+  abbrev changed : List ℕ
+  changed = set bits (wordOf c r) (op (getD bits (wordOf c r) 0) (bitFor count r))
 
-flipped-none : (bits : List ℕ) (c r count : ℕ) → count ≡ 0 → flipped bits c r count ≡ bits
-flipped-none bits c r count e =
-    ap (λ (b : Bool). set bits (wordOf c r) (bitXor (getD bits (wordOf c r) 0) (pick b 0 (2 ^ (r % wordBits))))) (eq-eqb count 0 e)
-    ∙ ap (set bits (wordOf c r)) (xor-zero-r (getD bits (wordOf c r) 0))
-    ∙ set-getD bits (wordOf c r) 0
+  changed-none : ((x : ℕ) → op x 0 ≡ x) → count ≡ 0 → changed ≡ bits
+  changed-none by-zero e =
+      ap (λ (b : Bool). set bits (wordOf c r) (op (getD bits (wordOf c r) 0) (pick b 0 (2 ^ (r % wordBits))))) (eq-eqb count 0 e)
+      ∙ ap (set bits (wordOf c r)) (by-zero (getD bits (wordOf c r) 0))
+      ∙ set-getD bits (wordOf c r) 0
 
-flipped-some : (bits : List ℕ) (c r count : ℕ) → 0 < count → flipped bits c r count ≡ flip bits (slotOf c r)
+  changed-some : 0 < count → let slot = slotOf c r in
+      changed ≡ set bits (slot / wordBits) (op (getD bits (slot / wordBits) 0) (2 ^ (slot % wordBits)))
+  changed-some h =
+      ap (λ (b : Bool). set bits (wordOf c r) (op (getD bits (wordOf c r) 0) (pick b 0 (2 ^ (r % wordBits))))) (ne-eqb count 0 (λ e. omega arith))
+      ∙ ap (λ (at : ℕ). set bits at (op (getD bits at 0) (2 ^ (r % wordBits)))) (sym (slot-word c r))
+      ∙ ap (λ (s : ℕ). set bits (slotOf c r / wordBits) (op (getD bits (slotOf c r / wordBits) 0) (2 ^ s))) (sym (slot-bit c r))
+
+  -- In the code's terms.
+  changes : (at bit : ℕ) → at ≡ wordOf c r → bit ≡ bitFor count r → set bits at (op (getD bits at 0) bit) ≡ changed
+  changes at bit a b = ap₂ (λ (i x : ℕ). set bits i (op (getD bits i 0) x)) a b
+
+flipped-some : (bits : List ℕ) (c r count : ℕ) → 0 < count → changed bitXor bits c r count ≡ flip bits (slotOf c r)
 unfolding flip
-flipped-some bits c r count h =
-    ap (λ (b : Bool). set bits (wordOf c r) (bitXor (getD bits (wordOf c r) 0) (pick b 0 (2 ^ (r % wordBits))))) (ne-eqb count 0 (λ e. omega arith))
-    ∙ ap (λ (at : ℕ). set bits at (bitXor (getD bits at 0) (2 ^ (r % wordBits)))) (sym (slot-word c r))
-    ∙ ap (λ (s : ℕ). set bits (slotOf c r / wordBits) (bitXor (getD bits (slotOf c r / wordBits) 0) (2 ^ s))) (sym (slot-bit c r))
+flipped-some = changed-some bitXor
+
+entered-some : (bits : List ℕ) (c r count : ℕ) → 0 < count → changed bitOr bits c r count ≡ mark bits (slotOf c r)
+unfolding mark
+entered-some = changed-some bitOr
 
 -- The bit of a relay, as the code makes it.
 pub no-bit-of : (count r : ℕ) → count ≡ 0 → bitFor count r ≡ 0
@@ -132,11 +145,6 @@ module _ {counts bits : List ℕ} (r : ℕ) (below : r < length counts) (s : Buc
   own-bit : (c : ℕ) → 0 < c → c < columnWords → marked bits (slotOf c r) ≡ eqb (getD counts r 0) c
   own-bit c some most = s .bit c r some most (s .room r below)
 
-  -- Flipping a bit, in the code's terms.
-  flips : (bits′ : List ℕ) (c count at bit : ℕ) → at ≡ wordOf c r → bit ≡ bitFor count r
-      → set bits′ at (bitXor (getD bits′ at 0) bit) ≡ flipped bits′ c r count
-  flips bits′ c count at bit a b = ap₂ (λ (i x : ℕ). set bits′ i (bitXor (getD bits′ i 0) x)) a b
-
   -- The bits of r with that of count k flipped, by whether the count is k.
   module _ (k : ℕ) (some : 0 < k) (most : k < columnWords) where
     own-it : marked (flip bits (slotOf k r)) (slotOf k r) ≡ not (eqb (getD counts r 0) k)
@@ -150,11 +158,11 @@ module _ {counts bits : List ℕ} (r : ℕ) (below : r < length counts) (s : Buc
       → bit ≡ bitFor count r → bits′ ≡ set bits at (bitXor (getD bits at 0) bit)
       → Moved r 0 counts (set counts r 0) bits′
   leave-moves zero at bit bits′ e a b t =
-      rw (t ∙ flips bits 0 0 at bit a b ∙ flipped-none bits 0 r 0 refl)
+      rw (t ∙ changes bitXor bits 0 r 0 at bit a b ∙ changed-none bitXor bits 0 r 0 xor-zero-r refl)
       (moved 0 bits (omega arith) refl (λ c q some most h d. refl)
       (λ c some most. own-bit c some most ∙ ap (λ (x : ℕ). eqb x c) (sym e)))
   leave-moves (suc k) at bit bits′ e a b t =
-      rw (t ∙ flips bits (suc k) (suc k) at bit a b ∙ flipped-some bits (suc k) r (suc k) (omega arith))
+      rw (t ∙ changes bitXor bits (suc k) r (suc k) at bit a b ∙ flipped-some bits (suc k) r (suc k) (omega arith))
       (moved 0 (flip bits (slotOf (suc k) r)) (omega arith) (length-flip bits (slotOf (suc k) r))
       (λ c q some most h d. flip-others bits (suc k) c q few most d)
       (λ c some most. own c some most (ℕ-discrete c (suc k))))
@@ -171,10 +179,32 @@ module _ {counts bits : List ℕ} (r : ℕ) (below : r < length counts) (s : Buc
           ∙ ne-eqb (getD counts r 0) c (λ z. d (sym z ∙ sym e))
           ∙ sym (ne-eqb 0 c (λ z. omega arith))
 
+  -- One bit of r set: the same, and its own is set whatever it was.
+  module _ (bits′ : List ℕ) (k : ℕ) (few : k < columnWords) (long : length bits′ ≡ length bits) where
+    there : slotOf k r / 64 < length bits′
+    unfolding wordOf
+    there = omega (arith, slot-word k r, long, s .room r below)
+
+    enter-elsewhere : (p : ℕ) → (p ≡ slotOf k r → ⊥) → marked (mark bits′ (slotOf k r)) p ≡ marked bits′ p
+    enter-elsewhere p e =
+        marked-mark bits′ (slotOf k r) p there ∙ ap (λ (b : Bool). marked bits′ p || b) (ne-eqb p (slotOf k r) e) ∙ or-false (marked bits′ p)
+
+    enter-others : (c q : ℕ) → c < columnWords → q ≢ r → marked (mark bits′ (slotOf k r)) (slotOf c q) ≡ marked bits′ (slotOf c q)
+    enter-others c q b e = enter-elsewhere (slotOf c q) (λ z. e (slot-same c q k r b few z .1))
+
+    enter-own : (c : ℕ) → c < columnWords → (c ≡ k → ⊥) → marked (mark bits′ (slotOf k r)) (slotOf c r) ≡ marked bits′ (slotOf c r)
+    enter-own c b e = enter-elsewhere (slotOf c r) (λ z. e (slot-same c r k r b few z .0))
+
+    enter-it : marked (mark bits′ (slotOf k r)) (slotOf k r) ≡ true
+    enter-it =
+        marked-mark bits′ (slotOf k r) (slotOf k r) there
+        ∙ ap (λ (b : Bool). marked bits′ (slotOf k r) || b) (eq-eqb (slotOf k r) (slotOf k r) refl)
+        ∙ or-true (marked bits′ (slotOf k r))
+
   -- r has one more link to a placed relay.
   pub raise-moves : (count at bit : ℕ) (bits₁ bits₂ : List ℕ) → count ≡ getD counts r 0 → count < mostCount → at ≡ wordOf count r
       → bit ≡ bitFor count r → bits₁ ≡ set bits at (bitXor (getD bits at 0) bit)
-      → bits₂ ≡ set bits₁ (at + 1) (bitXor (getD bits₁ (at + 1) 0) bit)
+      → bits₂ ≡ set bits₁ (at + 1) (bitOr (getD bits₁ (at + 1) 0) bit)
       → Moved r (raisedCount count) counts (set counts r (raisedCount count)) bits₂
   unfolding wordOf
   raise-moves zero at bit bits₁ bits₂ e few a b t u =
@@ -183,50 +213,45 @@ module _ {counts bits : List ℕ} (r : ℕ) (below : r < length counts) (s : Buc
       (λ c some most. own-bit c some most ∙ ap (λ (x : ℕ). eqb x c) (sym e)))
     where
       first : bits₁ ≡ bits
-      first = t ∙ flips bits 0 0 at bit a b ∙ flipped-none bits 0 r 0 refl
+      first = t ∙ changes bitXor bits 0 r 0 at bit a b ∙ changed-none bitXor bits 0 r 0 xor-zero-r refl
 
       second : bits₂ ≡ bits₁
-      second = u ∙ flips bits₁ 1 0 (at + 1) bit (omega (arith, a)) b ∙ flipped-none bits₁ 1 r 0 refl
+      second = u ∙ changes bitOr bits₁ 1 r 0 (at + 1) bit (omega (arith, a)) b ∙ changed-none bitOr bits₁ 1 r 0 or-zero-r refl
   raise-moves (suc k) at bit bits₁ bits₂ e few a b t u =
       rw (raised-some (suc k) (omega arith), second)
-      (moved (suc k + 1) after (omega arith) long
+      (moved (suc k + 1) after (omega arith) (length-mark before (slotOf (suc k + 1) r) ∙ long)
       (λ c q some most h d.
-      flip-others before (suc k + 1) c q (omega arith) most d ∙ flip-others bits (suc k) c q (omega arith) most d)
+      enter-others before (suc k + 1) (omega arith) long c q most d ∙ flip-others bits (suc k) c q (omega arith) most d)
       (λ c some most. own c some most (ℕ-discrete c (suc k + 1)) (ℕ-discrete c (suc k))))
     where
       before : List ℕ
       before = flip bits (slotOf (suc k) r)
 
+      long : length before ≡ length bits
+      long = length-flip bits (slotOf (suc k) r)
+
       after : List ℕ
-      after = flip before (slotOf (suc k + 1) r)
+      after = mark before (slotOf (suc k + 1) r)
 
       first : bits₁ ≡ before
-      first = t ∙ flips bits (suc k) (suc k) at bit a b ∙ flipped-some bits (suc k) r (suc k) (omega arith)
+      first = t ∙ changes bitXor bits (suc k) r (suc k) at bit a b ∙ flipped-some bits (suc k) r (suc k) (omega arith)
 
       second : bits₂ ≡ after
       second =
           u
-          ∙ flips bits₁ (suc k + 1) (suc k) (at + 1) bit (omega (arith, a)) b
-          ∙ flipped-some bits₁ (suc k + 1) r (suc k) (omega arith)
-          ∙ ap (λ (l : List ℕ). flip l (slotOf (suc k + 1) r)) first
-
-      long : length after ≡ length bits
-      long = length-flip before (slotOf (suc k + 1) r) ∙ length-flip bits (slotOf (suc k) r)
+          ∙ changes bitOr bits₁ (suc k + 1) r (suc k) (at + 1) bit (omega (arith, a)) b
+          ∙ entered-some bits₁ (suc k + 1) r (suc k) (omega arith)
+          ∙ ap (λ (l : List ℕ). mark l (slotOf (suc k + 1) r)) first
 
       own : (c : ℕ) → 0 < c → c < columnWords → Dec (c ≡ suc k + 1) → Dec (c ≡ suc k) → marked after (slotOf c r) ≡ eqb (suc k + 1) c
       own c some most (yes d) g =
-          rw d (
-          flip-it before (suc k + 1) (omega arith) (length-flip bits (slotOf (suc k) r))
-          ∙ ap not (own-other (suc k) (omega arith) (omega arith) (suc k + 1) (omega arith) (omega arith) (λ z. omega arith)
-          ∙ ne-eqb (getD counts r 0) (suc k + 1) (λ z. omega (arith, e)))
-          ∙ sym (eq-eqb (suc k + 1) (suc k + 1) refl)
-          )
+          rw d (enter-it before (suc k + 1) (omega arith) long ∙ sym (eq-eqb (suc k + 1) (suc k + 1) refl))
       own c some most (no d) (yes g) =
-          flip-own before (suc k + 1) c (omega arith) most d
+          enter-own before (suc k + 1) (omega arith) long c most d
           ∙ rw g (own-it (suc k) (omega arith) (omega arith) ∙ ap not (eq-eqb (getD counts r 0) (suc k) (sym e)))
           ∙ sym (ne-eqb (suc k + 1) c (λ z. d (sym z)))
       own c some most (no d) (no g) =
-          flip-own before (suc k + 1) c (omega arith) most d
+          enter-own before (suc k + 1) (omega arith) long c most d
           ∙ own-other (suc k) (omega arith) (omega arith) c some most g
           ∙ ne-eqb (getD counts r 0) c (λ z. g (sym z ∙ sym e))
           ∙ sym (ne-eqb (suc k + 1) c (λ z. d (sym z)))

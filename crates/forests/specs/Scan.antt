@@ -84,10 +84,6 @@ pub record Scannable (n : ℕ) (lows highs relays places forests : List ℕ) : T
   pub placeRoom : n ≤ length places
   pub forestRoom : length lows ≤ length forests
 
--- No link has a forest number yet.
-abbrev pub NoNumbers : (lows forests : List ℕ) → Type 0
-NoNumbers lows forests = (i : ℕ) → i < length lows → getD forests i 0 ≡ 0
-
 -- A small network, which is worked on in small arrays.
 unfoldable pub isSmall : (n m : ℕ) → Bool
 isSmall n m = leb n 128 && leb m 384
@@ -117,7 +113,7 @@ pub record Startable (n : ℕ) (lows highs first nexts counts bits relays places
   pub chained : ChainedFrom lows highs 0 first nexts
   pub startCounts : StartCounts n counts
   pub sorted : Buckets counts bits
-  pub zeros : NoNumbers lows forests
+  pub zeros : (i : ℕ) → i < length lows → getD forests i 0 ≡ 0
 
 -- What the scan does.
 pub record Scanned (n : ℕ) (lows highs relays relays′ places places′ forests forests′ : List ℕ) : Type 0 where

@@ -5,7 +5,7 @@ use crate::counts::raised;
 use network::Relay;
 ghost use Prim.Native.Nat.{_*_, _<_, _≤_};
 ghost use mathlib.Core.Path.{_≡_};
-ghost use lib.Bits.{bitXor};
+ghost use lib.Bits.{bitOr, bitXor};
 ghost use lib.ListN.{length, getD, set, replicate};
 ghost use Rattle.forests.specs.Counts.{raisedCount, NoneBeyond, StartCounts};
 ghost use Rattle.forests.specs.Buckets.{
@@ -76,6 +76,15 @@ fn flip(at: usize, bit: u64, bits: &mut [u64])
     bits[at] = word ^ bit;
 }
 
+// A bit is set in the word at `at`; none if `bit` is 0.
+fn set_bit(at: usize, bit: u64, bits: &mut [u64])
+    requires { ⌜ at < length (now bits) ⌝ }
+    ensures { λ _. ⌜ now (bits .exit) ≡ set (now (bits .entry)) at (bitOr (getD (now (bits .entry)) at 0) bit) ⌝ }
+{
+    let word = bits[at];
+    bits[at] = word | bit;
+}
+
 // Each of the first n relays has count 1.
 fn wait_all(n: u16, counts: &mut [u16])
     requires { ⌜ (n ≤ length (now counts)) × NoneBeyond n (now counts) ⌝ }
@@ -136,7 +145,8 @@ pub(crate) fn leave(r: Relay, counts: &mut [u16], bits: &mut [u64]) -> u16
     count
 }
 
-// Relay r has one more link to a placed relay, if it waits. Gives its count before.
+// Relay r has one more link to a placed relay, if it waits. Gives its count before. The bit leaves a word by `^` and enters the next
+// by `|`: flipped in both, the two words would be loaded as one, which waits for a store to either of them just before.
 pub(crate) fn raise(r: Relay, counts: &mut [u16], bits: &mut [u64]) -> u16
     requires { ⌜ (r .0 < length (now counts)) × (getD (now counts) (r .0) 0 < mostCount) × Buckets (now counts) (now bits) ⌝ }
     ensures { λ count. ⌜ count ≡ getD (now (counts .entry)) (r .0) 0 ⌝ }
@@ -148,7 +158,7 @@ pub(crate) fn raise(r: Relay, counts: &mut [u16], bits: &mut [u64]) -> u16
     let word = word_of(count, r);
     counts[at] = raised(count);
     flip(word, bit, bits);
-    flip(word + 1, bit, bits);
+    set_bit(word + 1, bit, bits);
     count
 }
 

@@ -24,7 +24,7 @@ ghost use Rattle.definitions.specs.Network.{Accepted};
 ghost use Rattle.definitions.specs.Order.{firstRelay, orderOf, placesOf};
 ghost use Rattle.definitions.specs.Forests.{forestsOf};
 ghost use Rattle.forests.specs.Buckets.{columnWords, mostColumns, Leads};
-ghost use Rattle.forests.specs.Scan.{Prepared, Startable, Scannable, ScanArrays, NoNumbers, isSmall, Scanned};
+ghost use Rattle.forests.specs.Scan.{Prepared, Startable, Scannable, ScanArrays, isSmall, Scanned};
 
 // The place of a relay, from the list of places.
 pub fn place_of(places: &[u16], r: Relay) -> Place
@@ -122,12 +122,13 @@ fn scan_in(
     forests: &mut [u16],
 )
     requires { ⌜ Scannable n (now lows) (now highs) (now relays) (now places) (now forests)
-        × ScanArrays n (now lows) (now first) (now nexts) (now counts) (now bits) × NoNumbers (now lows) (now forests) ⌝ }
+        × ScanArrays n (now lows) (now first) (now nexts) (now counts) (now bits) ⌝ }
     ensures { λ _. ⌜ Scanned n (now (lows .entry)) (now (highs .entry)) (now (relays .entry)) (now (relays .exit))
         (now (places .entry)) (now (places .exit)) (now (forests .entry)) (now (forests .exit)) ⌝ }
 {
     let start = prepare(n, lows, highs, first, nexts, counts, bits);
     relays[0] = start.0;
+    clear(forests, lows.len());
     place_all(
         n,
         lows,
@@ -157,8 +158,7 @@ fn scan_small(
     places: &mut [u16],
     forests: &mut [u16],
 )
-    requires { ⌜ Scannable n (now lows) (now highs) (now relays) (now places) (now forests) × NoNumbers (now lows) (now forests)
-        × (n ≤ 128) × (length (now lows) ≤ 384) ⌝ }
+    requires { ⌜ Scannable n (now lows) (now highs) (now relays) (now places) (now forests) × (n ≤ 128) × (length (now lows) ≤ 384) ⌝ }
     ensures { λ _. ⌜ Scanned n (now (lows .entry)) (now (highs .entry)) (now (relays .entry)) (now (relays .exit))
         (now (places .entry)) (now (places .exit)) (now (forests .entry)) (now (forests .exit)) ⌝ }
 {
@@ -189,7 +189,7 @@ fn scan_large(
     places: &mut [u16],
     forests: &mut [u16],
 )
-    requires { ⌜ Scannable n (now lows) (now highs) (now relays) (now places) (now forests) × NoNumbers (now lows) (now forests) ⌝ }
+    requires { ⌜ Scannable n (now lows) (now highs) (now relays) (now places) (now forests) ⌝ }
     ensures { λ _. ⌜ Scanned n (now (lows .entry)) (now (highs .entry)) (now (relays .entry)) (now (relays .exit))
         (now (places .entry)) (now (places .exit)) (now (forests .entry)) (now (forests .exit)) ⌝ }
 {
@@ -212,26 +212,6 @@ fn scan_large(
     );
 }
 
-// The scan into a list without forest numbers.
-fn scan_zeros(
-    n: u16,
-    lows: &[u16],
-    highs: &[u16],
-    relays: &mut [u16],
-    places: &mut [u16],
-    forests: &mut [u16],
-)
-    requires { ⌜ Scannable n (now lows) (now highs) (now relays) (now places) (now forests) × NoNumbers (now lows) (now forests) ⌝ }
-    ensures { λ _. ⌜ Scanned n (now (lows .entry)) (now (highs .entry)) (now (relays .entry)) (now (relays .exit))
-        (now (places .entry)) (now (places .exit)) (now (forests .entry)) (now (forests .exit)) ⌝ }
-{
-    if is_small(n, lows.len()) {
-        scan_small(n, lows, highs, relays, places, forests);
-    } else {
-        scan_large(n, lows, highs, relays, places, forests);
-    }
-}
-
 // The order, the places and the forest numbers of an accepted table.
 pub fn scan(
     n: u16,
@@ -245,8 +225,11 @@ pub fn scan(
     ensures { λ _. ⌜ Scanned n (now (lows .entry)) (now (highs .entry)) (now (relays .entry)) (now (relays .exit))
         (now (places .entry)) (now (places .exit)) (now (forests .entry)) (now (forests .exit)) ⌝ }
 {
-    clear(forests, lows.len());
-    scan_zeros(n, lows, highs, relays, places, forests);
+    if is_small(n, lows.len()) {
+        scan_small(n, lows, highs, relays, places, forests);
+    } else {
+        scan_large(n, lows, highs, relays, places, forests);
+    }
 }
 
 // The order and the places alone.
@@ -264,10 +247,10 @@ pub(crate) fn place_relays(
 {
     if lows.len() <= 384 {
         let mut forests = few_link_zeros();
-        scan_zeros(n, lows, highs, relays, places, &mut forests);
+        scan(n, lows, highs, relays, places, &mut forests);
     } else {
         let mut forests = link_zeros();
-        scan_zeros(n, lows, highs, relays, places, &mut forests);
+        scan(n, lows, highs, relays, places, &mut forests);
     }
 }
 

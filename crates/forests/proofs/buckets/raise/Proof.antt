@@ -41,16 +41,16 @@ flip-requires c κs =
     let p = start .pre in
     omega (arith, atWord .word-of .ensures, p .2 .room (start .args .r .0) (p .0))
 
-add-flip : tie.Need-add-flip
+add-set-bit : tie.Need-add-set-bit
 unfolding wordOf
-add-flip c =
+add-set-bit c =
     let atWord = c .before .before .before .before .before in
     let start = atWord .before .before .before .before .before .before in
     omega (arith, atWord .word-of .ensures, start .pre .1)
 
-flip-requires-2 : tie.Need-flip-requires-2
+set-bit-requires : tie.Need-set-bit-requires
 unfolding wordOf
-flip-requires-2 c κs =
+set-bit-requires c κs =
     let flipped = c .before .before .before in
     let atWord = flipped .before .before .before in
     let start = atWord .before .before .before .before .before .before in
@@ -76,8 +76,8 @@ returns c =
     let p = start .pre in
     let count = getD (start .args .counts .now) (start .args .r .0) 0 in
     let moved = raise-moves (start .args .r .0) (p .0) (p .2) count (atWord .word-of .result) (atWord .before .bit-of .result)
-    (flipped .flip .last .1 .1 .0) (again .flip2 .last .1 .1 .0) refl (p .1) (atWord .word-of .ensures) (atWord .before .bit-of .ensures)
-    (flipped .flip .ensures) (again .flip2 .ensures) in
+    (flipped .flip .last .1 .1 .0) (again .set-bit .last .1 .1 .0) refl (p .1) (atWord .word-of .ensures) (atWord .before .bit-of .ensures)
+    (flipped .flip .ensures) (again .set-bit .ensures) in
     (refl, rw (atRaised .raised .ensures) moved)
 
 pub raise-spec : {M : Type 1} → statement M
@@ -93,8 +93,8 @@ raise-spec =
     mul-counts
     slice-write-counts
     flip-requires
-    add-flip
-    flip-requires-2
+    add-set-bit
+    set-bit-requires
     same-length
     same-length-2
     returns)

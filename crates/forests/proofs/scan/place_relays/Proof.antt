@@ -1,9 +1,4 @@
 -- The scan with a list of its own for the forest numbers. Assumes nothing.
-use Prim.Native.Nat.{ℕ}
-use mathlib.Core.Path.{ap}
-use native.Mathlib.Omega.{arith}
-use lib.ListN.{length, length-replicate}
-use Rattle.forests.proofs.CountLaws.{none-counted}
 use Rattle.forests.proofs.SizeLaws.{link-room}
 use borrow.Author.Needs.{needs}
 use Rattle.forests.proofs.scan.place_relays.Statement.{statement}
@@ -12,40 +7,28 @@ use Rattle.forests.proofs.scan.place_relays.Tie as tie
 few-link-zeros-requires : tie.Need-few-link-zeros-requires
 few-link-zeros-requires c κs = search needs
 
-slice-aggregate-scan-zeros : tie.Need-slice-aggregate-scan-zeros
-slice-aggregate-scan-zeros c = search needs
+slice-aggregate-scan : tie.Need-slice-aggregate-scan
+slice-aggregate-scan c = search needs
 
-scan-zeros-requires : tie.Need-scan-zeros-requires
-scan-zeros-requires c κs =
-    let s = c .before .before .before .before .before .before .before .before .before in
-    let own = c .before .before .before .few-link-zeros in (
-      record {
-        accepted = s .pre .0;
-        relayRoom = s .pre .1;
-        placeRoom = s .pre .2;
-        forestRoom = omega (arith, ap length (own .ensures), length-replicate {A = ℕ} 384 0);
-      },
-      λ i h. none-counted 384 (own .result) (own .ensures) i (omega arith),
-    )
+scan-requires : tie.Need-scan-requires
+scan-requires c κs = search needs
 
 link-zeros-requires : tie.Need-link-zeros-requires
 link-zeros-requires c κs = search needs
 
-slice-aggregate-scan-zeros-2 : tie.Need-slice-aggregate-scan-zeros-2
-slice-aggregate-scan-zeros-2 c = search needs
+slice-aggregate-scan-2 : tie.Need-slice-aggregate-scan-2
+slice-aggregate-scan-2 c = search needs
 
-scan-zeros-requires-2 : tie.Need-scan-zeros-requires-2
-scan-zeros-requires-2 c κs =
+scan-requires-2 : tie.Need-scan-requires-2
+scan-requires-2 c κs =
     let s = c .before .before .before .before .before .before .before .before .before in
-    let own = c .before .before .before .link-zeros in (
-      record {
-        accepted = s .pre .0;
-        relayRoom = s .pre .1;
-        placeRoom = s .pre .2;
-        forestRoom = link-room (s .args .n) (s .args .lows .now) (s .args .highs .now) (own .result) (s .pre .0) (own .ensures);
-      },
-      λ i h. none-counted 3000 (own .result) (own .ensures) i (omega arith),
-    )
+    let own = c .before .before .before .link-zeros in
+    record {
+      accepted = s .pre .0;
+      relayRoom = s .pre .1;
+      placeRoom = s .pre .2;
+      forestRoom = link-room (s .args .n) (s .args .lows .now) (s .args .highs .now) (own .result) (s .pre .0) (own .ensures);
+    }
 
 same-length : tie.Need-same-length
 same-length c = search needs
@@ -70,11 +53,11 @@ place-relays-spec =
     tie.close
     (tie.spec
     few-link-zeros-requires
-    slice-aggregate-scan-zeros
-    scan-zeros-requires
+    slice-aggregate-scan
+    scan-requires
     link-zeros-requires
-    slice-aggregate-scan-zeros-2
-    scan-zeros-requires-2
+    slice-aggregate-scan-2
+    scan-requires-2
     same-length
     same-length-2
     returns

@@ -1,27 +1,20 @@
--- The numbers are cleared, and the scan gives them. Assumes nothing.
-use native.Mathlib.Omega.{arith}
+-- The scan in small or in large arrays. Assumes nothing.
 use borrow.Author.Needs.{needs}
-use lib.ListN.{length}
-use Rattle.forests.proofs.ClearLaws.{cleared, scan-cleared}
+use Rattle.forests.proofs.SizeLaws.{small-sizes}
 use Rattle.forests.proofs.scan.scan.Statement.{statement}
 use Rattle.forests.proofs.scan.scan.Tie as tie
 
-clear-requires : tie.Need-clear-requires
-clear-requires c κs = search needs
+is-small-requires : tie.Need-is-small-requires
+is-small-requires c κs = search needs
 
-scan-zeros-requires : tie.Need-scan-zeros-requires
-scan-zeros-requires c κs =
-    let emptied = c .before .before .before .before .before in
-    let s = emptied .before .before .before .before .before .before .before in
-    let p = s .pre in (
-      record {
-        accepted = p .accepted;
-        relayRoom = p .relayRoom;
-        placeRoom = p .placeRoom;
-        forestRoom = omega (arith, p .forestRoom, emptied .clear .kept .0);
-      },
-      cleared (length (s .args .lows .now)) (s .args .forests .now) (emptied .clear .ensures) .0,
-    )
+scan-small-requires : tie.Need-scan-small-requires
+scan-small-requires c κs =
+    let case = c .before .before .before in
+    let small = small-sizes _ _ (case .before .is-small .ensures) (case .if1 .taken) in
+    (c .before .before .before .before .before .before .before .before .before .before .pre, small .0, small .1)
+
+scan-large-requires : tie.Need-scan-large-requires
+scan-large-requires c κs = search needs
 
 same-length : tie.Need-same-length
 same-length c = search needs
@@ -33,12 +26,32 @@ same-length-3 : tie.Need-same-length-3
 same-length-3 c = search needs
 
 returns : tie.Need-returns
-returns c =
-    let scanned = c .before .before .before .before .before .before in
-    let emptied = scanned .before .before .before .before .before .before in
-    scan-cleared (emptied .clear .ensures) (scanned .scan-zeros .ensures)
+returns c = search needs
+
+same-length-4 : tie.Need-same-length-4
+same-length-4 c = search needs
+
+same-length-5 : tie.Need-same-length-5
+same-length-5 c = search needs
+
+same-length-6 : tie.Need-same-length-6
+same-length-6 c = search needs
+
+returns-2 : tie.Need-returns-2
+returns-2 c = search needs
 
 pub scan-spec : {M : Type 1} → statement M
 scan-spec =
     tie.close
-    (tie.spec clear-requires scan-zeros-requires same-length same-length-2 same-length-3 returns)
+    (tie.spec
+    is-small-requires
+    scan-small-requires
+    scan-large-requires
+    same-length
+    same-length-2
+    same-length-3
+    returns
+    same-length-4
+    same-length-5
+    same-length-6
+    returns-2)

@@ -10,12 +10,12 @@ use Rattle.forests.proofs.scan.scan_large.Tie as tie
 cast-none : tie.Need-cast-none
 cast-none c =
     let s = c .before .before .before .before .before in
-    omega (arith, accepted (s .args .n) (s .args .lows .now) (s .args .highs .now) (s .pre .0 .accepted) .short)
+    omega (arith, accepted (s .args .n) (s .args .lows .now) (s .args .highs .now) (s .pre .accepted) .short)
 
 mul-none : tie.Need-mul-none
 mul-none c =
     let s = c .before .before .before .before .before in
-    omega (arith, accepted (s .args .n) (s .args .lows .now) (s .args .highs .now) (s .pre .0 .accepted) .short)
+    omega (arith, accepted (s .args .n) (s .args .lows .now) (s .args .highs .now) (s .pre .accepted) .short)
 
 relay-copies-requires : tie.Need-relay-copies-requires
 relay-copies-requires c κs = search needs
@@ -48,11 +48,10 @@ scan-in-requires c κs =
     let nexts = counts .before in
     let first = nexts .before in
     let s = first .before .before .before .before .before .before in
-    let t = accepted (s .args .n) (s .args .lows .now) (s .args .highs .now) (s .pre .0 .accepted) in (
-      s .pre .0,
+    let t = accepted (s .args .n) (s .args .lows .now) (s .args .highs .now) (s .pre .accepted) in (
+      s .pre,
       scan-arrays 1000 6000 mostColumns (s .args .n) (t .few) (omega arith) (omega (arith, t .short)) (omega arith)
           (first .relay-copies .ensures) (nexts .half-link-zeros .ensures) (counts .relay-copies2 .ensures) (bits .column-zeros .ensures),
-      s .pre .1,
     )
 
 same-length : tie.Need-same-length

@@ -44,9 +44,8 @@ scan-in-requires c κs =
     let first = nexts .before in
     let s = first .before .before .before .before .before .before in (
       s .pre .0,
-      scan-arrays 128 768 fewColumns (s .args .n) (s .pre .2) (omega arith) (omega (arith, s .pre .3)) (omega arith)
+      scan-arrays 128 768 fewColumns (s .args .n) (s .pre .1) (omega arith) (omega (arith, s .pre .2)) (omega arith)
           (first .few-relay-copies .ensures) (nexts .few-half-link-zeros .ensures) (counts .few-relay-copies2 .ensures) (bits .few-column-zeros .ensures),
-      s .pre .1,
     )
 
 same-length : tie.Need-same-length
