@@ -116,10 +116,10 @@ fn fill_words(n: u16, bits: &mut [u64])
 {
     let size = n as usize;
     let columns = columns_of(n);
-    let mut g = 0;
-    while g < columns {
-        bits[g * COLUMN_WORDS + 1] = full_word(size - g * WORD_BITS);
-        g += 1;
+    let mut column = 0;
+    while column < columns {
+        bits[column * COLUMN_WORDS + 1] = full_word(size - column * WORD_BITS);
+        column += 1;
     }
 }
 

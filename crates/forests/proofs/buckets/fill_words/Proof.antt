@@ -10,10 +10,10 @@ use Rattle.forests.proofs.buckets.fill_words.Statement.{statement}
 use Rattle.forests.proofs.buckets.fill_words.Tie as tie
 
 abbrev Inv-loop : tie.InvT-loop
-Inv-loop n bits₀ size columns g₀ bits g = (g ≤ columns) × FilledTo n g bits × (length bits ≡ length bits₀)
+Inv-loop n bits₀ size columns column₀ bits column = (column ≤ columns) × FilledTo n column bits × (length bits ≡ length bits₀)
 
 abbrev μ-loop : tie.MeasureT-loop
-μ-loop n bits₀ size columns g₀ bits g = columns - g
+μ-loop n bits₀ size columns column₀ bits column = columns - column
 
 columns-of-requires : tie.Need-columns-of-requires Inv-loop μ-loop
 columns-of-requires c κs = search needs
@@ -44,11 +44,11 @@ slice-write-bits : tie.Need-slice-write-bits Inv-loop μ-loop
 slice-write-bits c =
     let at = c .before .before .loop in
     let start = c .before .before .before .before .before in
-    let less : at .g < columnsFor (start .args .n) = omega (arith, c .before .before .before .columns-of .ensures) in
-    omega (arith, column-there (start .args .n) (at .g) (start .args .bits .now) (at .bits) (start .pre) (at .inv .2) less)
+    let less : at .column < columnsFor (start .args .n) = omega (arith, c .before .before .before .columns-of .ensures) in
+    omega (arith, column-there (start .args .n) (at .column) (start .args .bits .now) (at .bits) (start .pre) (at .inv .2) less)
 
-add-g : tie.Need-add-g Inv-loop μ-loop
-add-g c = omega arith
+add-column : tie.Need-add-column Inv-loop μ-loop
+add-column c = omega arith
 
 loop-less : tie.Need-loop-less Inv-loop μ-loop
 loop-less c = omega arith
@@ -57,10 +57,10 @@ loop-again : tie.Need-loop-again Inv-loop μ-loop
 loop-again c =
     let at = c .before .before .loop in
     let start = c .before .before .before .before .before in
-    let less : at .g < columnsFor (start .args .n) = omega (arith, c .before .before .before .columns-of .ensures) in
-    let room = column-there (start .args .n) (at .g) (start .args .bits .now) (at .bits) (start .pre) (at .inv .2) less in (
+    let less : at .column < columnsFor (start .args .n) = omega (arith, c .before .before .before .columns-of .ensures) in
+    let room = column-there (start .args .n) (at .column) (start .args .bits .now) (at .bits) (start .pre) (at .inv .2) less in (
       omega arith,
-      rw (c .full-word .ensures) (fill-more (start .args .n) (at .g) (at .bits) room (at .inv .1)),
+      rw (c .full-word .ensures) (fill-more (start .args .n) (at .column) (at .bits) room (at .inv .1)),
       simp length-set (at .inv .2),
     )
 
@@ -71,7 +71,7 @@ returns : tie.Need-returns Inv-loop μ-loop
 returns c =
     let at = c .before .loop in
     let start = c .before .before .before .before in
-    fill-all (start .args .n) (at .g) (at .bits) (omega (arith, c .before .before .columns-of .ensures)) (at .inv .1)
+    fill-all (start .args .n) (at .column) (at .bits) (omega (arith, c .before .before .columns-of .ensures)) (at .inv .1)
 
 pub fill-words-spec : {M : Type 1} → statement M
 fill-words-spec =
@@ -88,7 +88,7 @@ fill-words-spec =
     add-bits
     mul-bits-2
     slice-write-bits
-    add-g
+    add-column
     loop-less
     loop-again
     same-length
