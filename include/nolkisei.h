@@ -59,7 +59,7 @@ extern "C" {
 
 /* Enough stack for any call, beside what the caller uses. Measured, not proved: tests/stack.c fills a thread's stack with one byte,
  * calls each function on the largest networks and counts the bytes that changed: nolkisei_plan needs some 182,000, nolkisei_keep
- * 155,000, nolkisei_route and nolkisei_route_links 86,000, and every other function less than that. */
+ * 155,000, nolkisei_route and nolkisei_route_links 85,000, and every other function less than that. */
 #define NOLKISEI_STACK 262144
 
 /* What a function returns: 0 when it is done, or the number of its refusal. It writes both entries of `answer`: after a refusal its
