@@ -146,7 +146,7 @@ pub(crate) fn leave(r: Relay, counts: &mut [u16], bits: &mut [u64]) -> u16
 }
 
 // Relay r has one more link to a placed relay, if it waits. Gives its count before. The bit leaves a word by `^` and enters the next
-// by `|`: flipped in both, the two words would be loaded as one, which waits for a store to either of them just before.
+// by `|`: of two flips the compiler makes one load and one store of both words, and that was slower (docs/DECISIONS.md).
 pub(crate) fn raise(r: Relay, counts: &mut [u16], bits: &mut [u64]) -> u16
     requires { ⌜ (r .0 < length (now counts)) × (getD (now counts) (r .0) 0 < mostCount) × Buckets (now counts) (now bits) ⌝ }
     ensures { λ count. ⌜ count ≡ getD (now (counts .entry)) (r .0) 0 ⌝ }
