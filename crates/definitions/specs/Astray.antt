@@ -7,19 +7,19 @@ use mathlib.Core.Logic.{_⊎_, inl, inr}
 use mathlib.Core.Path.{_≡_, refl}
 use native.Mathlib.Omega.{arith}
 use lib.Dec.{eqb}
-use lib.ListN.{length}
+use lib.ListN.{length, replicate}
 use borrow.Author.Tests.{eqb-true}
 use Rattle.definitions.specs.Outcome.{refused}
 use Rattle.definitions.specs.Lists.{has}
 use Rattle.definitions.specs.Forests.{forestsOf}
 use Rattle.definitions.specs.Route.{routeAnswer, routesOf}
 use Rattle.definitions.specs.Text.{Network}
-use Rattle.definitions.specs.Demand.{LinkOf, AnyLink, InForest, Along, uses, RouteHolds, Apart}
+use Rattle.definitions.specs.Demand.{LinkOf, InService, InForest, Along, uses, RouteHolds, Apart}
 use Rattle.definitions.specs.Networks.{square, lent}
 use Rattle.definitions.specs.Opened.{opened}
 
 abbrev routes : (w : Network) (from to k : ℕ) → List (List ℕ)
-routes w from to k = routesOf (w .relays) (w .lows) (w .highs) k from to
+routes w from to k = routesOf (w .relays) (w .lows) (w .highs) (w .states) k from to
 
 -- Six relays: 0 1, 0 2, 1 2, 0 3, 1 3, 0 4, 1 5, 2 5. The order is 0 1 2 3 5 4.
 abbrev six : Network
@@ -28,11 +28,12 @@ six =
       relays = 6;
       lows = 0 ∷ 0 ∷ 1 ∷ 0 ∷ 1 ∷ 0 ∷ 1 ∷ 2 ∷ [];
       highs = 1 ∷ 2 ∷ 2 ∷ 3 ∷ 3 ∷ 4 ∷ 5 ∷ 5 ∷ [];
+      states = replicate 6 1;
     }
 
 -- A route of the six relays along links of forest f alone.
 abbrev sixAlong : (f : ℕ) (route : List ℕ) → Type 0
-sixAlong f = Along (LinkOf (six .lows) (six .highs) (InForest (forestsOf 6 (six .lows) (six .highs)) f))
+sixAlong f = Along (LinkOf (six .lows) (six .highs) (InForest (forestsOf 6 (six .lows) (six .highs) (six .states)) f))
 
 -- "Walking each forest's own tree path." Here these are 5 1 0 3 and 5 2 1 3, which share relay 1.
 pub not-tree-paths :
@@ -49,7 +50,7 @@ not-tree-paths = (
 -- "Taking 13 to mean that no routes exist. P3 has two": Route refuses, and over all the links of the square 0 1 2 and
 -- 0 3 2 are routes that share the ends alone.
 abbrev squareRoute : List ℕ → Type 0
-squareRoute = RouteHolds (square .lows) (square .highs) AnyLink 0 2
+squareRoute = RouteHolds (square .lows) (square .highs) (InService (square .lows) (square .highs) (square .states)) 0 2
 
 not-both : false ≡ true → ⊥
 not-both e = let z : _≡_ {A = ℕ} 0 1 = cc in omega arith
@@ -86,7 +87,7 @@ square-links (suc (suc (suc zero))) h one other = not-both one
 square-links (suc (suc (suc (suc i)))) h one other = omega arith
 
 pub thirteen-with-routes :
-    (routeAnswer 4 (square .lows) (square .highs) 2 0 2 (lent 2) (lent 6) (lent 8) ≡ refused 13 0)
+    (routeAnswer 4 (square .lows) (square .highs) (square .states) 2 0 2 (lent 2) (lent 6) (lent 8) ≡ refused 13 0)
     × squareRoute (0 ∷ 1 ∷ 2 ∷ [])
     × squareRoute (0 ∷ 3 ∷ 2 ∷ [])
     × Apart (square .lows) (square .highs) 0 2 (0 ∷ 1 ∷ 2 ∷ []) (0 ∷ 3 ∷ 2 ∷ [])
@@ -97,14 +98,14 @@ thirteen-with-routes = (
     long = omega arith;
     starts = refl;
     ends = refl;
-    along = ((0, omega arith, refl, tt), ((1, omega arith, refl, tt), tt));
+    along = ((0, omega arith, refl, refl), ((1, omega arith, refl, refl), tt));
     noRepeat = (refl, (refl, (refl, tt)));
   },
   record {
     long = omega arith;
     starts = refl;
     ends = refl;
-    along = ((3, omega arith, refl, tt), ((2, omega arith, refl, tt), tt));
+    along = ((3, omega arith, refl, refl), ((2, omega arith, refl, refl), tt));
     noRepeat = (refl, (refl, (refl, tt)));
   },
   record { relays = square-relays; links = square-links },
@@ -118,6 +119,7 @@ crossing =
       relays = 6;
       lows = 4 ∷ 2 ∷ 1 ∷ 3 ∷ 0 ∷ 0 ∷ 0 ∷ 2 ∷ 1 ∷ 0 ∷ [];
       highs = 5 ∷ 4 ∷ 3 ∷ 5 ∷ 2 ∷ 4 ∷ 3 ∷ 3 ∷ 4 ∷ 5 ∷ [];
+      states = replicate 6 1;
     }
 
 pub one-index-for-both : routes crossing 5 1 2 ≡ (5 ∷ 0 ∷ 4 ∷ 1 ∷ []) ∷ (5 ∷ 3 ∷ 1 ∷ []) ∷ []
@@ -133,8 +135,8 @@ replaced-before-exchanged = refl
 -- "Ranking earlier neighbours by relay number instead of place." Here the order is 1 0 2 3, and the forests would come out as
 -- 1 1 2 1.
 abbrev renumbered : Network
-renumbered = record { relays = 4; lows = 0 ∷ 0 ∷ 1 ∷ 1 ∷ []; highs = 1 ∷ 2 ∷ 2 ∷ 3 ∷ [] }
+renumbered = record { relays = 4; lows = 0 ∷ 0 ∷ 1 ∷ 1 ∷ []; highs = 1 ∷ 2 ∷ 2 ∷ 3 ∷ []; states = replicate 4 1 }
 
-pub ranked-by-place : forestsOf 4 (renumbered .lows) (renumbered .highs) ≡ 1 ∷ 2 ∷ 1 ∷ 1 ∷ []
+pub ranked-by-place : forestsOf 4 (renumbered .lows) (renumbered .highs) (renumbered .states) ≡ 1 ∷ 2 ∷ 1 ∷ 1 ∷ []
 unfolding opened
 ranked-by-place = refl

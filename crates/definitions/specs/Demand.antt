@@ -8,9 +8,9 @@ use mathlib.Core.Path.{_≡_}
 use lib.Dec.{eqb}
 use lib.ListN.{length, getD, take, drop}
 use Rattle.definitions.specs.Outcome.{Answer, refused, done}
-use Rattle.definitions.specs.Lists.{has, count, total}
-use Rattle.definitions.specs.Network.{joins, linked, Accepted}
-use Rattle.definitions.specs.Order.{allRelays, linksAt, relaysAfter, placesAfter}
+use Rattle.definitions.specs.Lists.{table, has, count, total}
+use Rattle.definitions.specs.Network.{joins, linked, serves, linkServes, Accepted}
+use Rattle.definitions.specs.Order.{servingRelays, linksAt, relaysAfter, placesAfter}
 use Rattle.definitions.specs.Forests.{forestsAfter, marksAfter}
 use Rattle.definitions.specs.Route.{tooShort, routeAnswer, countsAfter, routeRelaysAfter}
 
@@ -24,9 +24,9 @@ pub data Joined (live : ℕ → Type 0) (link : ℕ → ℕ → Type 0) : ℕ �
 abbrev pub LinkOf : (lows highs : List ℕ) (picked : ℕ → Type 0) (a b : ℕ) → Type 0
 LinkOf lows highs picked a b = (i : ℕ) × (i < length lows) × (joins lows highs a b i ≡ true) × picked i
 
--- "All the links are those of the table."
-abbrev pub AnyLink : (i : ℕ) → Type 0
-AnyLink i = Unit {0}
+-- "all the links means those with both ends in service" (document 02, #105)
+abbrev pub InService : (lows highs states : List ℕ) (i : ℕ) → Type 0
+InService lows highs states i = linkServes lows highs states i ≡ true
 
 -- "A link is kept if Cut marks it 1."
 abbrev pub Kept : (marks : List ℕ) (i : ℕ) → Type 0
@@ -36,13 +36,15 @@ Kept marks i = getD marks i 0 ≡ 1
 abbrev pub InForest : (forests : List ℕ) (f i : ℕ) → Type 0
 InForest forests f i = getD forests i 0 ≡ f
 
--- "Any of its relays may be found dead, none or all of them; the others are live."
-abbrev pub Live : (n : ℕ) (dead : ℕ → Bool) (r : ℕ) → Type 0
-Live n dead r = (r < n) × (dead r ≡ false)
+-- "Any of its relays may be found dead, none or all of them"; "Live relays now means those in service and not found dead" (document
+-- 02, #105).
+abbrev pub Live : (n : ℕ) (states : List ℕ) (dead : ℕ → Bool) (r : ℕ) → Type 0
+Live n states dead r = (r < n) × (serves states r ≡ true) × (dead r ≡ false)
 
--- How many of the n relays are dead.
-abbrev pub deadCount : (n : ℕ) (dead : ℕ → Bool) → ℕ
-deadCount n dead = count dead (allRelays n)
+-- How many of the relays in service are dead. Fewer than k of these is what is asked below; where fewer than k of all the relays
+-- are dead, fewer than k of these are.
+abbrev pub deadCount : (n : ℕ) (states : List ℕ) (dead : ℕ → Bool) → ℕ
+deadCount n states dead = count dead (servingRelays n states)
 
 -- "Two relays are in one tree of forest i if they are equal or joined by links of forest i alone."
 abbrev pub OneTree : (lows highs forests : List ℕ) (f a b : ℕ) → Type 0
@@ -90,7 +92,7 @@ pub record Apart (lows highs : List ℕ) (from to : ℕ) (one other : List ℕ) 
   pub links : (i : ℕ) → i < length lows → uses lows highs i one ≡ true → uses lows highs i other ≡ true → ⊥
 
 -- The routes that Route's two lists give, and what it answers: "the sum of the k counts, which is also Route's answer".
-pub record RoutesHold (n : ℕ) (lows highs marks : List ℕ) (k from to : ℕ) (counts relays : List ℕ) : Type 0 where
+pub record RoutesHold (n : ℕ) (lows highs states marks : List ℕ) (k from to : ℕ) (counts relays : List ℕ) : Type 0 where
   pub each : (i : ℕ) → i < k → RouteHolds lows highs (Kept marks) from to (getD (cutUp (take k counts) relays) i [])
   pub apart : (i j : ℕ) → i < k → j < k → i ≢ j
       → Apart lows highs from to (getD (cutUp (take k counts) relays) i []) (getD (cutUp (take k counts) relays) j [])
@@ -99,48 +101,66 @@ pub record RoutesHold (n : ℕ) (lows highs marks : List ℕ) (k from to : ℕ) 
 -- What demand 3 says of two different relays and of lists that are long enough ("Lists are long enough if Route has no cause
 -- for 12"), about Route's answer and its two lists afterwards: the k routes if the two are in one tree of forest k, and 13
 -- exactly if they are not.
-pub record RouteDelivers (n : ℕ) (lows highs forests marks : List ℕ) (k from to : ℕ) (answer : Answer) (counts relays : List ℕ) : Type 0 where
+pub record RouteDelivers (n : ℕ) (lows highs states forests marks : List ℕ) (k from to : ℕ) (answer : Answer) (counts relays : List ℕ) : Type 0 where
   pub inOneTree : OneTree lows highs forests k from to
-      → (answer ≡ done (total (take k counts) ∷ [])) × RoutesHold n lows highs marks k from to counts relays
+      → (answer ≡ done (total (take k counts) ∷ [])) × RoutesHold n lows highs states marks k from to counts relays
   pub thirteen : (answer ≡ refused 13 0) ↔ (OneTree lows highs forests k from to → ⊥)
+
+-- How many relays are in service.
+abbrev pub inServiceCount : (n : ℕ) (states : List ℕ) → ℕ
+inServiceCount n states = length (servingRelays n states)
 
 -- The order as Order's two lists give it: each turns the other's numbers back, "for every two vertices v < w, v has at least as
 -- many neighbors in {1, …, v − 1} as w has" (document 002, section 2), and "the first relay is the one with the most links, of
--- equals the lowest number" (document 02, #104).
-pub record MaximalOrder (n : ℕ) (lows highs relays places : List ℕ) : Type 0 where
-  pub placed : (r : ℕ) → r < n → (1 ≤ getD places r 0) × (getD places r 0 ≤ n) × (getD relays (getD places r 0 - 1) 0 ≡ r)
-  pub named : (v : ℕ) → v < n → (getD relays v 0 < n) × (getD places (getD relays v 0) 0 ≡ v + 1)
-  pub maximal : (v w : ℕ) → v < w → w < n
+-- equals the lowest number" (document 02, #104). It is an order of the relays in service: "a withdrawn relay has place 0" (#105).
+pub record MaximalOrder (n : ℕ) (lows highs states relays places : List ℕ) : Type 0 where
+  pub placed : (r : ℕ) → r < n → serves states r ≡ true
+      → (1 ≤ getD places r 0) × (getD places r 0 ≤ inServiceCount n states) × (getD relays (getD places r 0 - 1) 0 ≡ r)
+  pub unplaced : (r : ℕ) → r < n → serves states r ≡ false → getD places r 0 ≡ 0
+  pub named : (v : ℕ) → v < inServiceCount n states
+      → (getD relays v 0 < n) × (serves states (getD relays v 0) ≡ true) × (getD places (getD relays v 0) 0 ≡ v + 1)
+  pub maximal : (v w : ℕ) → v < w → w < inServiceCount n states
       → count (λ p. linked lows highs p (getD relays w 0)) (take v relays)
       ≤ count (λ p. linked lows highs p (getD relays v 0)) (take v relays)
-  pub busiest : (r : ℕ) → r < n → linksAt lows highs r ≤ linksAt lows highs (getD relays 0 0)
-  pub lowest : (r : ℕ) → r < n → linksAt lows highs r ≡ linksAt lows highs (getD relays 0 0) → getD relays 0 0 ≤ r
+  pub busiest : (r : ℕ) → r < n → serves states r ≡ true
+      → linksAt lows highs states r ≤ linksAt lows highs states (getD relays 0 0)
+  pub lowest : (r : ℕ) → r < n → serves states r ≡ true
+      → linksAt lows highs states r ≡ linksAt lows highs states (getD relays 0 0) → getD relays 0 0 ≤ r
 
 -- The results of the four together, for one network, one k, and lists that were lent to Order, Split and Cut.
-pub record Holds (n : ℕ) (lows highs : List ℕ) (k : ℕ) (relays places forests marks : List ℕ) : Type 0 where
-  pub order : MaximalOrder n lows highs relays places
+pub record Holds (n : ℕ) (lows highs states : List ℕ) (k : ℕ) (relays places forests marks : List ℕ) : Type 0 where
+  pub order : MaximalOrder n lows highs states relays places
   -- "whichever fewer than k relays are dead, two live ones are joined through live relays over the kept links exactly when
   -- they are over all the links"
-  pub survives : (dead : ℕ → Bool) → deadCount n dead < k → (a b : ℕ) → Live n dead a → Live n dead b
-      → Joined (Live n dead) (LinkOf lows highs (Kept marks)) a b ↔ Joined (Live n dead) (LinkOf lows highs AnyLink) a b
-  -- "forest i holds at most n − i links", for every i from 1 to n; and each link is in one of these forests
-  pub bound : (i : ℕ) → 1 ≤ i → i ≤ n → count (eqb i) (take (length lows) forests) ≤ n - i
-  pub inOne : (i : ℕ) → i < length lows → (1 ≤ getD forests i 0) × (getD forests i 0 < n)
-  pub routes : (from to : ℕ) → from < n → to < n → from ≢ to → (counts routeRelays scratch : List ℕ)
+  pub survives : (dead : ℕ → Bool) → deadCount n states dead < k → (a b : ℕ) → Live n states dead a → Live n states dead b
+      → Joined (Live n states dead) (LinkOf lows highs (Kept marks)) a b
+      ↔ Joined (Live n states dead) (LinkOf lows highs (InService lows highs states)) a b
+  -- "forest i holds at most n − i links", for every i from 1 to n, and "n in the bound on forests, also where it ends the range of i,
+  -- counts relays in service"; each link with both ends in service is in one of these forests,
+  pub bound : (i : ℕ) → 1 ≤ i → i ≤ inServiceCount n states → count (eqb i) (take (length lows) forests) ≤ inServiceCount n states - i
+  pub inOne : (i : ℕ) → i < length lows → InService lows highs states i
+      → (1 ≤ getD forests i 0) × (getD forests i 0 < inServiceCount n states)
+  -- and a withdrawn relay's "links belong to no forest and carry mark 0": so "The counts of the forests add up to the links with both
+  -- ends in service".
+  pub inNone : (i : ℕ) → i < length lows → linkServes lows highs states i ≡ false → (getD forests i 0 ≡ 0) × (getD marks i 0 ≡ 0)
+  pub addUp : total (table (λ i. count (eqb i) (take (length lows) forests)) 1 (inServiceCount n states))
+      ≡ count (linkServes lows highs states) (table (λ i. i) 0 (length lows))
+  pub routes : (from to : ℕ) → from < n → to < n → serves states from ≡ true → serves states to ≡ true → from ≢ to
+      → (counts routeRelays scratch : List ℕ)
       → tooShort n k counts routeRelays scratch ≡ false
-      → RouteDelivers n lows highs forests marks k from to
-      (routeAnswer n lows highs k from to counts routeRelays scratch)
-      (countsAfter n lows highs k from to counts routeRelays scratch)
-      (routeRelaysAfter n lows highs k from to counts routeRelays scratch)
+      → RouteDelivers n lows highs states forests marks k from to
+      (routeAnswer n lows highs states k from to counts routeRelays scratch)
+      (countsAfter n lows highs states k from to counts routeRelays scratch)
+      (routeRelaysAfter n lows highs states k from to counts routeRelays scratch)
 
 -- Demand 3: for every accepted network, every k from 1 to 32, and every list long enough lent to Order, Split and Cut.
 abbrev pub DemandThree : Type 0
 DemandThree =
-    (n : ℕ) (lows highs : List ℕ) → Accepted n lows highs → (k : ℕ) → 1 ≤ k → k ≤ 32
+    (n : ℕ) (lows highs states : List ℕ) → Accepted n lows highs states → (k : ℕ) → 1 ≤ k → k ≤ 32
     → (relays places forests marks : List ℕ)
     → n ≤ length relays → n ≤ length places → length lows ≤ length forests → length lows ≤ length marks
-    → Holds n lows highs k
-    (relaysAfter n lows highs relays places)
-    (placesAfter n lows highs relays places)
-    (forestsAfter n lows highs forests)
-    (marksAfter n lows highs k marks)
+    → Holds n lows highs states k
+    (relaysAfter n lows highs states relays places)
+    (placesAfter n lows highs states relays places)
+    (forestsAfter n lows highs states forests)
+    (marksAfter n lows highs states k marks)

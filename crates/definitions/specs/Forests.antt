@@ -25,7 +25,7 @@ left linked order (suc i) v = getD (earlier linked order v) i 0
 unfoldable pub forestBetween : (linked : ℕ → ℕ → Bool) (order : List ℕ) (u v : ℕ) → ℕ
 forestBetween linked order u v = position (earlier linked order v) u
 
--- The forest of link i of the table.
+-- The forest of link i of the table; 0 where an end has no place: "its links belong to no forest" (document 02, #105).
 unfoldable pub forestOf : (linked : ℕ → ℕ → Bool) (order lows highs : List ℕ) (i : ℕ) → ℕ
 forestOf linked order lows highs i =
     let p = placeOf order (getD lows i 0) in
@@ -53,8 +53,8 @@ leftEntry linked order lows highs i v =
     record { place = left linked order i v; link = leftLink linked order lows highs i v }
 
 -- The forest number of each link, in the order of the table.
-unfoldable pub forestsOf : (n : ℕ) (lows highs : List ℕ) → List ℕ
-forestsOf n lows highs = table (forestOf (linked lows highs) (orderOf n lows highs) lows highs) 0 (length lows)
+unfoldable pub forestsOf : (n : ℕ) (lows highs states : List ℕ) → List ℕ
+forestsOf n lows highs states = table (forestOf (linked lows highs) (orderOf n lows highs states) lows highs) 0 (length lows)
 
 -- The first place of the tree of forest i that v is in: in forest i each place has at most one link to an earlier one,
 -- left(i, v), so following these leads there. At most `steps` of them.
@@ -69,35 +69,35 @@ oneTree left i u v = eqb (rootWithin left i u u) (rootWithin left i v v)
 
 -- "Split. Table check, then 12, the list of forest numbers shorter than m. The answer is the highest forest used, 0
 -- without links."
-unfoldable pub splitAnswer : (n : ℕ) (lows highs forests : List ℕ) → Answer
-splitAnswer n lows highs forests =
-    andThen (tableCheck n lows highs) λ _.
+unfoldable pub splitAnswer : (n : ℕ) (lows highs states forests : List ℕ) → Answer
+splitAnswer n lows highs states forests =
+    andThen (tableCheck n lows highs states) λ _.
     refuseIf (ltb (length forests) (length lows)) 12 0
-    (done (greatest (forestsOf n lows highs) ∷ []))
+    (done (greatest (forestsOf n lows highs states) ∷ []))
 
 -- The list of forest numbers afterwards.
-unfoldable pub forestsAfter : (n : ℕ) (lows highs forests : List ℕ) → List ℕ
-forestsAfter n lows highs forests =
-    ifDone (splitAnswer n lows highs forests) (overwrite (forestsOf n lows highs) forests) forests
+unfoldable pub forestsAfter : (n : ℕ) (lows highs states forests : List ℕ) → List ℕ
+forestsAfter n lows highs states forests =
+    ifDone (splitAnswer n lows highs states forests) (overwrite (forestsOf n lows highs states) forests) forests
 
 -- "Cutting down to k keeps the links of forests 1 to k": the mark of a link of this forest, 1 kept, 0 dropped.
 unfoldable pub markOf : (k forest : ℕ) → ℕ
 markOf k forest = pick (outside 1 k forest) 0 1
 
 -- The mark of each link, in the order of the table.
-unfoldable pub marksOf : (n : ℕ) (lows highs : List ℕ) (k : ℕ) → List ℕ
-marksOf n lows highs k = map (markOf k) (forestsOf n lows highs)
+unfoldable pub marksOf : (n : ℕ) (lows highs states : List ℕ) (k : ℕ) → List ℕ
+marksOf n lows highs states k = map (markOf k) (forestsOf n lows highs states)
 
 -- "Cut. Table check; 9, k outside 1 to 32; 12, the list of marks (1 kept, 0 dropped) shorter than m. The answer is the count
 -- of ones."
-unfoldable pub cutAnswer : (n : ℕ) (lows highs : List ℕ) (k : ℕ) (marks : List ℕ) → Answer
-cutAnswer n lows highs k marks =
-    andThen (tableCheck n lows highs) λ _.
+unfoldable pub cutAnswer : (n : ℕ) (lows highs states : List ℕ) (k : ℕ) (marks : List ℕ) → Answer
+cutAnswer n lows highs states k marks =
+    andThen (tableCheck n lows highs states) λ _.
     refuseIf (outside 1 32 k) 9 0
     (refuseIf (ltb (length marks) (length lows)) 12 0
-    (done (total (marksOf n lows highs k) ∷ [])))
+    (done (total (marksOf n lows highs states k) ∷ [])))
 
 -- The list of marks afterwards.
-unfoldable pub marksAfter : (n : ℕ) (lows highs : List ℕ) (k : ℕ) (marks : List ℕ) → List ℕ
-marksAfter n lows highs k marks =
-    ifDone (cutAnswer n lows highs k marks) (overwrite (marksOf n lows highs k) marks) marks
+unfoldable pub marksAfter : (n : ℕ) (lows highs states : List ℕ) (k : ℕ) (marks : List ℕ) → List ℕ
+marksAfter n lows highs states k marks =
+    ifDone (cutAnswer n lows highs states k marks) (overwrite (marksOf n lows highs states k) marks) marks

@@ -1,11 +1,13 @@
 -- The desk's list of the links worth keeping under lease, and of those that may go: from the bytes of the input to the bytes of
 -- the output. A line `(keep K)` and a network text come in; the text is read and cut to K. Assumes nothing.
 use Prim.Native.Nat.{ℕ, zero, suc, _+_}
+use mathlib.Core.Bool.{Bool, _&&_, not}
 use mathlib.Core.List.{List, [], _∷_, _++_}
 use lib.Dec.{eqb}
 use lib.ListN.{length, getD, drop}
 use Rattle.definitions.specs.Outcome.{pick, Outcome, done, andThen}
-use Rattle.definitions.specs.Lists.{count}
+use Rattle.definitions.specs.Lists.{table, count}
+use Rattle.definitions.specs.Network.{linkServes}
 use Rattle.definitions.specs.Forests.{marksOf, cutAnswer}
 use Rattle.definitions.specs.Form.{bytes, Item, word, numeral, scanForm, onScan, writeForm}
 use Rattle.definitions.specs.Text.{Network, endForm, readNetwork}
@@ -19,7 +21,8 @@ keepForm = word (bytes "(keep ") ∷ numeral ∷ word (bytes ")\n") ∷ []
 unfoldable pub leaseForm : List Item
 leaseForm = word (bytes "(lease (k ") ∷ numeral ∷ word (bytes "))\n") ∷ []
 
--- The line of a link, with its index and its two relays: of one that is kept, and of one that is dropped.
+-- The line of a link, with its index and its two relays: of one that is kept, of one that is dropped, and of one that has a
+-- withdrawn end, which is no advice to give up a lease.
 unfoldable pub keptLinkForm : List Item
 keptLinkForm =
     word (bytes "(keep ") ∷ numeral ∷ word (bytes " ") ∷ numeral ∷ word (bytes " ") ∷ numeral ∷ word (bytes ")\n") ∷ []
@@ -28,20 +31,28 @@ unfoldable pub droppedLinkForm : List Item
 droppedLinkForm =
     word (bytes "(drop ") ∷ numeral ∷ word (bytes " ") ∷ numeral ∷ word (bytes " ") ∷ numeral ∷ word (bytes ")\n") ∷ []
 
--- How many links are dropped; how many are kept stands in a line of the sheet's form.
+unfoldable pub idleLinkForm : List Item
+idleLinkForm =
+    word (bytes "(idle ") ∷ numeral ∷ word (bytes " ") ∷ numeral ∷ word (bytes " ") ∷ numeral ∷ word (bytes ")\n") ∷ []
+
+-- How many links are dropped, and how many have a withdrawn end; how many are kept stands in a line of the sheet's form.
 unfoldable pub droppedForm : List Item
 droppedForm = word (bytes "(dropped ") ∷ numeral ∷ word (bytes ")\n") ∷ []
 
--- A list: k, the table, and Cut's mark of each link, 1 kept, 0 dropped.
+unfoldable pub withdrawnForm : List Item
+withdrawnForm = word (bytes "(withdrawn ") ∷ numeral ∷ word (bytes ")\n") ∷ []
+
+-- A list: k, the table, the states, and Cut's mark of each link, 1 kept, 0 dropped or with a withdrawn end.
 pub record Lease : Type 0 where
   pub k : ℕ
   pub lows : List ℕ
   pub highs : List ℕ
+  pub states : List ℕ
   pub marks : List ℕ
 
 -- The bytes that the program has for its output.
 unfoldable pub leaseRoom : ℕ
-leaseRoom = 66050
+leaseRoom = 66067
 
 -- The network is cut to k, with Cut's refusals.
 unfoldable pub leaseFor : (k : ℕ) (network : Network) → Outcome Lease
@@ -49,33 +60,45 @@ leaseFor k network =
     let n = network .relays in
     let lows = network .lows in
     let highs = network .highs in
-    andThen (cutAnswer n lows highs k (room 3000)) λ _.
-    done (record { k = k; lows = lows; highs = highs; marks = marksOf n lows highs k })
+    let states = network .states in
+    andThen (cutAnswer n lows highs states k (room 3000)) λ _.
+    done (record { k = k; lows = lows; highs = highs; states = states; marks = marksOf n lows highs states k })
 
 -- The first refusal met stands: 1 where the line in front departs from its form, at the byte; then Read's, whose offsets count
 -- from the first byte after that line; then Cut's.
 unfoldable pub leased : (input : List ℕ) → Outcome Lease
 leased input =
     onScan 1 (scanForm input keepForm 0) λ wish p.
-    andThen (readNetwork (drop p input) 3000 3000) (leaseFor (getD wish 0 0))
+    andThen (readNetwork (drop p input) 3000 3000 1000) (leaseFor (getD wish 0 0))
 
--- The line of link i, which joins a and b, by its mark.
-unfoldable pub leaseLine : (mark i a b : ℕ) → List ℕ
-leaseLine mark i a b = writeForm (pick (eqb mark 1) keptLinkForm droppedLinkForm) (i ∷ a ∷ b ∷ [])
+-- The line of link i, which joins a and b, by its mark and by whether both are in service.
+unfoldable pub leaseLine : (mark : ℕ) (serving : Bool) (i a b : ℕ) → List ℕ
+leaseLine mark serving i a b =
+    writeForm (pick (eqb mark 1) keptLinkForm (pick serving droppedLinkForm idleLinkForm)) (i ∷ a ∷ b ∷ [])
 
 -- `count` such lines, from link i on.
-unfoldable pub leaseLines : (lows highs marks : List ℕ) (i count : ℕ) → List ℕ
-leaseLines lows highs marks i zero = []
-leaseLines lows highs marks i (suc count) =
-    leaseLine (getD marks i 0) i (getD lows i 0) (getD highs i 0) ++ leaseLines lows highs marks (i + 1) count
+unfoldable pub leaseLines : (lows highs states marks : List ℕ) (i count : ℕ) → List ℕ
+leaseLines lows highs states marks i zero = []
+leaseLines lows highs states marks i (suc count) =
+    leaseLine (getD marks i 0) (linkServes lows highs states i) i (getD lows i 0) (getD highs i 0)
+    ++ leaseLines lows highs states marks (i + 1) count
 
--- k, every link in the order of the table, and the counts of the kept and of the dropped.
+-- How many links with both ends in service have mark 0, and how many links have a withdrawn end.
+unfoldable pub droppedCount : (lows highs states marks : List ℕ) → ℕ
+droppedCount lows highs states marks =
+    count (λ i. linkServes lows highs states i && eqb (getD marks i 0) 0) (table (λ i. i) 0 (length lows))
+
+unfoldable pub idleCount : (lows highs states : List ℕ) → ℕ
+idleCount lows highs states = count (λ i. not (linkServes lows highs states i)) (table (λ i. i) 0 (length lows))
+
+-- k, every link in the order of the table, and the counts of the kept, of the dropped and of those with a withdrawn end.
 unfoldable pub leaseText : (lease : Lease) → List ℕ
 leaseText lease =
     writeForm leaseForm (lease .k ∷ []) ++
-    (leaseLines (lease .lows) (lease .highs) (lease .marks) 0 (length (lease .lows)) ++
+    (leaseLines (lease .lows) (lease .highs) (lease .states) (lease .marks) 0 (length (lease .lows)) ++
     (writeForm keptForm (count (eqb 1) (lease .marks) ∷ []) ++
-    (writeForm droppedForm (count (eqb 0) (lease .marks) ∷ []) ++ writeForm endForm [])))
+    (writeForm droppedForm (droppedCount (lease .lows) (lease .highs) (lease .states) (lease .marks) ∷ []) ++
+    (writeForm withdrawnForm (idleCount (lease .lows) (lease .highs) (lease .states) ∷ []) ++ writeForm endForm []))))
 
 -- What the program writes for what it reads.
 unfoldable pub keepText : (input : List ℕ) → List ℕ

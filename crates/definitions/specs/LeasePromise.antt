@@ -2,63 +2,69 @@
 -- the links do while fewer than k relays are dead, or the line of the first refusal met. The statement is a type; the crate
 -- `lease` proves it. Assumes nothing.
 use Prim.Native.Nat.{ℕ, _+_, _<_}
-use mathlib.Core.Bool.{Bool, false, not}
+use mathlib.Core.Bool.{Bool, false, _&&_, not}
 use mathlib.Core.List.{List, [], _∷_, _++_}
 use mathlib.Core.Logic.{_⊎_, _↔_, _≢_}
 use mathlib.Core.Path.{_≡_}
 use lib.ListN.{length, getD, drop}
 use Rattle.definitions.specs.Outcome.{pick, refused, done}
 use Rattle.definitions.specs.Lists.{table, outside, count, joinAll}
-use Rattle.definitions.specs.Network.{Accepted}
+use Rattle.definitions.specs.Network.{linkServes, Accepted}
 use Rattle.definitions.specs.Forests.{forestsOf, marksOf, cutAnswer}
 use Rattle.definitions.specs.Form.{departs, reads, scanForm, writeForm}
 use Rattle.definitions.specs.Text.{Network, endForm, readNetwork}
 use Rattle.definitions.specs.Plan.{keptForm, refusedForm, room}
-use Rattle.definitions.specs.Lease.{keepForm, leaseForm, keptLinkForm, droppedLinkForm, droppedForm, keepText}
-use Rattle.definitions.specs.Demand.{Joined, LinkOf, AnyLink, Kept, Live, deadCount}
+use Rattle.definitions.specs.Lease.{keepForm, leaseForm, keptLinkForm, droppedLinkForm, idleLinkForm, droppedForm, withdrawnForm, keepText}
+use Rattle.definitions.specs.Demand.{Joined, LinkOf, InService, Kept, Live, deadCount}
 
 -- A line `(keep K)`, and behind it the text of an accepted network.
 pub record KeepAsked (input : List ℕ) (k : ℕ) (network : Network) : Type 0 where
   pub behind : ℕ
   pub line : scanForm input keepForm 0 ≡ reads (k ∷ []) behind
-  pub read : readNetwork (drop behind input) 3000 3000 ≡ done network
-  pub accepted : Accepted (network .relays) (network .lows) (network .highs)
+  pub read : readNetwork (drop behind input) 3000 3000 1000 ≡ done network
+  pub accepted : Accepted (network .relays) (network .lows) (network .highs) (network .states)
 
 -- Link i is in none of the forests 1 to k.
-unfoldable pub dispensable : (n : ℕ) (lows highs : List ℕ) (k i : ℕ) → Bool
-dispensable n lows highs k i = outside 1 k (getD (forestsOf n lows highs) i 0)
+unfoldable pub dispensable : (n : ℕ) (lows highs states : List ℕ) (k i : ℕ) → Bool
+dispensable n lows highs states k i = outside 1 k (getD (forestsOf n lows highs states) i 0)
 
--- Its line, of one form or the other by that.
-unfoldable pub linkLine : (n : ℕ) (lows highs : List ℕ) (k i : ℕ) → List ℕ
-linkLine n lows highs k i =
-    writeForm (pick (dispensable n lows highs k i) droppedLinkForm keptLinkForm) (i ∷ getD lows i 0 ∷ getD highs i 0 ∷ [])
+-- Its line, of one form or the other by that, and of a third where it has a withdrawn end.
+unfoldable pub linkLine : (n : ℕ) (lows highs states : List ℕ) (k i : ℕ) → List ℕ
+linkLine n lows highs states k i =
+    writeForm
+    (pick (dispensable n lows highs states k i) (pick (linkServes lows highs states i) droppedLinkForm idleLinkForm) keptLinkForm)
+    (i ∷ getD lows i 0 ∷ getD highs i 0 ∷ [])
 
--- The list of a network cut to k: a line for each link in the order of the table, and how many there are of either form.
-pub record LeaseHolds (n : ℕ) (lows highs : List ℕ) (k : ℕ) (printed : List ℕ) : Type 0 where
+-- The list of a network cut to k: a line for each link in the order of the table, and how many there are of each form.
+pub record LeaseHolds (n : ℕ) (lows highs states : List ℕ) (k : ℕ) (printed : List ℕ) : Type 0 where
   pub kept : ℕ
   pub dropped : ℕ
+  pub idle : ℕ
   pub text : printed
       ≡ writeForm leaseForm (k ∷ []) ++
-      (joinAll (table (linkLine n lows highs k) 0 (length lows)) ++
-      (writeForm keptForm (kept ∷ []) ++ (writeForm droppedForm (dropped ∷ []) ++ writeForm endForm [])))
-  pub keptAre : kept ≡ count (λ f. not (outside 1 k f)) (forestsOf n lows highs)
-  pub droppedAre : dropped ≡ count (outside 1 k) (forestsOf n lows highs)
-  pub all : kept + dropped ≡ length lows
+      (joinAll (table (linkLine n lows highs states k) 0 (length lows)) ++
+      (writeForm keptForm (kept ∷ []) ++
+      (writeForm droppedForm (dropped ∷ []) ++ (writeForm withdrawnForm (idle ∷ []) ++ writeForm endForm []))))
+  pub keptAre : kept ≡ count (λ f. not (outside 1 k f)) (forestsOf n lows highs states)
+  pub droppedAre : dropped
+      ≡ count (λ i. linkServes lows highs states i && dispensable n lows highs states k i) (table (λ i. i) 0 (length lows))
+  pub idleAre : idle ≡ count (λ i. not (linkServes lows highs states i)) (table (λ i. i) 0 (length lows))
+  pub all : kept + (dropped + idle) ≡ length lows
   -- The kept links are those that Cut marks 1.
-  pub marked : (i : ℕ) → i < length lows → Kept (marksOf n lows highs k) i ↔ (dispensable n lows highs k i ≡ false)
+  pub marked : (i : ℕ) → i < length lows → Kept (marksOf n lows highs states k) i ↔ (dispensable n lows highs states k i ≡ false)
   -- "whichever fewer than k relays are dead, two live ones are joined through live relays over the kept links exactly when
   -- they are over all the links"
-  pub survives : (dead : ℕ → Bool) → deadCount n dead < k → (a b : ℕ) → Live n dead a → Live n dead b
-      → Joined (Live n dead) (LinkOf lows highs (λ i. dispensable n lows highs k i ≡ false)) a b
-      ↔ Joined (Live n dead) (LinkOf lows highs AnyLink) a b
+  pub survives : (dead : ℕ → Bool) → deadCount n states dead < k → (a b : ℕ) → Live n states dead a → Live n states dead b
+      → Joined (Live n states dead) (LinkOf lows highs (λ i. dispensable n lows highs states k i ≡ false)) a b
+      ↔ Joined (Live n states dead) (LinkOf lows highs (InService lows highs states)) a b
 
 -- The first refusal met. Each case has the stages before it behind it, so no two of them hold of one input.
 pub data KeepRefusal (input : List ℕ) : ℕ → ℕ → Type 0 where
   inLine : {p : ℕ} → scanForm input keepForm 0 ≡ departs p → KeepRefusal input 1 p
   inText : {k p number place : ℕ} → scanForm input keepForm 0 ≡ reads (k ∷ []) p
-      → readNetwork (drop p input) 3000 3000 ≡ refused number place → KeepRefusal input number place
+      → readNetwork (drop p input) 3000 3000 1000 ≡ refused number place → KeepRefusal input number place
   inCut : {k number place : ℕ} {network : Network} → KeepAsked input k network
-      → cutAnswer (network .relays) (network .lows) (network .highs) k (room 3000) ≡ refused number place
+      → cutAnswer (network .relays) (network .lows) (network .highs) (network .states) k (room 3000) ≡ refused number place
       → KeepRefusal input number place
 
 -- A list is printed, and it holds for the network that was read.
@@ -66,7 +72,7 @@ pub record LeasePrinted (input : List ℕ) : Type 0 where
   pub k : ℕ
   pub network : Network
   pub asked : KeepAsked input k network
-  pub holds : LeaseHolds (network .relays) (network .lows) (network .highs) k (keepText input)
+  pub holds : LeaseHolds (network .relays) (network .lows) (network .highs) (network .states) k (keepText input)
 
 -- The line of the first refusal met is printed. The program's own lists never are too short, so it is neither 8 nor 12.
 pub record KeepRefused (input : List ℕ) : Type 0 where

@@ -1,12 +1,13 @@
 -- Document 01, 'The network' and the table check: pair numbers, links, and what makes a table one of a network.
--- A table is two lists of numbers, lows and highs; n is the number of relays. Assumes nothing.
+-- A table is two lists of numbers, lows and highs; n is the number of relays. Since document 02, #105 a network also has a list of
+-- states, one for every relay. Assumes nothing.
 use Prim.Native.Nat.{ℕ, zero, suc, _+_, _-_, _*_, _/_}
 use mathlib.Core.Bool.{Bool, _&&_, _||_, not}
 use mathlib.Core.List.{List, [], _∷_}
 use mathlib.Core.Path.{_≡_}
 use lib.Dec.{eqb, ltb, leb}
 use lib.ListN.{length, getD}
-use Rattle.definitions.specs.Outcome.{pick, done, Answer, refuseIf}
+use Rattle.definitions.specs.Outcome.{pick, done, Answer, refuseIf, andThen}
 use Rattle.definitions.specs.Lists.{outside, someBelow}
 
 -- The first pair number of the links whose high relay is b.
@@ -40,6 +41,14 @@ linked lows highs a b = someBelow (joins lows highs a b) (length lows)
 unfoldable pub touches : (lows highs : List ℕ) (r i : ℕ) → Bool
 touches lows highs r i = eqb (getD lows i 0) r || eqb (getD highs i 0) r
 
+-- "a state for every relay, 1 in service or 0 withdrawn" (document 02, #105): relay r is in service.
+unfoldable pub serves : (states : List ℕ) (r : ℕ) → Bool
+serves states r = eqb (getD states r 0) 1
+
+-- Link i of the table is one "with both ends in service".
+unfoldable pub linkServes : (lows highs states : List ℕ) (i : ℕ) → Bool
+linkServes lows highs states i = serves states (getD lows i 0) && serves states (getD highs i 0)
+
 -- What is wrong with a link a b that comes after the first i links of the table, or 0:
 -- "5, A or B not below n; 6, A not below B; 7, a pair that an earlier line has".
 unfoldable pub linkFault : (n : ℕ) (lows highs : List ℕ) (i a b : ℕ) → ℕ
@@ -56,13 +65,20 @@ linksCheck n lows highs i (suc count) =
     let fault = linkFault n lows highs i (getD lows i 0) (getD highs i 0) in
     refuseIf (ltb 0 fault) fault i (linksCheck n lows highs (i + 1) count)
 
--- The table check: "3; then 4, lists of unequal length (m is their length) or over 3,000; then link by link 5, 6, 7."
-unfoldable pub tableCheck : (n : ℕ) (lows highs : List ℕ) → Answer
-tableCheck n lows highs =
+-- "a state list not n long or with an entry other than 0 and 1" (document 02, #105)
+unfoldable pub statesFault : (n : ℕ) (states : List ℕ) → Bool
+statesFault n states = not (eqb (length states) n) || someBelow (λ r. ltb 1 (getD states r 0)) (length states)
+
+-- The table check: "3; then 4, lists of unequal length (m is their length) or over 3,000; then link by link 5, 6, 7", and "at the
+-- end of the table check" 16 for the states.
+unfoldable pub tableCheck : (n : ℕ) (lows highs states : List ℕ) → Answer
+tableCheck n lows highs states =
     refuseIf (outside 1 1000 n) 3 0
     (refuseIf (not (eqb (length lows) (length highs)) || ltb 3000 (length lows)) 4 0
-    (linksCheck n lows highs 0 (length lows)))
+    (andThen (linksCheck n lows highs 0 (length lows)) λ _.
+    refuseIf (statesFault n states) 16 0
+    (done [])))
 
 -- "An accepted network is one that passes the table check."
-abbrev pub Accepted : (n : ℕ) (lows highs : List ℕ) → Type 0
-Accepted n lows highs = tableCheck n lows highs ≡ done []
+abbrev pub Accepted : (n : ℕ) (lows highs states : List ℕ) → Type 0
+Accepted n lows highs states = tableCheck n lows highs states ≡ done []

@@ -1,14 +1,15 @@
 -- Document 01, 'The order': a maximal adjacency ordering (document 002, section 2) with its ties fixed, from the relay that
 -- document 02, #104 puts first.
--- Over any test `linked`, any rising list of candidate relays and any first relay; `orderOf` takes all relays and `firstRelay`.
+-- Over any test `linked`, any rising list of candidate relays and any first relay; `orderOf` takes the relays in service and
+-- `firstRelay`.
 use Prim.Native.Nat.{ℕ, zero, suc, _+_, pred}
-use mathlib.Core.Bool.{Bool, _||_, not}
+use mathlib.Core.Bool.{Bool, _&&_, _||_, not}
 use mathlib.Core.List.{List, [], _∷_, _++_}
 use lib.Dec.{ltb}
 use lib.ListN.{length, getD}
 use Rattle.definitions.specs.Outcome.{pick, Answer, done, refuseIf, andThen, ifDone}
 use Rattle.definitions.specs.Lists.{table, overwrite, keep, has, count, position}
-use Rattle.definitions.specs.Network.{touches, linked, tableCheck}
+use Rattle.definitions.specs.Network.{touches, linked, serves, linkServes, tableCheck}
 
 -- "the most links to placed ones": how many placed relays are linked to r.
 unfoldable pub weight : (linked : ℕ → ℕ → Bool) (placed : List ℕ) (r : ℕ) → ℕ
@@ -49,19 +50,26 @@ placedAfter linked first candidates (suc steps) =
 unfoldable pub allRelays : (n : ℕ) → List ℕ
 allRelays n = table (λ r. r) 0 n
 
--- How many links of the table relay r has.
-unfoldable pub linksAt : (lows highs : List ℕ) (r : ℕ) → ℕ
-linksAt lows highs r = count (touches lows highs r) (table (λ i. i) 0 (length lows))
+-- Those of them that are in service, rising: "A withdrawn relay has no place" (document 02, #105).
+unfoldable pub servingRelays : (n : ℕ) (states : List ℕ) → List ℕ
+servingRelays n states = keep (serves states) (allRelays n)
 
--- "the first relay is the one with the most links, of equals the lowest number" (document 02, #104).
-unfoldable pub firstRelay : (n : ℕ) (lows highs : List ℕ) → ℕ
-firstRelay n lows highs = heaviestOf (linksAt lows highs) (allRelays n)
+-- How many links "with both ends in service" relay r has.
+unfoldable pub linksAt : (lows highs states : List ℕ) (r : ℕ) → ℕ
+linksAt lows highs states r =
+    count (λ i. touches lows highs r i && linkServes lows highs states i) (table (λ i. i) 0 (length lows))
 
--- "This goes on over unconnected parts too": all the relays, in their order.
-unfoldable pub orderOf : (n : ℕ) (lows highs : List ℕ) → List ℕ
-orderOf n lows highs = placedAfter (linked lows highs) (firstRelay n lows highs) (allRelays n) n
+-- "the first relay is the one with the most links, of equals the lowest number" (document 02, #104), "the busiest by those links"
+-- (#105).
+unfoldable pub firstRelay : (n : ℕ) (lows highs states : List ℕ) → ℕ
+firstRelay n lows highs states = heaviestOf (linksAt lows highs states) (servingRelays n states)
 
--- "A relay's place is 1 to n" (a term of document 01); 0 for no relay of the order.
+-- "This goes on over unconnected parts too": all the relays in service, in their order.
+unfoldable pub orderOf : (n : ℕ) (lows highs states : List ℕ) → List ℕ
+orderOf n lows highs states =
+    placedAfter (linked lows highs) (firstRelay n lows highs states) (servingRelays n states) (length (servingRelays n states))
+
+-- "A relay's place is 1 to n" (a term of document 01); 0 for no relay of the order: "a withdrawn relay has place 0".
 unfoldable pub placeOf : (order : List ℕ) (r : ℕ) → ℕ
 placeOf order r = position order r
 
@@ -70,22 +78,22 @@ unfoldable pub relayAt : (order : List ℕ) (v : ℕ) → ℕ
 relayAt order v = getD order (pred v) 0
 
 -- "Order. Table check, then 12, either list (relay at each place, place of each relay) shorter than n."
-unfoldable pub orderAnswer : (n : ℕ) (lows highs relays places : List ℕ) → Answer
-orderAnswer n lows highs relays places =
-    andThen (tableCheck n lows highs) λ _.
+unfoldable pub orderAnswer : (n : ℕ) (lows highs states relays places : List ℕ) → Answer
+orderAnswer n lows highs states relays places =
+    andThen (tableCheck n lows highs states) λ _.
     refuseIf (ltb (length relays) n || ltb (length places) n) 12 0
     (done [])
 
--- The list of relays afterwards: the relay at each place.
-unfoldable pub relaysAfter : (n : ℕ) (lows highs relays places : List ℕ) → List ℕ
-relaysAfter n lows highs relays places =
-    ifDone (orderAnswer n lows highs relays places) (overwrite (orderOf n lows highs) relays) relays
+-- The list of relays afterwards: the relay at each place; "entries past the relays in service are left".
+unfoldable pub relaysAfter : (n : ℕ) (lows highs states relays places : List ℕ) → List ℕ
+relaysAfter n lows highs states relays places =
+    ifDone (orderAnswer n lows highs states relays places) (overwrite (orderOf n lows highs states) relays) relays
 
 -- The place of each relay, from relay 0 on.
 unfoldable pub placesOf : (n : ℕ) (order : List ℕ) → List ℕ
 placesOf n order = table (placeOf order) 0 n
 
 -- The list of places afterwards.
-unfoldable pub placesAfter : (n : ℕ) (lows highs relays places : List ℕ) → List ℕ
-placesAfter n lows highs relays places =
-    ifDone (orderAnswer n lows highs relays places) (overwrite (placesOf n (orderOf n lows highs)) places) places
+unfoldable pub placesAfter : (n : ℕ) (lows highs states relays places : List ℕ) → List ℕ
+placesAfter n lows highs states relays places =
+    ifDone (orderAnswer n lows highs states relays places) (overwrite (placesOf n (orderOf n lows highs states)) places) places

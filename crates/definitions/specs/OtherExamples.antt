@@ -7,7 +7,7 @@ use mathlib.Core.Path.{_≡_, refl}
 use lib.ListN.{length, replicate}
 use Rattle.definitions.specs.Outcome.{refused, done}
 use Rattle.definitions.specs.Form.{bytes, writeForm}
-use Rattle.definitions.specs.Text.{Network, headerForm, linkForm, endForm, readAnswer, lowsAfter, highsAfter, writeAnswer, bufferAfter}
+use Rattle.definitions.specs.Text.{Network, headerForm, linkForm, endForm, readAnswer, lowsAfter, highsAfter, statesAfter, outLines, writeAnswer, bufferAfter}
 use Rattle.definitions.specs.Plan.{planText}
 use Rattle.definitions.specs.Lease.{keepText}
 use Rattle.definitions.specs.Networks.{
@@ -28,20 +28,24 @@ use Rattle.definitions.specs.Networks.{
 }
 use Rattle.definitions.specs.Opened.{opened}
 
--- Read a text into two lists of this length.
+-- Read a text into two lists of this length, and a list of five states.
 abbrev readWith : (size : ℕ) (text : String) → Result
 readWith size text =
     record {
-      answer = readAnswer (bytes text) (lent size) (lent size);
-      lists = lowsAfter (bytes text) (lent size) (lent size) ∷ highsAfter (bytes text) (lent size) (lent size) ∷ [];
+      answer = readAnswer (bytes text) (lent size) (lent size) (lent 5);
+      lists =
+          lowsAfter (bytes text) (lent size) (lent size) (lent 5)
+          ∷ highsAfter (bytes text) (lent size) (lent size) (lent 5)
+          ∷ statesAfter (bytes text) (lent size) (lent size) (lent 5)
+          ∷ [];
     }
 
 -- Write a network's text into a buffer of this length.
 abbrev writeWith : (size : ℕ) (w : Network) → Result
 writeWith size w =
     record {
-      answer = writeAnswer (w .relays) (w .lows) (w .highs) (lent size);
-      lists = bufferAfter (w .relays) (w .lows) (w .highs) (lent size) ∷ [];
+      answer = writeAnswer (w .relays) (w .lows) (w .highs) (w .states) (lent size);
+      lists = bufferAfter (w .relays) (w .lows) (w .highs) (w .states) (lent size) ∷ [];
     }
 
 -- What the program prints.
@@ -64,7 +68,7 @@ zeros size = replicate size 0
 
 -- Four relays and one link.
 abbrev oneLink : (a b : ℕ) → Network
-oneLink a b = record { relays = 4; lows = a ∷ []; highs = b ∷ [] }
+oneLink a b = record { relays = 4; lows = a ∷ []; highs = b ∷ []; states = replicate 4 1 }
 
 abbrev pub otherExamples : List Example
 otherExamples =
@@ -73,10 +77,10 @@ otherExamples =
     ∷ record { found = checkOf (bare 1001); due = refusedAt 3 0 [] }
     ∷ record { found = checkOf (bare 1000); due = record { answer = done []; lists = [] } }
     ∷ record {
-      found = checkOf (record { relays = 5; lows = zeros 3001; highs = replicate 3001 1 });
+      found = checkOf (record { relays = 5; lows = zeros 3001; highs = replicate 3001 1; states = [] });
       due = refusedAt 4 0 [];
     }
-    ∷ record { found = checkOf (record { relays = 5; lows = 0 ∷ []; highs = [] }); due = refusedAt 4 0 [] }
+    ∷ record { found = checkOf (record { relays = 5; lows = 0 ∷ []; highs = []; states = [] }); due = refusedAt 4 0 [] }
     ∷ record { found = cutWith 7 mesh 0; due = refusedAt 9 0 (lent 7 ∷ []) }
     ∷ record { found = cutWith 7 mesh 33; due = refusedAt 9 0 (lent 7 ∷ []) }
     ∷ record { found = cutWith 6 mesh 32; due = refusedAt 12 0 (lent 6 ∷ []) }
@@ -87,33 +91,33 @@ otherExamples =
     ∷ record { found = checkOf (oneLink 2 2); due = refusedAt 6 0 [] }
     ∷ record {
       found = readWith 1 "(net (relays 4) (links 1))\n(link 7 7)\n(end)\n";
-      due = refusedAt 5 0 (zeros 1 ∷ zeros 1 ∷ []);
+      due = refusedAt 5 0 (zeros 1 ∷ zeros 1 ∷ zeros 5 ∷ []);
     }
     ∷ record {
       found = readWith 2 "(net (relays 4) (links 2))\n(link 0 1)\n(link 2 2)\n(end)\n";
-      due = refusedAt 6 1 (zeros 2 ∷ zeros 2 ∷ []);
+      due = refusedAt 6 1 (zeros 2 ∷ zeros 2 ∷ zeros 5 ∷ []);
     }
     ∷ record {
       found = readWith 3 "(net (relays 4) (links 2))\n(link 0 1)\n(link 0 1)\n(end)\n";
-      due = refusedAt 7 1 (zeros 3 ∷ zeros 3 ∷ []);
+      due = refusedAt 7 1 (zeros 3 ∷ zeros 3 ∷ zeros 5 ∷ []);
     }
     -- "`(net (relays 04` gives 2 at byte 14; an empty text 2 at 0"
-    ∷ record { found = readWith 1 "(net (relays 04"; due = refusedAt 2 14 (zeros 1 ∷ zeros 1 ∷ []) }
-    ∷ record { found = readWith 0 ""; due = refusedAt 2 0 ([] ∷ [] ∷ []) }
+    ∷ record { found = readWith 1 "(net (relays 04"; due = refusedAt 2 14 (zeros 1 ∷ zeros 1 ∷ zeros 5 ∷ []) }
+    ∷ record { found = readWith 0 ""; due = refusedAt 2 0 ([] ∷ [] ∷ zeros 5 ∷ []) }
     -- A second number of five digits, a byte behind the end, a list too short.
-    ∷ record { found = readWith 1 "(net (relays 4) (links 10000"; due = refusedAt 2 27 (zeros 1 ∷ zeros 1 ∷ []) }
+    ∷ record { found = readWith 1 "(net (relays 4) (links 10000"; due = refusedAt 2 27 (zeros 1 ∷ zeros 1 ∷ zeros 5 ∷ []) }
     ∷ record {
       found = readWith 1 "(net (relays 4) (links 0))\n(end)\n ";
-      due = refusedAt 2 33 (zeros 1 ∷ zeros 1 ∷ []);
+      due = refusedAt 2 33 (zeros 1 ∷ zeros 1 ∷ zeros 5 ∷ []);
     }
-    ∷ record { found = readWith 1 "(net (relays 4) (links 2))\n"; due = refusedAt 8 0 (zeros 1 ∷ zeros 1 ∷ []) }
+    ∷ record { found = readWith 1 "(net (relays 4) (links 2))\n"; due = refusedAt 8 0 (zeros 1 ∷ zeros 1 ∷ zeros 5 ∷ []) }
     -- The square's text, read and written.
     ∷ record {
       found = readWith 5 "(net (relays 4) (links 4))\n(link 0 1)\n(link 1 2)\n(link 2 3)\n(link 0 3)\n(end)\n";
       due =
           record {
             answer = done (4 ∷ 4 ∷ []);
-            lists = (0 ∷ 1 ∷ 2 ∷ 0 ∷ 0 ∷ []) ∷ (1 ∷ 2 ∷ 3 ∷ 3 ∷ 0 ∷ []) ∷ [];
+            lists = (0 ∷ 1 ∷ 2 ∷ 0 ∷ 0 ∷ []) ∷ (1 ∷ 2 ∷ 3 ∷ 3 ∷ 0 ∷ []) ∷ (1 ∷ 1 ∷ 1 ∷ 1 ∷ 0 ∷ []) ∷ [];
           };
     }
     ∷ record {
@@ -198,7 +202,7 @@ otherExamples =
           "(keep 1)\n(net (relays 5) (links 7))\n(link 0 1)\n(link 0 2)\n(link 1 2)\n(link 1 3)\n(link 2 3)\n(link 2 4)\n(link 3 4)\n(end)\n";
       due =
           prints
-          "(lease (k 1))\n(drop 0 0 1)\n(keep 1 0 2)\n(keep 2 1 2)\n(drop 3 1 3)\n(keep 4 2 3)\n(keep 5 2 4)\n(drop 6 3 4)\n(kept 4)\n(dropped 3)\n(end)\n";
+          "(lease (k 1))\n(drop 0 0 1)\n(keep 1 0 2)\n(keep 2 1 2)\n(drop 3 1 3)\n(keep 4 2 3)\n(keep 5 2 4)\n(drop 6 3 4)\n(kept 4)\n(dropped 3)\n(withdrawn 0)\n(end)\n";
     }
     ∷ record { found = listsFor "(keep 01)\n"; due = prints "(refused 1 7)\n" }
     ∷ record { found = listsFor "(keep 1)\n(net (relays 2) (links 1))\n(link 1 1)\n"; due = prints "(refused 6 0)\n" }
@@ -209,11 +213,13 @@ pub other-examples-hold : AllHold otherExamples
 unfolding opened
 other-examples-hold = refl
 
--- "The longest accepted text has 45,039 bytes": the longest header, 3,000 of the longest link lines, and the end.
+-- "The longest accepted text has 45,039 bytes": the longest header, 3,000 of the longest link lines, and the end; "the longest now
+-- has 54,929 bytes" (document 02, #105), with the lines of 1,000 withdrawn relays.
 pub longest-text :
     length (writeForm headerForm (1000 ∷ 3000 ∷ []))
     + 3000 * length (writeForm linkForm (998 ∷ 999 ∷ []))
+    + length (outLines (replicate 1000 0) 0 1000)
     + length (writeForm endForm [])
-    ≡ 45039
+    ≡ 54929
 unfolding opened
 longest-text = refl

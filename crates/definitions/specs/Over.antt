@@ -38,14 +38,14 @@ unfoldable pub oversBetween : (entry : ℕ → ℕ → Entry) (k p q : ℕ) → 
 oversBetween entry k p q = pick (ltb q p) (sweepOvers entry k p q) (map reverse (sweepOvers entry k q p))
 
 -- Left(i, v) of a table, with its link.
-unfoldable pub entryOf : (n : ℕ) (lows highs : List ℕ) (i v : ℕ) → Entry
-entryOf n lows highs = leftEntry (linked lows highs) (orderOf n lows highs) lows highs
+unfoldable pub entryOf : (n : ℕ) (lows highs states : List ℕ) (i v : ℕ) → Entry
+entryOf n lows highs states = leftEntry (linked lows highs) (orderOf n lows highs states) lows highs
 
 -- For each of the k routes of Route the indices of its links in turn.
-unfoldable pub oversOf : (n : ℕ) (lows highs : List ℕ) (k from to : ℕ) → List (List ℕ)
-oversOf n lows highs k from to =
-    let order = orderOf n lows highs in
-    oversBetween (entryOf n lows highs) k (placeOf order from) (placeOf order to)
+unfoldable pub oversOf : (n : ℕ) (lows highs states : List ℕ) (k from to : ℕ) → List (List ℕ)
+oversOf n lows highs states k from to =
+    let order = orderOf n lows highs states in
+    oversBetween (entryOf n lows highs states) k (placeOf order from) (placeOf order to)
 
 -- Link l of the table joins a and b, and no other link does.
 abbrev pub OneLink : (lows highs : List ℕ) (a b l : ℕ) → Type 0
@@ -69,32 +69,32 @@ unfoldable pub linksTooShort : (n k : ℕ) (counts relays links scratch : List �
 linksTooShort n k counts relays links scratch = tooShort n k counts relays scratch || ltb (length links) (n - 2 + k)
 
 -- Route with links: its refusals and its answer are Route's.
-unfoldable pub routeLinksAnswer : (n : ℕ) (lows highs : List ℕ) (k from to : ℕ) (counts relays links scratch : List ℕ) → Answer
-routeLinksAnswer n lows highs k from to counts relays links scratch =
-    routeUnless (linksTooShort n k counts relays links scratch) n lows highs k from to
+unfoldable pub routeLinksAnswer : (n : ℕ) (lows highs states : List ℕ) (k from to : ℕ) (counts relays links scratch : List ℕ) → Answer
+routeLinksAnswer n lows highs states k from to counts relays links scratch =
+    routeUnless (linksTooShort n k counts relays links scratch) n lows highs states k from to
 
 -- Its list of counts afterwards, as Route's.
-unfoldable pub routeLinksCounts : (n : ℕ) (lows highs : List ℕ) (k from to : ℕ) (counts relays links scratch : List ℕ) → List ℕ
-routeLinksCounts n lows highs k from to counts relays links scratch =
-    ifDone (routeLinksAnswer n lows highs k from to counts relays links scratch)
-    (overwrite (map length (routesOf n lows highs k from to)) counts)
+unfoldable pub routeLinksCounts : (n : ℕ) (lows highs states : List ℕ) (k from to : ℕ) (counts relays links scratch : List ℕ) → List ℕ
+routeLinksCounts n lows highs states k from to counts relays links scratch =
+    ifDone (routeLinksAnswer n lows highs states k from to counts relays links scratch)
+    (overwrite (map length (routesOf n lows highs states k from to)) counts)
     counts
 
 -- Its list of relays afterwards, as Route's.
-unfoldable pub routeLinksRelays : (n : ℕ) (lows highs : List ℕ) (k from to : ℕ) (counts relays links scratch : List ℕ) → List ℕ
-routeLinksRelays n lows highs k from to counts relays links scratch =
-    ifDone (routeLinksAnswer n lows highs k from to counts relays links scratch)
-    (overwrite (joinAll (routesOf n lows highs k from to)) relays)
+unfoldable pub routeLinksRelays : (n : ℕ) (lows highs states : List ℕ) (k from to : ℕ) (counts relays links scratch : List ℕ) → List ℕ
+routeLinksRelays n lows highs states k from to counts relays links scratch =
+    ifDone (routeLinksAnswer n lows highs states k from to counts relays links scratch)
+    (overwrite (joinAll (routesOf n lows highs states k from to)) relays)
     relays
 
 -- Its list of links afterwards: those of route 1, then 2, up to k.
-unfoldable pub routeLinksLinks : (n : ℕ) (lows highs : List ℕ) (k from to : ℕ) (counts relays links scratch : List ℕ) → List ℕ
-routeLinksLinks n lows highs k from to counts relays links scratch =
-    ifDone (routeLinksAnswer n lows highs k from to counts relays links scratch)
-    (overwrite (joinAll (oversOf n lows highs k from to)) links)
+unfoldable pub routeLinksLinks : (n : ℕ) (lows highs states : List ℕ) (k from to : ℕ) (counts relays links scratch : List ℕ) → List ℕ
+routeLinksLinks n lows highs states k from to counts relays links scratch =
+    ifDone (routeLinksAnswer n lows highs states k from to counts relays links scratch)
+    (overwrite (joinAll (oversOf n lows highs states k from to)) links)
     links
 
 -- Scratch afterwards, as Route's: all zeros after 13 and after success.
-unfoldable pub routeLinksScratch : (n : ℕ) (lows highs : List ℕ) (k from to : ℕ) (counts relays links scratch : List ℕ) → List ℕ
-routeLinksScratch n lows highs k from to counts relays links scratch =
-    pick (scratchUsed (routeLinksAnswer n lows highs k from to counts relays links scratch)) (zeroed scratch) scratch
+unfoldable pub routeLinksScratch : (n : ℕ) (lows highs states : List ℕ) (k from to : ℕ) (counts relays links scratch : List ℕ) → List ℕ
+routeLinksScratch n lows highs states k from to counts relays links scratch =
+    pick (scratchUsed (routeLinksAnswer n lows highs states k from to counts relays links scratch)) (zeroed scratch) scratch

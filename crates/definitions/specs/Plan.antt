@@ -43,7 +43,7 @@ room size = replicate size 0
 
 -- The bytes of its input that the program takes in at most: a longer input is answered from these alone.
 unfoldable pub inputRoom : ℕ
-inputRoom = 45062
+inputRoom = 54956
 
 -- The bytes that it has for its output.
 unfoldable pub outputRoom : ℕ
@@ -55,15 +55,16 @@ sheetFor from to k network =
     let n = network .relays in
     let lows = network .lows in
     let highs = network .highs in
-    andThen (cutAnswer n lows highs k (room 3000)) λ kept.
-    andThen (routeAnswer n lows highs k from to (room 32) (room 1062) (room 32000)) λ _.
+    let states = network .states in
+    andThen (cutAnswer n lows highs states k (room 3000)) λ kept.
+    andThen (routeAnswer n lows highs states k from to (room 32) (room 1062) (room 32000)) λ _.
     done
     (record {
       from = from;
       to = to;
       k = k;
-      routes = routesOf n lows highs k from to;
-      overs = oversOf n lows highs k from to;
+      routes = routesOf n lows highs states k from to;
+      overs = oversOf n lows highs states k from to;
       kept = getD kept 0 0;
     })
 
@@ -71,7 +72,7 @@ sheetFor from to k network =
 unfoldable pub planned : (input : List ℕ) → Outcome Sheet
 planned input =
     onScan 1 (scanForm input wishForm 0) λ wish p.
-    andThen (readNetwork (drop p input) 3000 3000) (sheetFor (getD wish 0 0) (getD wish 1 0) (getD wish 2 0))
+    andThen (readNetwork (drop p input) 3000 3000 1000) (sheetFor (getD wish 0 0) (getD wish 1 0) (getD wish 2 0))
 
 -- Numbers, each behind a space.
 unfoldable pub spaced : (numbers : List ℕ) → List ℕ

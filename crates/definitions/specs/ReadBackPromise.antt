@@ -11,7 +11,7 @@ use Rattle.definitions.specs.Network.{Accepted}
 use Rattle.definitions.specs.Form.{bytes}
 use Rattle.definitions.specs.Text.{Network}
 use Rattle.definitions.specs.Plan.{Sheet, planned, planText}
-use Rattle.definitions.specs.Demand.{AnyLink}
+use Rattle.definitions.specs.Demand.{InService}
 use Rattle.definitions.specs.SheetHolds.{SheetHolds}
 use Rattle.definitions.specs.SheetPromise.{Asked}
 use Rattle.definitions.specs.SheetForm.{readSheet}
@@ -19,8 +19,8 @@ use Rattle.definitions.specs.SheetTest.{sheetAnswer}
 use Rattle.definitions.specs.Verify.{verifyText}
 
 -- The network is an accepted one, the text has the sheet's form, its k is from 1 to 32, and of the sheet this is so.
-pub record ReadBack (n : ℕ) (lows highs text : List ℕ) (claim : Sheet → Type 0) : Type 0 where
-  pub accepted : Accepted n lows highs
+pub record ReadBack (n : ℕ) (lows highs states text : List ℕ) (claim : Sheet → Type 0) : Type 0 where
+  pub accepted : Accepted n lows highs states
   pub sheet : Sheet
   pub read : readSheet text ≡ done sheet
   pub some : 1 ≤ sheet .k
@@ -28,17 +28,17 @@ pub record ReadBack (n : ℕ) (lows highs text : List ℕ) (claim : Sheet → Ty
   pub so : claim sheet
 
 -- "Yes is said exactly then, whoever made the sheet", and no exactly where there is a sheet that does not hold.
-pub record SaidExactly (n : ℕ) (lows highs text : List ℕ) : Type 0 where
-  pub yes : (sheetAnswer n lows highs text ≡ done (1 ∷ [])) ↔ ReadBack n lows highs text (λ sheet. SheetHolds n lows highs AnyLink sheet)
-  pub no : (sheetAnswer n lows highs text ≡ done (0 ∷ [])) ↔ ReadBack n lows highs text (λ sheet. SheetHolds n lows highs AnyLink sheet → ⊥)
+pub record SaidExactly (n : ℕ) (lows highs states text : List ℕ) : Type 0 where
+  pub yes : (sheetAnswer n lows highs states text ≡ done (1 ∷ [])) ↔ ReadBack n lows highs states text (λ sheet. SheetHolds n lows highs states (InService lows highs states) sheet)
+  pub no : (sheetAnswer n lows highs states text ≡ done (0 ∷ [])) ↔ ReadBack n lows highs states text (λ sheet. SheetHolds n lows highs states (InService lows highs states) sheet → ⊥)
 
 -- "every sheet our program prints is a yes": of every input that is not refused, read back from its bytes with the network that it
 -- was printed for, as an operation and by the program.
 pub record PrintedYes (input : List ℕ) (network : Network) (behind : ℕ) : Type 0 where
-  pub answer : sheetAnswer (network .relays) (network .lows) (network .highs) (planText input) ≡ done (1 ∷ [])
+  pub answer : sheetAnswer (network .relays) (network .lows) (network .highs) (network .states) (planText input) ≡ done (1 ∷ [])
   pub line : verifyText (drop behind input ++ planText input) ≡ bytes "(holds)\n"
 
 pub record ReadBackPromise : Type 0 where
-  pub exact : (n : ℕ) (lows highs text : List ℕ) → SaidExactly n lows highs text
+  pub exact : (n : ℕ) (lows highs states text : List ℕ) → SaidExactly n lows highs states text
   pub printed : (input : List ℕ) (from to k : ℕ) (network : Network) (sheet : Sheet) → (asked : Asked input from to k network)
       → planned input ≡ done sheet → PrintedYes input network (asked .behind)

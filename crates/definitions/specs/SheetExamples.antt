@@ -16,7 +16,7 @@ use Rattle.definitions.specs.Opened.{opened}
 abbrev says : (w : Network) (text : List ℕ) (answer : Answer) → Example
 says w text answer =
     record {
-      found = record { answer = sheetAnswer (w .relays) (w .lows) (w .highs) text; lists = [] };
+      found = record { answer = sheetAnswer (w .relays) (w .lows) (w .highs) (w .states) text; lists = [] };
       due = record { answer = answer; lists = [] };
     }
 
@@ -72,7 +72,7 @@ sheetExamples =
     ∷ says mesh (bytes "(sheet (from 4) (to 1) (k 0))\n(kept 0)\n(end)\n") (refused 15 0)
     ∷ says mesh (bytes "(sheet (from 4) (to 1) (k 33))\n(kept 0)\n(end)\n") (refused 15 0)
     -- The table check comes first.
-    ∷ says (record { relays = 0; lows = []; highs = [] }) [] (refused 3 0)
+    ∷ says (record { relays = 0; lows = []; highs = []; states = [] }) [] (refused 3 0)
     ∷ []
 
 pub sheet-examples-hold : AllHold sheetExamples

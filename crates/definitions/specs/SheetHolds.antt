@@ -15,8 +15,9 @@ use Rattle.definitions.specs.Demand.{RouteHolds, Apart}
 
 -- "k routes from `from` to `to`, along links of the network, no relay twice in a route, no two routes sharing a link or an inner
 -- relay, `over` lines right, `kept` equal to the cut's count"; k is from 1 to 32, and every relay is below n. The property picks the
--- links of the network that the routes may run along: any for a sheet that is read back, the kept ones for a sheet of our own.
-pub record SheetHolds (n : ℕ) (lows highs : List ℕ) (picked : ℕ → Type 0) (sheet : Sheet) : Type 0 where
+-- links of the network that the routes may run along: those with both ends in service for a sheet that is read back ("a sheet that
+-- touches a withdrawn relay is a no"), the kept ones for a sheet of our own.
+pub record SheetHolds (n : ℕ) (lows highs states : List ℕ) (picked : ℕ → Type 0) (sheet : Sheet) : Type 0 where
   pub some : 1 ≤ sheet .k
   pub few : sheet .k ≤ 32
   pub many : length (sheet .routes) ≡ sheet .k
@@ -28,4 +29,4 @@ pub record SheetHolds (n : ℕ) (lows highs : List ℕ) (picked : ℕ → Type 0
   -- Each route has its links in turn: at each step the index of the one link that joins the two relays there.
   pub manyOvers : length (sheet .overs) ≡ sheet .k
   pub over : (i : ℕ) → i < sheet .k → OverHolds lows highs (getD (sheet .routes) i []) (getD (sheet .overs) i [])
-  pub kept : sheet .kept ≡ count (eqb 1) (marksOf n lows highs (sheet .k))
+  pub kept : sheet .kept ≡ count (eqb 1) (marksOf n lows highs states (sheet .k))

@@ -28,8 +28,8 @@ networkSize input = endBehind input 0 (length input)
 -- Read's refusals, then those of the sheet, whose offsets count from the first byte behind the network text.
 unfoldable pub verified : (input : List ℕ) → Answer
 verified input =
-    andThen (readNetwork (take (networkSize input) input) 3000 3000) λ network.
-    sheetAnswer (network .relays) (network .lows) (network .highs) (drop (networkSize input) input)
+    andThen (readNetwork (take (networkSize input) input) 3000 3000 1000) λ network.
+    sheetAnswer (network .relays) (network .lows) (network .highs) (network .states) (drop (networkSize input) input)
 
 -- The line for yes and the line for no.
 unfoldable pub verdictText : (values : List ℕ) → List ℕ

@@ -1,4 +1,4 @@
--- What an accepted table is: the table check as facts on its entries, both ways.
+-- What an accepted network is: the table check as facts on the entries of its table and of its states, both ways.
 use Prim.Native.Nat.{ℕ, zero, suc, _+_, _≤_, _<_}
 use mathlib.Core.Bool.{Bool, true, false, not, _||_, true≢false}
 use mathlib.Core.List.{List, []}
@@ -8,11 +8,11 @@ use native.Mathlib.Omega.{arith}
 use borrow.Author.Tests.{eqb-true, eqb-false, eq-eqb, leb-false, lt-leb, ltb-false, le-ltb, ltb-true, not-false}
 use lib.Dec.{eqb, ltb, leb}
 use lib.ListN.{length, getD}
-use Rattle.definitions.specs.Outcome.{pick, done, refuseIf}
+use Rattle.definitions.specs.Outcome.{pick, Answer, done, refuseIf, andThen}
 use Rattle.definitions.specs.Lists.{outside, someBelow}
-use Rattle.definitions.specs.Network.{isPair, linkFault, linksCheck, tableCheck, Accepted}
-use Rattle.lists.specs.Outcomes.{not-refused, refuse-not}
-use Rattle.lists.specs.SameOutcomes.{done-same}
+use Rattle.definitions.specs.Network.{isPair, linkFault, linksCheck, statesFault, tableCheck, Accepted}
+use Rattle.lists.specs.Outcomes.{not-refused, refuse-not, then-done}
+use Rattle.lists.specs.SameOutcomes.{done-same, done-then}
 use Rattle.lists.specs.Tests.{or-false, or-neither, and-both, and-all}
 use Rattle.lists.specs.Below.{below-none, none-below}
 
@@ -84,14 +84,35 @@ links-done n lows highs i (suc count) values e =
     links-done n lows highs (i + 1) count values
     (not-refused (ltb 0 fault) fault i (linksCheck n lows highs (i + 1) count) values e .1)
 
-pub check-accepts : (n : ℕ) (lows highs values : List ℕ) → tableCheck n lows highs ≡ done values → Accepted n lows highs
+-- What the table check has behind it where it is done.
+record Passed (n : ℕ) (lows highs states values : List ℕ) : Type 0 where
+  size : outside 1 1000 n ≡ false
+  lengths : (not (eqb (length lows) (length highs)) || ltb 3000 (length lows)) ≡ false
+  links : linksCheck n lows highs 0 (length lows) ≡ done []
+  fit : statesFault n states ≡ false
+  none : values ≡ []
+
+passed : (n : ℕ) (lows highs states values : List ℕ) → tableCheck n lows highs states ≡ done values → Passed n lows highs states values
 unfolding tableCheck
-check-accepts n lows highs values e =
-    let check = linksCheck n lows highs 0 (length lows) in
+passed n lows highs states values e =
+    let last : Answer = refuseIf (statesFault n states) 16 0 (done []) in
+    let check = andThen (linksCheck n lows highs 0 (length lows)) λ _. last in
     let wrong = not (eqb (length lows) (length highs)) || ltb 3000 (length lows) in
     let three = not-refused (outside 1 1000 n) 3 0 (refuseIf wrong 4 0 check) values e in
     let four = not-refused wrong 4 0 check values (three .1) in
-    e ∙ ap done (links-done n lows highs 0 (length lows) values (four .1))
+    let (before, some, fit) = done-then (linksCheck n lows highs 0 (length lows)) (λ _. last) values (four .1) in
+    let sixteen = not-refused (statesFault n states) 16 0 (done []) values fit in
+    record {
+      size = three .0;
+      lengths = four .0;
+      links = some ∙ ap done (links-done n lows highs 0 (length lows) before some);
+      fit = sixteen .0;
+      none = sym (done-same [] values (sixteen .1));
+    }
+
+pub check-accepts : (n : ℕ) (lows highs states values : List ℕ) → tableCheck n lows highs states ≡ done values
+    → Accepted n lows highs states
+check-accepts n lows highs states values e = e ∙ ap done (passed n lows highs states values e .none)
 
 -- Of each link the low relay is below the high one.
 abbrev pub LowBelowHigh : (lows highs : List ℕ) → Type 0
@@ -108,18 +129,38 @@ pub record ProperTable (n : ℕ) (lows highs : List ℕ) : Type 0 where
   pub below : (i : ℕ) → i < length lows → getD highs i 0 < n
   pub once : (i j : ℕ) → i < j → j < length lows → getD lows i 0 ≡ getD lows j 0 → getD highs i 0 ≡ getD highs j 0 → ⊥
 
-pub accepted : (n : ℕ) (lows highs : List ℕ) → Accepted n lows highs → ProperTable n lows highs
-unfolding tableCheck outside isPair
-accepted n lows highs h =
+-- Its states: "a state for every relay, 1 in service or 0 withdrawn".
+pub record ProperStates (n : ℕ) (states : List ℕ) : Type 0 where
+  pub long : length states ≡ n
+  pub either : (r : ℕ) → r < n → getD states r 0 ≤ 1
+
+-- The fault of a list of states, both ways.
+pub fault-proper : (n : ℕ) (states : List ℕ) → statesFault n states ≡ false → ProperStates n states
+unfolding statesFault
+fault-proper n states e =
+    let none = or-false (not (eqb (length states) n)) (someBelow (λ r. ltb 1 (getD states r 0)) (length states)) e in
+    let long : length states ≡ n = eqb-true (length states) n (not-false (eqb (length states) n) (none .0)) in
+    record {
+      long = long;
+      either = λ r h. ltb-false 1 (getD states r 0) (below-none (λ r. ltb 1 (getD states r 0)) (length states) (none .1) r (omega arith));
+    }
+
+pub proper-fault : (n : ℕ) (states : List ℕ) → ProperStates n states → statesFault n states ≡ false
+unfolding statesFault
+proper-fault n states s =
+    or-neither (not (eqb (length states) n)) (someBelow (λ r. ltb 1 (getD states r 0)) (length states))
+    (ap not (eq-eqb (length states) n (s .long)))
+    (none-below (λ r. ltb 1 (getD states r 0)) (length states) (λ r h. le-ltb 1 (getD states r 0) (s .either r (omega (arith, s .long)))))
+
+pub accepted : (n : ℕ) (lows highs states : List ℕ) → Accepted n lows highs states → ProperTable n lows highs
+unfolding outside isPair
+accepted n lows highs states h =
     let m = length lows in
-    let check = linksCheck n lows highs 0 m in
-    let wrong = not (eqb m (length highs)) || ltb 3000 m in
-    let three = not-refused (outside 1 1000 n) 3 0 (refuseIf wrong 4 0 check) [] h in
-    let four = not-refused wrong 4 0 check [] (three .1) in
-    let size = or-false (ltb n 1) (ltb 1000 n) (three .0) in
-    let lengths = or-false (not (eqb m (length highs))) (ltb 3000 m) (four .0) in
+    let p = passed n lows highs states [] h in
+    let size = or-false (ltb n 1) (ltb 1000 n) (p .size) in
+    let lengths = or-false (not (eqb m (length highs))) (ltb 3000 m) (p .lengths) in
     let good : (j : ℕ) → j < m → GoodLink n lows highs j (getD lows j 0) (getD highs j 0) =
-    λ j k. links-good n lows highs 0 m (four .1) j (omega arith) (omega arith) in
+    λ j k. links-good n lows highs 0 m (p .links) j (omega arith) (omega arith) in
     record {
       some = ltb-false n 1 (size .0);
       few = ltb-false 1000 n (size .1);
@@ -134,11 +175,16 @@ accepted n lows highs h =
           true≢false (sym same ∙ below-none (isPair lows highs (getD lows j 0) (getD highs j 0)) j (good j q .isNew) i p);
     }
 
-pub accepted-intro : (n : ℕ) (lows highs : List ℕ) → ProperTable n lows highs → Accepted n lows highs
+pub accepted-states : (n : ℕ) (lows highs states : List ℕ) → Accepted n lows highs states → ProperStates n states
+accepted-states n lows highs states h = fault-proper n states (passed n lows highs states [] h .fit)
+
+pub accepted-intro : (n : ℕ) (lows highs states : List ℕ) → ProperTable n lows highs → ProperStates n states
+    → Accepted n lows highs states
 unfolding tableCheck outside isPair
-accepted-intro n lows highs t =
+accepted-intro n lows highs states t s =
     let m = length lows in
-    let check = linksCheck n lows highs 0 m in
+    let last : Answer = refuseIf (statesFault n states) 16 0 (done []) in
+    let check = andThen (linksCheck n lows highs 0 m) λ _. last in
     let wrong = not (eqb m (length highs)) || ltb 3000 m in
     let size : outside 1 1000 n ≡ false =
     or-neither (ltb n 1) (ltb 1000 n) (le-ltb n 1 (t .some)) (le-ltb 1000 n (t .few)) in
@@ -147,8 +193,8 @@ accepted-intro n lows highs t =
     (ap not (eq-eqb m (length highs) (t .even))) (le-ltb 3000 m (t .short)) in
     refuse-not (outside 1 1000 n) 3 0 (refuseIf wrong 4 0 check) size
     ∙ refuse-not wrong 4 0 check lengths
-    ∙ good-links n lows highs 0 m
-    (λ j p q. good j (omega arith))
+    ∙ then-done (linksCheck n lows highs 0 m) (λ _. last) [] (good-links n lows highs 0 m (λ j p q. good j (omega arith)))
+    ∙ refuse-not (statesFault n states) 16 0 (done []) (proper-fault n states s)
   where
     isNew : (j : ℕ) → j < length lows → (i : ℕ) → i < j → isPair lows highs (getD lows j 0) (getD highs j 0) i ≡ false
     isNew j q i p = go (isPair lows highs (getD lows j 0) (getD highs j 0) i) refl
