@@ -92,7 +92,7 @@ pub record Apart (lows highs : List ℕ) (from to : ℕ) (one other : List ℕ) 
   pub links : (i : ℕ) → i < length lows → uses lows highs i one ≡ true → uses lows highs i other ≡ true → ⊥
 
 -- The routes that Route's two lists give, and what it answers: "the sum of the k counts, which is also Route's answer".
-pub record RoutesHold (n : ℕ) (lows highs states marks : List ℕ) (k from to : ℕ) (counts relays : List ℕ) : Type 0 where
+pub record RoutesHold (n : ℕ) (lows highs marks : List ℕ) (k from to : ℕ) (counts relays : List ℕ) : Type 0 where
   pub each : (i : ℕ) → i < k → RouteHolds lows highs (Kept marks) from to (getD (cutUp (take k counts) relays) i [])
   pub apart : (i j : ℕ) → i < k → j < k → i ≢ j
       → Apart lows highs from to (getD (cutUp (take k counts) relays) i []) (getD (cutUp (take k counts) relays) j [])
@@ -101,9 +101,9 @@ pub record RoutesHold (n : ℕ) (lows highs states marks : List ℕ) (k from to 
 -- What demand 3 says of two different relays and of lists that are long enough ("Lists are long enough if Route has no cause
 -- for 12"), about Route's answer and its two lists afterwards: the k routes if the two are in one tree of forest k, and 13
 -- exactly if they are not.
-pub record RouteDelivers (n : ℕ) (lows highs states forests marks : List ℕ) (k from to : ℕ) (answer : Answer) (counts relays : List ℕ) : Type 0 where
+pub record RouteDelivers (n : ℕ) (lows highs forests marks : List ℕ) (k from to : ℕ) (answer : Answer) (counts relays : List ℕ) : Type 0 where
   pub inOneTree : OneTree lows highs forests k from to
-      → (answer ≡ done (total (take k counts) ∷ [])) × RoutesHold n lows highs states marks k from to counts relays
+      → (answer ≡ done (total (take k counts) ∷ [])) × RoutesHold n lows highs marks k from to counts relays
   pub thirteen : (answer ≡ refused 13 0) ↔ (OneTree lows highs forests k from to → ⊥)
 
 -- How many relays are in service.
@@ -148,7 +148,7 @@ pub record Holds (n : ℕ) (lows highs states : List ℕ) (k : ℕ) (relays plac
   pub routes : (from to : ℕ) → from < n → to < n → serves states from ≡ true → serves states to ≡ true → from ≢ to
       → (counts routeRelays scratch : List ℕ)
       → tooShort n k counts routeRelays scratch ≡ false
-      → RouteDelivers n lows highs states forests marks k from to
+      → RouteDelivers n lows highs forests marks k from to
       (routeAnswer n lows highs states k from to counts routeRelays scratch)
       (countsAfter n lows highs states k from to counts routeRelays scratch)
       (routeRelaysAfter n lows highs states k from to counts routeRelays scratch)

@@ -58,6 +58,15 @@ count-mono test more (x ∷ l) h =
     go false p true q f r = omega arith
     go false p false q f r = omega arith
 
+-- Tests that agree on the entries count the same.
+pub count-same : (test other : ℕ → Bool) (l : List ℕ) → ((x : ℕ) → has l x ≡ true → test x ≡ other x) → count test l ≡ count other l
+count-same test other l same =
+    omega (
+      arith,
+      count-mono test other l (λ x h e. sym (same x h) ∙ e),
+      count-mono other test l (λ x h e. same x h ∙ e),
+    )
+
 pub count-or : (one other : ℕ → Bool) (l : List ℕ) → count (λ x. one x || other x) l ≤ count one l + count other l
 unfolding count
 count-or one other [] = omega arith

@@ -1,13 +1,12 @@
--- Sums of tables, and that the counts of all the values add up to the length.
+-- Sums of tables, and that the counts of the values of a range add up to how many values lie in it.
 use Prim.Native.Nat.{ℕ, zero, suc, _+_, _≤_, _<_}
 use mathlib.Core.Bool.{Bool, true, false}
 use mathlib.Core.List.{List, [], _∷_}
 use mathlib.Core.Logic.{_≢_}
 use mathlib.Core.Path.{_≡_, refl, _∙_}
 use native.Mathlib.Omega.{arith}
-use borrow.Author.Tests.{eqb-true, eqb-false, eq-eqb, ne-eqb}
-use lib.Dec.{eqb}
-use lib.ListN.{length}
+use borrow.Author.Tests.{eqb-true, eqb-false, eq-eqb, ne-eqb, leb-true, leb-false}
+use lib.Dec.{eqb, leb}
 use Rattle.definitions.specs.Outcome.{pick}
 use Rattle.definitions.specs.Lists.{table, total, count, has}
 use Rattle.lists.specs.Tests.{or-left, or-right}
@@ -44,13 +43,17 @@ total-once x i (suc n) h k = go (eqb i x) refl (λ q. total-once x (i + 1) n q (
         let apart : i ≢ x = eqb-false i x e in
         omega (arith, rest (omega arith))
 
--- Where all the values lie in a range, how often each occurs adds up to the length.
-pub total-counts : (l : List ℕ) (i n : ℕ) → ((x : ℕ) → has l x ≡ true → (i ≤ x) × (x < i + n))
-    → total (table (λ y. count (eqb y) l) i n) ≡ length l
+-- Where no value lies behind the range, how often each in the range occurs adds up to how many do not lie before it.
+pub total-counts : (l : List ℕ) (i n : ℕ) → ((x : ℕ) → has l x ≡ true → x < i + n)
+    → total (table (λ y. count (eqb y) l) i n) ≡ count (leb i) l
 unfolding count has
 total-counts [] i n h = total-zero i n
 total-counts (x ∷ l) i n h =
-    let here = h x (or-left (eqb x x) (has l x) (eq-eqb x x refl)) in
-    let rest = total-counts l i n (λ y p. h y (or-right (eqb x y) (has l y) p)) in
     total-add (λ y. pick (eqb y x) 1 0) (λ y. count (eqb y) l) i n
-    ∙ (omega (arith, total-once x i n (here .0) (here .1)))
+    ∙ go (leb i x) refl (total-counts l i n (λ y p. h y (or-right (eqb x y) (has l y) p)))
+  where
+    go : (b : Bool) → leb i x ≡ b → total (table (λ y. count (eqb y) l) i n) ≡ count (leb i) l
+        → total (table (λ y. pick (eqb y x) 1 0) i n) + total (table (λ y. count (eqb y) l) i n) ≡ pick b 1 0 + count (leb i) l
+    go true e rest =
+        omega (arith, total-once x i n (leb-true i x e) (h x (or-left (eqb x x) (has l x) (eq-eqb x x refl))))
+    go false e rest = omega (arith, total-before x i n (leb-false i x e))

@@ -48,7 +48,7 @@ unfolding opened
 first-in = refl
 
 pub part-arranged : Arranged order lows highs
-part-arranged = arranged-placed 5 lows highs (accepted 5 lows highs mesh-accepted) 2 candidates distinct (λ h. first-in) 4 (omega arith)
+part-arranged = arranged-placed 5 lows highs (accepted 5 lows highs (mesh .states) mesh-accepted) 2 candidates distinct (λ h. first-in) 4 (omega arith)
 
 -- By link: 0 1, 0 2, 1 2, 1 3, 2 3, 2 4, 3 4.
 abbrev forests : List ℕ

@@ -8,13 +8,13 @@ use native.Mathlib.Omega.{arith}
 use lib.ListN.{length}
 use Rattle.definitions.specs.Lists.{has}
 use Rattle.definitions.specs.Network.{joins, linked, Accepted}
-use Rattle.definitions.specs.Order.{placedAfter, allRelays, firstRelay, orderOf}
+use Rattle.definitions.specs.Order.{placedAfter, servingRelays, firstRelay, orderOf}
 use Rattle.definitions.specs.Forests.{left}
 use Rattle.definitions.specs.Demand.{NoRepeat}
 use Rattle.theory.specs.LeftLaws.{LeftLaws}
 use Rattle.theory.specs.Accepted.{LowBelowHigh, ProperTable, accepted}
 use Rattle.theory.specs.Ordering.{placed-length, placed-no-repeat, placed-maximal}
-use Rattle.theory.specs.AllRelays.{all-long, all-once, first-of-all}
+use Rattle.theory.specs.ServingRelays.{serving-once, first-of-all}
 use Rattle.theory.specs.Left.{laws-of-left}
 use Rattle.theory.specs.Links.{one-link}
 use Rattle.theory.specs.ForestNumbers.{Placed, LinkFacts, link-facts}
@@ -56,8 +56,8 @@ arranged-placed n lows highs proper first candidates unique firstIn steps few =
           (omega (arith, placed-length (linked lows highs) first candidates steps)));
     }
 
-pub base-arranged : (n : ℕ) (lows highs : List ℕ) → Accepted n lows highs → Arranged (orderOf n lows highs) lows highs
+pub base-arranged : (n : ℕ) (lows highs states : List ℕ) → Accepted n lows highs states → Arranged (orderOf n lows highs states) lows highs
 unfolding orderOf
-base-arranged n lows highs ok =
-    arranged-placed n lows highs (accepted n lows highs ok) (firstRelay n lows highs) (allRelays n) (all-once n)
-    (first-of-all n lows highs) n (omega (arith, all-long n))
+base-arranged n lows highs states ok =
+    arranged-placed n lows highs (accepted n lows highs states ok) (firstRelay n lows highs states) (servingRelays n states)
+    (serving-once n states) (first-of-all n states lows highs) (length (servingRelays n states)) (omega arith)

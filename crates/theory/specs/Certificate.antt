@@ -10,16 +10,15 @@ use native.Mathlib.Omega.{arith}
 use lib.ListN.{length, getD}
 use Rattle.definitions.specs.Lists.{has, count}
 use Rattle.definitions.specs.Network.{Accepted}
-use Rattle.definitions.specs.Order.{allRelays, orderOf, placeOf, relayAt}
+use Rattle.definitions.specs.Order.{servingRelays, orderOf, placeOf, relayAt}
 use Rattle.definitions.specs.Route.{routesBetween}
-use Rattle.definitions.specs.Demand.{Joined, alone, onward, LinkOf, AnyLink, Kept, Live, deadCount}
+use Rattle.definitions.specs.Demand.{Joined, alone, onward, LinkOf, InService, Kept, Live, deadCount}
 use Rattle.lists.specs.Pigeonhole.{count-within, pigeonhole, firstPassing, free-list}
 use Rattle.theory.specs.JoinedRelays.{joined-map, joined-replace, route-joined}
 use Rattle.theory.specs.LeftLaws.{LeftLaws}
 use Rattle.theory.specs.Trees.{Alive, TreeLink, alive-lower, alive-left}
-use Rattle.theory.specs.AllRelays.{all-has}
-use Rattle.theory.specs.Ordering.{order-no-repeat, order-has, order-below}
-use Rattle.theory.specs.ForestNumbers.{forestIn, Placed, joined-placed}
+use Rattle.theory.specs.Ordering.{order-no-repeat, order-serving, order-has, order-below, order-serves}
+use Rattle.theory.specs.ForestNumbers.{forestIn, Placed, joined-placed, placed-serves}
 use Rattle.theory.specs.Arranged.{leftIn, Arranged, arranged-forest, base-arranged}
 use Rattle.theory.specs.Columns.{MarkedIn, Marked, kept-forest}
 use Rattle.theory.specs.TableLinks.{place-link}
@@ -81,7 +80,7 @@ module _ (order lows highs : List ℕ) (arranged : Arranged order lows highs) (k
           absurd (omega arith)
 
   -- A link of the table between live relays, replaced by a chain of kept links through live relays.
-  detour : (a b : ℕ) → LiveIn order dead a → LiveIn order dead b → LinkOf lows highs AnyLink a b
+  detour : (a b : ℕ) → LiveIn order dead a → LiveIn order dead b → LinkOf lows highs (λ i. Unit {0}) a b
       → Joined (LiveIn order dead) (LinkOf lows highs (Kept marks)) a b
   detour a b la lb l =
       let left : ℕ → ℕ → ℕ = leftIn order lows highs in
@@ -110,26 +109,29 @@ module _ (order lows highs : List ℕ) (arranged : Arranged order lows highs) (k
     joined-replace (λ r s lr ls l. detour r s lr ls (l .0, l .1, l .2, tt)),
   )
 
--- The base: all relays are in service, and all links are chosen.
-module _ (n : ℕ) (lows highs : List ℕ) (ok : Accepted n lows highs) (k : ℕ) (one : 1 ≤ k) (marks : List ℕ)
-    (marked : Marked n lows highs k marks) (dead : ℕ → Bool) (few : deadCount n dead < k) where
-  few-placed : count dead (orderOf n lows highs) < k
+-- The base: the relays in service, and all the links with both ends in service.
+module _ (n : ℕ) (lows highs states : List ℕ) (ok : Accepted n lows highs states) (k : ℕ) (one : 1 ≤ k) (marks : List ℕ)
+    (marked : Marked n lows highs states k marks) (dead : ℕ → Bool) (few : deadCount n states dead < k) where
+  few-placed : count dead (orderOf n lows highs states) < k
   few-placed =
       omega (
         arith,
-        count-within dead (allRelays n) (orderOf n lows highs) (order-no-repeat n lows highs)
-            (λ r h. all-has n r (order-below n lows highs r h)),
+        count-within dead (servingRelays n states) (orderOf n lows highs states) (order-no-repeat n lows highs states)
+            (order-serving n lows highs states),
       )
 
-  pub survives : (a b : ℕ) → Joined (Live n dead) (LinkOf lows highs (Kept marks)) a b ↔ Joined (Live n dead) (LinkOf lows highs AnyLink) a b
+  pub survives : (a b : ℕ) → Joined (Live n states dead) (LinkOf lows highs (Kept marks)) a b
+      ↔ Joined (Live n states dead) (LinkOf lows highs (InService lows highs states)) a b
   survives a b =
       let general =
-      survives-in (orderOf n lows highs) lows highs (base-arranged n lows highs ok) k one marks marked dead few-placed
-      AnyLink (λ i h p. tt) a b in
+      survives-in (orderOf n lows highs states) lows highs (base-arranged n lows highs states ok) k one marks marked dead few-placed
+      (InService lows highs states) (λ i h p. placed-serves n lows highs states i p) a b in
       (λ chain. back (general .0 (there chain)), λ chain. back (general .1 (there chain)))
     where
-      there : {link : ℕ → ℕ → Type 0} → Joined (Live n dead) link a b → Joined (LiveIn (orderOf n lows highs) dead) link a b
-      there = joined-map (λ r. r) (λ r l. (order-has n lows highs r (l .0), l .1)) (λ r s l. l)
+      there : {link : ℕ → ℕ → Type 0} → Joined (Live n states dead) link a b → Joined (LiveIn (orderOf n lows highs states) dead) link a b
+      there = joined-map (λ r. r) (λ r l. (order-has n lows highs states r (l .0, l .1), l .2)) (λ r s l. l)
 
-      back : {link : ℕ → ℕ → Type 0} → Joined (LiveIn (orderOf n lows highs) dead) link a b → Joined (Live n dead) link a b
-      back = joined-map (λ r. r) (λ r l. (order-below n lows highs r (l .0), l .1)) (λ r s l. l)
+      back : {link : ℕ → ℕ → Type 0} → Joined (LiveIn (orderOf n lows highs states) dead) link a b → Joined (Live n states dead) link a b
+      back =
+          joined-map (λ r. r)
+          (λ r l. (order-below n lows highs states r (l .0), order-serves n lows highs states r (l .0), l .1)) (λ r s l. l)

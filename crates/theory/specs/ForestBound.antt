@@ -1,20 +1,21 @@
--- Forest i holds at most n − i links, each link is in one forest from 1 to n − 1, and the counts of all the forests add up to m:
--- of the forest numbers as defined, and of the list that Split leaves. The bound is proved over any order.
-use Prim.Native.Nat.{ℕ, suc, _-_, _≤_, _<_}
-use mathlib.Core.Bool.{Bool, true}
+-- Forest i holds at most n − i links, where n counts the relays in service; each link with both ends in service is in one forest from
+-- 1 to n − 1, every other in none, and the counts of all the forests add up to the links with both ends in service: of the forest
+-- numbers as defined, and of the list that Split leaves. The bound is proved over any order.
+use Prim.Native.Nat.{ℕ, suc, _+_, _-_, _≤_, _<_}
+use mathlib.Core.Bool.{Bool, true, false}
 use mathlib.Core.List.{List, [], _∷_, map}
-use mathlib.Core.Path.{_≡_, sym, _∙_, ap}
+use mathlib.Core.Path.{_≡_, refl, sym, _∙_, ap}
 use native.Mathlib.Nat.{zero-add}
 use native.Mathlib.Omega.{arith}
-use borrow.Author.Tests.{eqb-true, le-ltb}
-use lib.Dec.{eqb, ltb}
+use borrow.Author.Tests.{eqb-true, le-leb, lt-leb, le-ltb}
+use lib.Dec.{eqb, ltb, leb}
 use lib.ListN.{length, getD, take, length-map}
 use lib.Seq.{take-length}
 use Rattle.definitions.specs.Outcome.{done, refuseIf}
 use Rattle.definitions.specs.Lists.{table, overwrite, keep, has, count, total, greatest}
-use Rattle.definitions.specs.Network.{linked, tableCheck, Accepted}
+use Rattle.definitions.specs.Network.{linked, linkServes, tableCheck, Accepted}
 use Rattle.definitions.specs.Demand.{NoRepeat}
-use Rattle.definitions.specs.Order.{orderOf, relayAt}
+use Rattle.definitions.specs.Order.{servingRelays, orderOf, relayAt}
 use Rattle.definitions.specs.Forests.{forestOf, forestsOf, splitAnswer, forestsAfter}
 use Rattle.lists.specs.Outcomes.{refuse-not, then-done, if-done}
 use Rattle.lists.specs.Tests.{and-both}
@@ -22,11 +23,11 @@ use Rattle.lists.specs.Tables.{length-table, getD-table}
 use Rattle.lists.specs.Overwritten.{getD-overwrite, take-overwrite}
 use Rattle.lists.specs.Members.{has-keep, has-map, index-of, range-bounds, range-has}
 use Rattle.lists.specs.Distinct.{no-repeat-keep, no-repeat-map, range-no-repeat}
-use Rattle.lists.specs.Counting.{count-table, length-keep, no-longer}
+use Rattle.lists.specs.Counting.{count-same, count-table, length-keep, no-longer}
 use Rattle.lists.specs.Totals.{total-counts}
 use Rattle.theory.specs.LeftLaws.{index-below}
 use Rattle.theory.specs.Ordering.{order-length}
-use Rattle.theory.specs.ForestNumbers.{earlierPlace, laterPlace, forestIn, Placed, AllPlaced, links-placed}
+use Rattle.theory.specs.ForestNumbers.{earlierPlace, laterPlace, forestIn, Placed, AllPlaced, forest-placed, links-placed, accepted-link-facts, no-forest}
 use Rattle.theory.specs.Arranged.{leftIn, Arranged, arranged-forest, base-arranged}
 
 -- The indices of the links of forest f.
@@ -100,72 +101,120 @@ module _ (order lows highs : List ℕ) (arranged : Arranged order lows highs) wh
         )
 
 -- The list of forest numbers, entry by entry.
-module _ (n : ℕ) (lows highs : List ℕ) where
-  pub forests-length : length (forestsOf n lows highs) ≡ length lows
+module _ (n : ℕ) (lows highs states : List ℕ) where
+  pub forests-length : length (forestsOf n lows highs states) ≡ length lows
   unfolding forestsOf
-  forests-length = length-table (forestOf (linked lows highs) (orderOf n lows highs) lows highs) 0 (length lows)
+  forests-length = length-table (forestOf (linked lows highs) (orderOf n lows highs states) lows highs) 0 (length lows)
 
   pub forests-at : (i : ℕ) → i < length lows
-      → getD (forestsOf n lows highs) i 0 ≡ forestOf (linked lows highs) (orderOf n lows highs) lows highs i
+      → getD (forestsOf n lows highs states) i 0 ≡ forestOf (linked lows highs) (orderOf n lows highs states) lows highs i
   unfolding forestsOf
   forests-at i h =
-      let forest : ℕ → ℕ = forestOf (linked lows highs) (orderOf n lows highs) lows highs in
+      let forest : ℕ → ℕ = forestOf (linked lows highs) (orderOf n lows highs states) lows highs in
       getD-table forest 0 (length lows) i 0 h ∙ ap forest (zero-add i)
 
 -- The base, of an accepted table.
-module _ (n : ℕ) (lows highs : List ℕ) (ok : Accepted n lows highs) where
-  pub forests-bound : (f : ℕ) → count (eqb f) (forestsOf n lows highs) ≤ n - f
+module _ (n : ℕ) (lows highs states : List ℕ) (ok : Accepted n lows highs states) where
+  pub forests-bound : (f : ℕ) → 1 ≤ f → count (eqb f) (forestsOf n lows highs states) ≤ length (servingRelays n states) - f
   unfolding forestsOf linksIn
-  forests-bound f =
-      let order = orderOf n lows highs in
+  forests-bound f one =
+      let order = orderOf n lows highs states in
       let forest : ℕ → ℕ = forestOf (linked lows highs) order lows highs in
-      let size = forest-size order lows highs (base-arranged n lows highs ok) f (λ i h e. links-placed n lows highs ok i h) in
+      let size = forest-size order lows highs (base-arranged n lows highs states ok) f (forest-placed order lows highs f one) in
       omega (
         arith,
         size,
         count-table (eqb f) forest 0 (length lows),
         length-keep (λ j. eqb f (forest j)) (table (λ r. r) 0 (length lows)),
-        order-length n lows highs,
+        order-length n lows highs states,
       )
 
-  pub forests-range : (i : ℕ) → i < length lows → (1 ≤ getD (forestsOf n lows highs) i 0) × (getD (forestsOf n lows highs) i 0 < n)
-  forests-range i h =
-      let range = forest-range (orderOf n lows highs) lows highs (base-arranged n lows highs ok) i h (links-placed n lows highs ok i h) in
-      omega (arith, range .0, range .1, forests-at n lows highs i h, order-length n lows highs)
+  pub forests-range : (i : ℕ) → i < length lows → linkServes lows highs states i ≡ true
+      → (1 ≤ getD (forestsOf n lows highs states) i 0) × (getD (forestsOf n lows highs states) i 0 < length (servingRelays n states))
+  forests-range i h e =
+      let range =
+      forest-range (orderOf n lows highs states) lows highs (base-arranged n lows highs states ok) i h
+      (links-placed n lows highs states ok i h e) in
+      omega (arith, range .0, range .1, forests-at n lows highs states i h, order-length n lows highs states)
 
-  -- "Each link is in exactly one forest, so the counts of all the forests add up to m."
-  pub forests-total : total (table (λ f. count (eqb f) (forestsOf n lows highs)) 1 n) ≡ length lows
+  pub forests-none : (i : ℕ) → i < length lows → linkServes lows highs states i ≡ false → getD (forestsOf n lows highs states) i 0 ≡ 0
+  forests-none i h e = forests-at n lows highs states i h ∙ no-forest n lows highs states i h e
+
+  -- A link has a forest exactly if both its ends are in service.
+  some-forest : (i : ℕ) → i < length lows
+      → leb 1 (forestOf (linked lows highs) (orderOf n lows highs states) lows highs i) ≡ linkServes lows highs states i
+  some-forest i h = go (linkServes lows highs states i) refl
+    where
+      go : (b : Bool) → linkServes lows highs states i ≡ b
+          → leb 1 (forestOf (linked lows highs) (orderOf n lows highs states) lows highs i) ≡ b
+      go true e = le-leb 1 (forestOf (linked lows highs) (orderOf n lows highs states) lows highs i) (accepted-link-facts n lows highs states ok i h e .forest)
+      go false e =
+          lt-leb 1 (forestOf (linked lows highs) (orderOf n lows highs states) lows highs i)
+          (omega (arith, no-forest n lows highs states i h e))
+
+  -- "The counts of the forests add up to the links with both ends in service" (document 02, #105).
+  pub forests-total : total (table (λ f. count (eqb f) (forestsOf n lows highs states)) 1 (length (servingRelays n states)))
+      ≡ count (linkServes lows highs states) (table (λ i. i) 0 (length lows))
+  unfolding forestsOf
   forests-total =
-      total-counts (forestsOf n lows highs) 1 n
+      let forest : ℕ → ℕ = forestOf (linked lows highs) (orderOf n lows highs states) lows highs in
+      total-counts (forestsOf n lows highs states) 1 (length (servingRelays n states))
       (λ x h.
-      let w = index-of (forestsOf n lows highs) x h in
-      omega (arith, forests-range (w .0) (omega (arith, w .1, forests-length n lows highs)), w .2))
-      ∙ forests-length n lows highs
+      let w = index-of (forestsOf n lows highs states) x h in
+      omega (arith, forest-few (w .0) (omega (arith, w .1, forests-length n lows highs states)), w .2))
+      ∙ count-table (leb 1) forest 0 (length lows)
+      ∙ count-same (λ i. leb 1 (forest i)) (linkServes lows highs states) (table (λ i. i) 0 (length lows))
+      (λ i h. some-forest i (omega (arith, range-bounds 0 (length lows) i h)))
+    where
+      forest-few : (i : ℕ) → i < length lows → getD (forestsOf n lows highs states) i 0 < 1 + length (servingRelays n states)
+      forest-few i h = go (linkServes lows highs states i) refl
+        where
+          go : (b : Bool) → linkServes lows highs states i ≡ b
+              → getD (forestsOf n lows highs states) i 0 < 1 + length (servingRelays n states)
+          go true e = omega (arith, forests-range i h e)
+          go false e = omega (arith, forests-none i h e)
 
   -- What Split leaves.
   pub forests-after : (old : List ℕ) → length lows ≤ length old
-      → forestsAfter n lows highs old ≡ overwrite (forestsOf n lows highs) old
+      → forestsAfter n lows highs states old ≡ overwrite (forestsOf n lows highs states) old
   unfolding forestsAfter splitAnswer
   forests-after old h =
       let short = ltb (length old) (length lows) in
-      let value = greatest (forestsOf n lows highs) ∷ [] in
-      if-done (splitAnswer n lows highs old) value (overwrite (forestsOf n lows highs) old) old
-      (then-done (tableCheck n lows highs) (λ _. refuseIf short 12 0 (done value)) [] ok
+      let value = greatest (forestsOf n lows highs states) ∷ [] in
+      if-done (splitAnswer n lows highs states old) value (overwrite (forestsOf n lows highs states) old) old
+      (then-done (tableCheck n lows highs states) (λ _. refuseIf short 12 0 (done value)) [] ok
       ∙ refuse-not short 12 0 (done value) (le-ltb (length old) (length lows) h))
 
-  pub split-bound : (old : List ℕ) → length lows ≤ length old → (i : ℕ) → 1 ≤ i → i ≤ n
-      → count (eqb i) (take (length lows) (forestsAfter n lows highs old)) ≤ n - i
-  split-bound old h i some within =
-      let forests = forestsOf n lows highs in
-      let front : take (length lows) (forestsAfter n lows highs old) ≡ forests =
+  split-front : (old : List ℕ) → length lows ≤ length old
+      → take (length lows) (forestsAfter n lows highs states old) ≡ forestsOf n lows highs states
+  split-front old h =
+      let forests = forestsOf n lows highs states in
       ap (take (length lows)) (forests-after old h)
-      ∙ take-overwrite forests old (length lows) (omega (arith, forests-length n lows highs))
-      ∙ ap (λ (k : ℕ). take k forests) (sym (forests-length n lows highs))
-      ∙ take-length forests in
-      rw front (forests-bound i)
+      ∙ take-overwrite forests old (length lows) (omega (arith, forests-length n lows highs states))
+      ∙ ap (λ (k : ℕ). take k forests) (sym (forests-length n lows highs states))
+      ∙ take-length forests
 
-  pub split-in-one : (old : List ℕ) → length lows ≤ length old → (i : ℕ) → i < length lows
-      → (1 ≤ getD (forestsAfter n lows highs old) i 0) × (getD (forestsAfter n lows highs old) i 0 < n)
-  split-in-one old h i k =
-      rw (forests-after old h, getD-overwrite (forestsOf n lows highs) old i 0 (omega (arith, forests-length n lows highs)))
-      (forests-range i k)
+  pub split-bound : (old : List ℕ) → length lows ≤ length old → (i : ℕ) → 1 ≤ i → i ≤ length (servingRelays n states)
+      → count (eqb i) (take (length lows) (forestsAfter n lows highs states old)) ≤ length (servingRelays n states) - i
+  split-bound old h i some within = rw (split-front old h) (forests-bound i some)
+
+  pub split-total : (old : List ℕ) → length lows ≤ length old
+      → total
+      (table (λ i. count (eqb i) (take (length lows) (forestsAfter n lows highs states old))) 1 (length (servingRelays n states)))
+      ≡ count (linkServes lows highs states) (table (λ i. i) 0 (length lows))
+  split-total old h = rw (split-front old h) forests-total
+
+  split-entry : (old : List ℕ) → length lows ≤ length old → (i : ℕ) → i < length lows
+      → getD (forestsAfter n lows highs states old) i 0 ≡ getD (forestsOf n lows highs states) i 0
+  split-entry old h i k =
+      ap (λ (l : List ℕ). getD l i 0) (forests-after old h)
+      ∙ getD-overwrite (forestsOf n lows highs states) old i 0 (omega (arith, forests-length n lows highs states))
+
+  pub split-in-one : (old : List ℕ) → length lows ≤ length old → (i : ℕ) → i < length lows → linkServes lows highs states i ≡ true
+      → (1 ≤ getD (forestsAfter n lows highs states old) i 0)
+      × (getD (forestsAfter n lows highs states old) i 0 < length (servingRelays n states))
+  split-in-one old h i k e = rw (split-entry old h i k) (forests-range i k e)
+
+  pub split-in-none : (old : List ℕ) → length lows ≤ length old → (i : ℕ) → i < length lows → linkServes lows highs states i ≡ false
+      → getD (forestsAfter n lows highs states old) i 0 ≡ 0
+  split-in-none old h i k e = split-entry old h i k ∙ forests-none i k e

@@ -14,7 +14,7 @@ use lib.Dec.{eqb, leb}
 use lib.ListN.{length, getD, length-map}
 use Rattle.definitions.specs.Outcome.{pick}
 use Rattle.definitions.specs.Lists.{table, keep, has, count}
-use Rattle.definitions.specs.Network.{Accepted}
+use Rattle.definitions.specs.Network.{linkServes, Accepted}
 use Rattle.definitions.specs.Order.{orderOf}
 use Rattle.definitions.specs.Forests.{forestsOf}
 use Rattle.lists.specs.Tests.{and-all}
@@ -26,7 +26,7 @@ use Rattle.lists.specs.Counting.{count-length, count-table, length-keep, no-lon
 use Rattle.theory.specs.LeftLaws.{LeftLaws}
 use Rattle.theory.specs.ForestNumbers.{laterPlace, forestIn, left-is-link, accepted-link-facts}
 use Rattle.theory.specs.Arranged.{leftIn, Arranged, base-arranged}
-use Rattle.theory.specs.ForestBound.{forests-at}
+use Rattle.theory.specs.ForestBound.{forests-at, forests-none}
 
 -- Over any `left` with the three laws, and any count of links up to a place to which a c-th earlier neighbour adds c.
 module _
@@ -128,11 +128,16 @@ module _ (order lows highs : List ℕ) (arranged : Arranged order lows highs) wh
         length-table (laterPlace order lows highs) 0 (length lows),
       )
 
-pub number-bound : (n : ℕ) (lows highs : List ℕ) → Accepted n lows highs → (i : ℕ) → i < length lows
-    → getD (forestsOf n lows highs) i 0 * suc (getD (forestsOf n lows highs) i 0) ≤ 2 * length lows
-number-bound n lows highs ok i h =
-    let order = orderOf n lows highs in
-    let link = accepted-link-facts n lows highs ok i h in
-    rw (forests-at n lows highs i h)
-    (table-depth order lows highs (base-arranged n lows highs ok) (forestIn order lows highs i) (laterPlace order lows highs i)
-    (omega (arith, link .some, link .isLeft)))
+pub number-bound : (n : ℕ) (lows highs states : List ℕ) → Accepted n lows highs states → (i : ℕ) → i < length lows
+    → getD (forestsOf n lows highs states) i 0 * suc (getD (forestsOf n lows highs states) i 0) ≤ 2 * length lows
+number-bound n lows highs states ok i h = go (linkServes lows highs states i) refl
+  where
+    go : (b : Bool) → linkServes lows highs states i ≡ b
+        → getD (forestsOf n lows highs states) i 0 * suc (getD (forestsOf n lows highs states) i 0) ≤ 2 * length lows
+    go true e =
+        let order = orderOf n lows highs states in
+        let link = accepted-link-facts n lows highs states ok i h e in
+        rw (forests-at n lows highs states i h)
+        (table-depth order lows highs (base-arranged n lows highs states ok) (forestIn order lows highs i) (laterPlace order lows highs i)
+        (omega (arith, link .some, link .isLeft)))
+    go false e = rw (forests-none n lows highs states ok i h e) (omega arith)

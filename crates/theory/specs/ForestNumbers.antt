@@ -1,7 +1,7 @@
 -- The forest number of a link: left of its later place under that number is its earlier place, and each left entry is a link.
 -- Over any order; then for the base and an accepted table.
 use Prim.Native.Nat.{ℕ, _≤_, _<_, min, max}
-use mathlib.Core.Bool.{Bool, true, false}
+use mathlib.Core.Bool.{Bool, true, false, true≢false}
 use mathlib.Core.List.{List}
 use mathlib.Core.Logic.{_≢_, _⊎_, inl, inr}
 use mathlib.Core.Path.{_≡_, refl, sym, _∙_, ap, ap₂}
@@ -10,14 +10,15 @@ use borrow.Author.Tests.{ltb-true, ltb-false}
 use lib.Dec.{ltb}
 use lib.ListN.{length, getD}
 use Rattle.definitions.specs.Lists.{has}
-use Rattle.definitions.specs.Network.{joins, linked, Accepted}
+use Rattle.definitions.specs.Network.{joins, linked, serves, linkServes, Accepted}
 use Rattle.definitions.specs.Demand.{NoRepeat}
 use Rattle.definitions.specs.Order.{orderOf, placeOf, relayAt}
 use Rattle.definitions.specs.Forests.{left, forestBetween, forestOf}
 use Rattle.definitions.specs.Route.{leftOf}
+use Rattle.lists.specs.Tests.{and-both, and-all}
 use Rattle.theory.specs.Accepted.{accepted}
 use Rattle.theory.specs.Links.{joins-ends, joins-low-high, joins-high-low, joined-linked, linked-joined}
-use Rattle.theory.specs.Ordering.{order-no-repeat, order-has}
+use Rattle.theory.specs.Ordering.{order-no-repeat, order-has, order-serves}
 use Rattle.theory.specs.Places.{relay-of-place, place-of-relay, placed-in}
 use Rattle.theory.specs.Left.{left-range, left-below, left-linked, left-forest, forest-some, forest-left}
 
@@ -164,25 +165,44 @@ module _ (order lows highs : List ℕ) where
           let b = ap (placeOf order) (e .1) ∙ backU in
           omega (arith, below)
 
--- The base: each link of an accepted table is in a forest.
-module _ (n : ℕ) (lows highs : List ℕ) where
-  pub links-placed : Accepted n lows highs → (i : ℕ) → i < length lows → Placed (orderOf n lows highs) lows highs i
-  links-placed ok i h =
-      let t = accepted n lows highs ok in (
-        order-has n lows highs (getD lows i 0) (omega (arith, t .ordered i h, t .below i h)),
-        order-has n lows highs (getD highs i 0) (t .below i h),
+-- The base: each link of an accepted table with both ends in service is in a forest, and no other.
+module _ (n : ℕ) (lows highs states : List ℕ) where
+  pub links-placed : Accepted n lows highs states → (i : ℕ) → i < length lows → linkServes lows highs states i ≡ true
+      → Placed (orderOf n lows highs states) lows highs i
+  unfolding linkServes
+  links-placed ok i h e =
+      let t = accepted n lows highs states ok in
+      let s = and-both (serves states (getD lows i 0)) (serves states (getD highs i 0)) e in (
+        order-has n lows highs states (getD lows i 0) (omega (arith, t .ordered i h, t .below i h), s .0),
+        order-has n lows highs states (getD highs i 0) (t .below i h, s .1),
       )
 
-  pub accepted-link-facts : Accepted n lows highs → (i : ℕ) → i < length lows → LinkFacts (orderOf n lows highs) lows highs i
-  accepted-link-facts ok i h =
-      let less = accepted n lows highs ok .ordered i h in
-      link-facts (orderOf n lows highs) lows highs i h (links-placed ok i h) (omega arith)
+  pub placed-serves : (i : ℕ) → Placed (orderOf n lows highs states) lows highs i → linkServes lows highs states i ≡ true
+  unfolding linkServes
+  placed-serves i placed =
+      and-all (serves states (getD lows i 0)) (serves states (getD highs i 0))
+      (order-serves n lows highs states (getD lows i 0) (placed .0)) (order-serves n lows highs states (getD highs i 0) (placed .1))
 
-  pub leftOf-is-link : (f v : ℕ) → 0 < leftOf n lows highs f v
+  pub accepted-link-facts : Accepted n lows highs states → (i : ℕ) → i < length lows → linkServes lows highs states i ≡ true
+      → LinkFacts (orderOf n lows highs states) lows highs i
+  accepted-link-facts ok i h e =
+      let less = accepted n lows highs states ok .ordered i h in
+      link-facts (orderOf n lows highs states) lows highs i h (links-placed ok i h e) (omega arith)
+
+  -- "its links belong to no forest" (document 02, #105)
+  pub no-forest : (i : ℕ) → i < length lows → linkServes lows highs states i ≡ false
+      → forestOf (linked lows highs) (orderOf n lows highs states) lows highs i ≡ 0
+  no-forest i h e =
+      let f = forestOf (linked lows highs) (orderOf n lows highs states) lows highs i in
+      let none : ¬ (1 ≤ f) = λ some.
+      true≢false (sym (placed-serves i (forest-placed (orderOf n lows highs states) lows highs f some i h refl)) ∙ e) in
+      omega arith
+
+  pub leftOf-is-link : (f v : ℕ) → 0 < leftOf n lows highs states f v
       → (i : ℕ) × (i < length lows)
-      × (joins lows highs (relayAt (orderOf n lows highs) (leftOf n lows highs f v)) (relayAt (orderOf n lows highs) v) i ≡ true)
-      × (earlierPlace (orderOf n lows highs) lows highs i ≡ leftOf n lows highs f v)
-      × (laterPlace (orderOf n lows highs) lows highs i ≡ v)
-      × (forestOf (linked lows highs) (orderOf n lows highs) lows highs i ≡ f)
+      × (joins lows highs (relayAt (orderOf n lows highs states) (leftOf n lows highs states f v)) (relayAt (orderOf n lows highs states) v) i ≡ true)
+      × (earlierPlace (orderOf n lows highs states) lows highs i ≡ leftOf n lows highs states f v)
+      × (laterPlace (orderOf n lows highs states) lows highs i ≡ v)
+      × (forestOf (linked lows highs) (orderOf n lows highs states) lows highs i ≡ f)
   unfolding leftOf
-  leftOf-is-link = left-is-link (orderOf n lows highs) lows highs (order-no-repeat n lows highs)
+  leftOf-is-link = left-is-link (orderOf n lows highs states) lows highs (order-no-repeat n lows highs states)

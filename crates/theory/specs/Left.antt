@@ -20,7 +20,7 @@ use Rattle.lists.specs.Positions.{position-which, position-at, position-absent}
 use Rattle.lists.specs.Rising.{rising-entry, rising-has, rising-no-repeat, rising-ascends, rising-front}
 use Rattle.lists.specs.Rising.{rising-count, rising-at}
 use Rattle.theory.specs.LeftLaws.{LeftLaws}
-use Rattle.theory.specs.Ordering.{order-length, order-maximal}
+use Rattle.theory.specs.Ordering.{order-length, order-few, order-maximal}
 
 -- For every two places v < w, v has at least as many neighbours before v as w has; by index, from 0.
 abbrev pub Maximal : (ℕ → ℕ → Bool) → List ℕ → Type 0
@@ -172,16 +172,16 @@ module _ (linked : ℕ → ℕ → Bool) (order : List ℕ) where
       }
 
 -- The base.
-module _ (n : ℕ) (lows highs : List ℕ) where
-  base-maximal : Maximal (linkedIn lows highs) (orderOf n lows highs)
-  base-maximal v w h k = order-maximal n lows highs v w h (omega (arith, order-length n lows highs))
+module _ (n : ℕ) (lows highs states : List ℕ) where
+  base-maximal : Maximal (linkedIn lows highs) (orderOf n lows highs states)
+  base-maximal v w h k = order-maximal n lows highs states v w h (omega (arith, order-length n lows highs states))
 
-  pub left-laws : LeftLaws (leftOf n lows highs)
+  pub left-laws : LeftLaws (leftOf n lows highs states)
   unfolding leftOf
-  left-laws = laws-of-left (linkedIn lows highs) (orderOf n lows highs) base-maximal
+  left-laws = laws-of-left (linkedIn lows highs) (orderOf n lows highs states) base-maximal
 
-  pub leftOf-range : (i v : ℕ) → 0 < leftOf n lows highs i v → (1 ≤ i) × (v ≤ n)
+  pub leftOf-range : (i v : ℕ) → 0 < leftOf n lows highs states i v → (1 ≤ i) × (v ≤ n)
   unfolding leftOf
   leftOf-range i v h =
-      let r = left-range (linkedIn lows highs) (orderOf n lows highs) i v h in
-      (r .0, omega (arith, r .2, order-length n lows highs))
+      let r = left-range (linkedIn lows highs) (orderOf n lows highs states) i v h in
+      (r .0, omega (arith, r .2, order-few n lows highs states))

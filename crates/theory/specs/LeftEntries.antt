@@ -10,7 +10,7 @@ use lib.Dec.{eqb}
 use lib.ListN.{length}
 use borrow.Author.Tests.{eqb-true, eq-eqb}
 use Rattle.definitions.specs.Lists.{firstFrom}
-use Rattle.definitions.specs.Network.{joins, linked, Accepted}
+use Rattle.definitions.specs.Network.{joins, linked, linkServes, Accepted}
 use Rattle.definitions.specs.Order.{orderOf, relayAt}
 use Rattle.definitions.specs.Forests.{left, forestOf, laterOf, leftLink, Entry, leftEntry}
 use Rattle.definitions.specs.Route.{leftOf}
@@ -94,17 +94,19 @@ module _ (order lows highs : List ℕ) where
         (entryIn order lows highs f v .link) l (one .within) h (entry-joins-in f v (entryIn order lows highs f v .link) one) (entry-joins-in f v l own)
 
 -- The base.
-pub entry-place : (n : ℕ) (lows highs : List ℕ) (f v : ℕ) → entryOf n lows highs f v .place ≡ leftOf n lows highs f v
+pub entry-place : (n : ℕ) (lows highs states : List ℕ) (f v : ℕ) → entryOf n lows highs states f v .place ≡ leftOf n lows highs states f v
 unfolding entryOf leftOf
-entry-place n lows highs f v = entry-left (orderOf n lows highs) lows highs f v
+entry-place n lows highs states f v = entry-left (orderOf n lows highs states) lows highs f v
 
-pub entry-link : (n : ℕ) (lows highs : List ℕ) → Accepted n lows highs → (f v : ℕ) → 0 < leftOf n lows highs f v
-    → EntryLink (orderOf n lows highs) lows highs f v (entryOf n lows highs f v .link)
+pub entry-link : (n : ℕ) (lows highs states : List ℕ) → Accepted n lows highs states → (f v : ℕ) → 0 < leftOf n lows highs states f v
+    → EntryLink (orderOf n lows highs states) lows highs f v (entryOf n lows highs states f v .link)
 unfolding entryOf leftOf
-entry-link n lows highs ok = entry-link-in (orderOf n lows highs) lows highs (base-arranged n lows highs ok)
+entry-link n lows highs states ok = entry-link-in (orderOf n lows highs states) lows highs (base-arranged n lows highs states ok)
 
-pub entry-own : (n : ℕ) (lows highs : List ℕ) → Accepted n lows highs → (l : ℕ) → l < length lows
-    → entryOf n lows highs (forestIn (orderOf n lows highs) lows highs l) (laterPlace (orderOf n lows highs) lows highs l) .link ≡ l
+pub entry-own : (n : ℕ) (lows highs states : List ℕ) → Accepted n lows highs states → (l : ℕ) → l < length lows
+    → linkServes lows highs states l ≡ true
+    → entryOf n lows highs states (forestIn (orderOf n lows highs states) lows highs l) (laterPlace (orderOf n lows highs states) lows highs l) .link ≡ l
 unfolding entryOf
-entry-own n lows highs ok l h =
-    entry-own-in (orderOf n lows highs) lows highs (base-arranged n lows highs ok) l h (links-placed n lows highs ok l h)
+entry-own n lows highs states ok l h e =
+    entry-own-in (orderOf n lows highs states) lows highs (base-arranged n lows highs states ok) l h
+    (links-placed n lows highs states ok l h e)

@@ -5,11 +5,11 @@ use mathlib.Core.List.{List}
 use mathlib.Core.Path.{_≡_, refl}
 use native.Mathlib.Omega.{arith}
 use lib.Dec.{eqb}
-use Rattle.definitions.specs.Network.{Accepted}
+use Rattle.definitions.specs.Network.{serves, Accepted}
 use Rattle.definitions.specs.Order.{relaysAfter, placesAfter}
 use Rattle.definitions.specs.Forests.{forestsAfter, marksAfter}
 use Rattle.definitions.specs.Route.{tooShort, countsAfter, routeRelaysAfter}
-use Rattle.definitions.specs.Demand.{Joined, alone, onward, LinkOf, AnyLink, Kept, Live, deadCount, OneTree, Holds, RoutesHold}
+use Rattle.definitions.specs.Demand.{Joined, alone, onward, LinkOf, InService, Kept, Live, deadCount, OneTree, Holds, RoutesHold}
 use Rattle.definitions.specs.Networks.{mesh, lent}
 use Rattle.definitions.specs.Opened.{opened}
 use Rattle.theory.specs.DemandThree.{demand-three}
@@ -20,13 +20,16 @@ lows = mesh .lows
 abbrev highs : List ℕ
 highs = mesh .highs
 
+abbrev states : List ℕ
+states = mesh .states
+
 abbrev forests : List ℕ
-forests = forestsAfter 5 lows highs (lent 7)
+forests = forestsAfter 5 lows highs states (lent 7)
 
 abbrev marks : List ℕ
-marks = marksAfter 5 lows highs 2 (lent 7)
+marks = marksAfter 5 lows highs states 2 (lent 7)
 
-pub mesh-accepted : Accepted 5 lows highs
+pub mesh-accepted : Accepted 5 lows highs states
 unfolding opened
 mesh-accepted = refl
 
@@ -41,27 +44,28 @@ mesh-one-tree =
 abbrev dead : ℕ → Bool
 dead = eqb 2
 
-pub mesh-few-dead : deadCount 5 dead < 2
+pub mesh-few-dead : deadCount 5 states dead < 2
 unfolding opened
 mesh-few-dead = omega arith
 
 -- 4 and 1 are joined without relay 2: 4 3, 3 1.
-pub mesh-joined : Joined (Live 5 dead) (LinkOf lows highs AnyLink) 4 1
+pub mesh-joined : Joined (Live 5 states dead) (LinkOf lows highs (InService lows highs states)) 4 1
 unfolding opened
 mesh-joined =
-    onward {a = 4} {b = 3} (omega arith, refl) (6, omega arith, refl, tt)
-    (onward {a = 3} {b = 1} (omega arith, refl) (3, omega arith, refl, tt)
-    (alone {a = 1} (omega arith, refl)))
+    onward {a = 4} {b = 3} (omega arith, refl, refl) (6, omega arith, refl, refl)
+    (onward {a = 3} {b = 1} (omega arith, refl, refl) (3, omega arith, refl, refl)
+    (alone {a = 1} (omega arith, refl, refl)))
 
-mesh-holds : Holds 5 lows highs 2 (relaysAfter 5 lows highs (lent 5) (lent 5)) (placesAfter 5 lows highs (lent 5) (lent 5)) forests marks
+mesh-holds : Holds 5 lows highs states 2 (relaysAfter 5 lows highs states (lent 5) (lent 5)) (placesAfter 5 lows highs states (lent 5) (lent 5)) forests marks
 mesh-holds =
-    demand-three 5 lows highs mesh-accepted 2 (omega arith) (omega arith) (lent 5) (lent 5) (lent 7) (lent 7) (omega arith) (omega arith)
+    demand-three 5 lows highs states mesh-accepted 2 (omega arith) (omega arith) (lent 5) (lent 5) (lent 7) (lent 7) (omega arith) (omega arith)
     (omega arith) (omega arith)
 
 -- So they are joined over the kept links too,
-pub mesh-survives : Joined (Live 5 dead) (LinkOf lows highs (Kept marks)) 4 1
+pub mesh-survives : Joined (Live 5 states dead) (LinkOf lows highs (Kept marks)) 4 1
+unfolding serves
 mesh-survives =
-    mesh-holds .survives dead mesh-few-dead 4 1 (omega arith, refl) (omega arith, refl) .1 mesh-joined
+    mesh-holds .survives dead mesh-few-dead 4 1 (omega arith, refl, refl) (omega arith, refl, refl) .1 mesh-joined
 
 long : tooShort 5 2 (lent 2) (lent 7) (lent 10) ≡ false
 unfolding opened
@@ -69,7 +73,8 @@ long = refl
 
 -- and Route gives its routes.
 pub mesh-routes : RoutesHold 5 lows highs marks 2 4 1
-    (countsAfter 5 lows highs 2 4 1 (lent 2) (lent 7) (lent 10))
-    (routeRelaysAfter 5 lows highs 2 4 1 (lent 2) (lent 7) (lent 10))
+    (countsAfter 5 lows highs states 2 4 1 (lent 2) (lent 7) (lent 10))
+    (routeRelaysAfter 5 lows highs states 2 4 1 (lent 2) (lent 7) (lent 10))
+unfolding serves
 mesh-routes =
-    mesh-holds .routes 4 1 (omega arith) (omega arith) (omega arith) (lent 2) (lent 7) (lent 10) long .inOneTree mesh-one-tree .1
+    mesh-holds .routes 4 1 (omega arith) (omega arith) refl refl (omega arith) (lent 2) (lent 7) (lent 10) long .inOneTree mesh-one-tree .1

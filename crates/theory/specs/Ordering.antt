@@ -11,14 +11,14 @@ use lib.ListN.{length, getD, take, length-append}
 use lib.Seq.{take-all, take-append-le, getD-at, getD-take}
 use Rattle.definitions.specs.Lists.{has, count}
 use Rattle.definitions.specs.Demand.{NoRepeat}
-use Rattle.definitions.specs.Network.{linked as linkedIn}
-use Rattle.definitions.specs.Order.{weight, unplaced, heaviestOf, nextRelay, placeNext, placedAfter, allRelays, firstRelay, orderOf}
+use Rattle.definitions.specs.Network.{linked as linkedIn, serves}
+use Rattle.definitions.specs.Order.{weight, unplaced, heaviestOf, nextRelay, placeNext, placedAfter, servingRelays, firstRelay, orderOf}
 use Rattle.lists.specs.Tests.{and-both}
 use Rattle.lists.specs.Members.{has-at, has-keep, index-of}
 use Rattle.lists.specs.Distinct.{no-repeat-snoc, distinct}
 use Rattle.lists.specs.Counting.{count-has, count-not, count-once, count-present, length-keep, covers}
 use Rattle.lists.specs.Ascending.{Ascending, ascending-keep}
-use Rattle.theory.specs.AllRelays.{all-long, all-once, all-has, all-below, first-of-all}
+use Rattle.theory.specs.ServingRelays.{Serving, serving-few, serving-once, serving-has, serving-below, serving-serves, first-of-all}
 use Rattle.theory.specs.Heaviest.{Chosen, heaviestOf-chosen, chosen-has, chosen-most, chosen-is}
 
 -- What has no place yet: a candidate that is not placed.
@@ -222,49 +222,60 @@ module _
         )
         most
 
--- The order as it is defined: all the relays, `firstRelay` first.
-module _ (n : ℕ) (lows highs : List ℕ) where
-  pub order-length : length (orderOf n lows highs) ≡ n
+-- The order as it is defined: the relays in service, `firstRelay` first.
+module _ (n : ℕ) (lows highs states : List ℕ) where
+  pub order-length : length (orderOf n lows highs states) ≡ length (servingRelays n states)
   unfolding orderOf
-  order-length = placed-length (linkedIn lows highs) (firstRelay n lows highs) (allRelays n) n
+  order-length =
+      placed-length (linkedIn lows highs) (firstRelay n lows highs states) (servingRelays n states) (length (servingRelays n states))
 
-  pub order-no-repeat : NoRepeat (orderOf n lows highs)
+  pub order-few : length (orderOf n lows highs states) ≤ n
+  order-few = omega (arith, order-length, serving-few n states)
+
+  pub order-no-repeat : NoRepeat (orderOf n lows highs states)
   unfolding orderOf
   order-no-repeat =
-      placed-no-repeat (linkedIn lows highs) (firstRelay n lows highs) (allRelays n) (all-once n) (first-of-all n lows highs) n (omega (arith, all-long n))
+      placed-no-repeat (linkedIn lows highs) (firstRelay n lows highs states) (servingRelays n states) (serving-once n states)
+      (first-of-all n states lows highs) (length (servingRelays n states)) (omega arith)
 
-  pub order-below : (r : ℕ) → has (orderOf n lows highs) r ≡ true → r < n
+  pub order-serving : (r : ℕ) → has (orderOf n lows highs states) r ≡ true → has (servingRelays n states) r ≡ true
   unfolding orderOf
-  order-below r h =
-      let candidate =
-      placed-candidates (linkedIn lows highs) (firstRelay n lows highs) (allRelays n) (all-once n) (first-of-all n lows highs) n (omega (arith, all-long n)) r h in
-      all-below n r candidate
+  order-serving r h =
+      placed-candidates (linkedIn lows highs) (firstRelay n lows highs states) (servingRelays n states) (serving-once n states)
+      (first-of-all n states lows highs) (length (servingRelays n states)) (omega arith) r h
 
-  pub order-has : (r : ℕ) → r < n → has (orderOf n lows highs) r ≡ true
+  pub order-below : (r : ℕ) → has (orderOf n lows highs states) r ≡ true → r < n
+  order-below r h = serving-below n states r (order-serving r h)
+
+  pub order-serves : (r : ℕ) → has (orderOf n lows highs states) r ≡ true → serves states r ≡ true
+  order-serves r h = serving-serves n states r (order-serving r h)
+
+  pub order-has : (r : ℕ) → Serving n states r → has (orderOf n lows highs states) r ≡ true
   unfolding orderOf
-  order-has r h =
-      let placed =
-      placed-all (linkedIn lows highs) (firstRelay n lows highs) (allRelays n) (all-once n) (first-of-all n lows highs) r (all-has n r h) in
-      rw (all-long n) at placed
+  order-has r s =
+      placed-all (linkedIn lows highs) (firstRelay n lows highs states) (servingRelays n states) (serving-once n states)
+      (first-of-all n states lows highs) r (serving-has n states r s)
 
-  pub order-once : (r : ℕ) → r < n → count (eqb r) (orderOf n lows highs) ≡ 1
-  order-once r h =
-      let order = orderOf n lows highs in
-      omega (arith, count-once r order order-no-repeat, count-present r order (order-has r h))
+  pub order-once : (r : ℕ) → Serving n states r → count (eqb r) (orderOf n lows highs states) ≡ 1
+  order-once r s =
+      let order = orderOf n lows highs states in
+      omega (arith, count-once r order order-no-repeat, count-present r order (order-has r s))
 
-  pub order-at : (v : ℕ) → v < n → getD (orderOf n lows highs) v 0 < n
+  pub order-at : (v : ℕ) → v < length (orderOf n lows highs states) → getD (orderOf n lows highs states) v 0 < n
   order-at v h =
-      let order = orderOf n lows highs in
-      order-below (getD order v 0) (has-at order v (omega (arith, order-length)))
+      let order = orderOf n lows highs states in
+      order-below (getD order v 0) (has-at order v h)
 
-  pub order-maximal : (v w : ℕ) → v < w → w < n
-      → count (λ p. linkedIn lows highs p (getD (orderOf n lows highs) w 0)) (take v (orderOf n lows highs))
-      ≤ count (λ p. linkedIn lows highs p (getD (orderOf n lows highs) v 0)) (take v (orderOf n lows highs))
+  pub order-maximal : (v w : ℕ) → v < w → w < length (servingRelays n states)
+      → count (λ p. linkedIn lows highs p (getD (orderOf n lows highs states) w 0)) (take v (orderOf n lows highs states))
+      ≤ count (λ p. linkedIn lows highs p (getD (orderOf n lows highs states) v 0)) (take v (orderOf n lows highs states))
   unfolding orderOf
   order-maximal v w h k =
-      placed-maximal (linkedIn lows highs) (firstRelay n lows highs) (allRelays n) (all-once n) (first-of-all n lows highs) n v w (omega (arith, all-long n)) h k
+      placed-maximal (linkedIn lows highs) (firstRelay n lows highs states) (servingRelays n states) (serving-once n states)
+      (first-of-all n states lows highs) (length (servingRelays n states)) v w (omega arith) h k
 
   -- "the first relay is the one with the most links, of equals the lowest number"
-  pub order-first : 0 < n → getD (orderOf n lows highs) 0 0 ≡ firstRelay n lows highs
+  pub order-first : 0 < length (servingRelays n states) → getD (orderOf n lows highs states) 0 0 ≡ firstRelay n lows highs states
   unfolding orderOf placedAfter nextRelay
-  order-first h = placed-at (linkedIn lows highs) (firstRelay n lows highs) (allRelays n) n 0 h
+  order-first h =
+      placed-at (linkedIn lows highs) (firstRelay n lows highs states) (servingRelays n states) (length (servingRelays n states)) 0 h

@@ -19,6 +19,7 @@ use Rattle.lists.specs.Tests.{or-turn}
 use Rattle.lists.specs.Searches.{first-holds}
 use Rattle.lists.specs.Maps.{map-map}
 use Rattle.lists.specs.Steps.{stepsOf, stepsOf-map, length-all-steps}
+use Rattle.theory.specs.ServingRelays.{Serving}
 use Rattle.theory.specs.Arranged.{leftIn, Arranged, base-arranged}
 use Rattle.theory.specs.RelayTrees.{AliveBetween, places-differ, one-tree-alive, one-tree-test}
 use Rattle.theory.specs.ForestBound.{forests-at}
@@ -92,34 +93,34 @@ module _ (order lows highs : List ℕ) (arranged : Arranged order lows highs) wh
       (λ x y. pair-turn lows highs (relayAt order x) (relayAt order y)) look-gives (arranged .laws) k p q differ alive
 
 -- The base: the links of Route's routes.
-pub overs-found : (n : ℕ) (lows highs : List ℕ) → Accepted n lows highs → (k from to : ℕ) → from < n → to < n → from ≢ to
-    → AliveBetween (leftOf n lows highs) k (placeOf (orderOf n lows highs) from) (placeOf (orderOf n lows highs) to)
-    → oversOf n lows highs k from to ≡ map (stepsOf (pairLink lows highs)) (routesOf n lows highs k from to)
+pub overs-found : (n : ℕ) (lows highs states : List ℕ) → Accepted n lows highs states → (k from to : ℕ) → Serving n states from → Serving n states to → from ≢ to
+    → AliveBetween (leftOf n lows highs states) k (placeOf (orderOf n lows highs states) from) (placeOf (orderOf n lows highs states) to)
+    → oversOf n lows highs states k from to ≡ map (stepsOf (pairLink lows highs)) (routesOf n lows highs states k from to)
 unfolding oversOf entryOf leftOf routesOf
-overs-found n lows highs ok k from to hf ht differ alive =
-    let order : List ℕ = orderOf n lows highs in
+overs-found n lows highs states ok k from to hf ht differ alive =
+    let order : List ℕ = orderOf n lows highs states in
     let routes : List (List ℕ) = routesBetween (leftIn order lows highs) k (placeOf order from) (placeOf order to) in
-    overs-in order lows highs (base-arranged n lows highs ok) k (placeOf order from) (placeOf order to)
-    (places-differ n lows highs from to hf ht differ) alive
+    overs-in order lows highs (base-arranged n lows highs states ok) k (placeOf order from) (placeOf order to)
+    (places-differ n lows highs states from to hf ht differ) alive
     ∙ ap (λ (f : List ℕ → List ℕ). map f routes) (fun-ext λ l. sym (stepsOf-map (pairLink lows highs) (relayAt order) l))
     ∙ sym (map-map (stepsOf (pairLink lows highs)) (map (relayAt order)) routes)
 
 -- The base, from Route's test of one tree.
-module _ (n : ℕ) (lows highs : List ℕ) (ok : Accepted n lows highs) (k from to : ℕ) (hf : from < n) (ht : to < n) (differ : from ≢ to)
-    (tree : oneTreeOf n lows highs k from to ≡ true) where
-  pub tree-between : AliveBetween (leftOf n lows highs) k (placeOf (orderOf n lows highs) from) (placeOf (orderOf n lows highs) to)
+module _ (n : ℕ) (lows highs states : List ℕ) (ok : Accepted n lows highs states) (k : ℕ) (one : 1 ≤ k) (from to : ℕ) (hf : Serving n states from) (ht : Serving n states to) (differ : from ≢ to)
+    (tree : oneTreeOf n lows highs states k from to ≡ true) where
+  pub tree-between : AliveBetween (leftOf n lows highs states) k (placeOf (orderOf n lows highs states) from) (placeOf (orderOf n lows highs states) to)
   tree-between =
-      one-tree-alive n lows highs ok (forestsOf n lows highs) (forests-at n lows highs) k from to hf ht differ .0
-      (one-tree-test n lows highs ok (forestsOf n lows highs) (forests-at n lows highs) k from to hf ht differ .1 tree)
+      one-tree-alive n lows highs states ok (forestsOf n lows highs states) (forests-at n lows highs states) k one from to hf ht differ .0
+      (one-tree-test n lows highs states ok (forestsOf n lows highs states) (forests-at n lows highs states) k one from to hf ht differ .1 tree)
 
   -- On each route one link less than relays: n − 2 + k at most in all.
-  pub overs-fit : 1 ≤ k → length (joinAll (oversOf n lows highs k from to)) ≤ n - 2 + k
-  overs-fit one =
-      let routes : List (List ℕ) = routesOf n lows highs k from to in
-      let holds = routes-hold n lows highs ok k one (marksOf n lows highs k) (mark-entry n lows highs k) from to hf ht differ tree-between in
+  pub overs-fit : length (joinAll (oversOf n lows highs states k from to)) ≤ n - 2 + k
+  overs-fit =
+      let routes : List (List ℕ) = routesOf n lows highs states k from to in
+      let holds = routes-hold n lows highs states ok k one (marksOf n lows highs states k) (mark-entry n lows highs states k) from to hf ht differ tree-between in
       omega (
         arith,
-        ap (λ (l : List (List ℕ)). length (joinAll l)) (overs-found n lows highs ok k from to hf ht differ tree-between),
+        ap (λ (l : List (List ℕ)). length (joinAll l)) (overs-found n lows highs states ok k from to hf ht differ tree-between),
         length-all-steps (pairLink lows highs) routes (λ i less. omega (arith, holds .each i (omega (arith, holds .number)) .long)),
         holds .number,
         holds .written,

@@ -1,7 +1,7 @@
 -- Relays and places turn one into the other, in any order without repeats and in the base's; and Order's two lists are a maximal
 -- adjacency ordering.
 use Prim.Native.Nat.{ℕ, zero, suc, _-_, _≤_, _<_, pred}
-use mathlib.Core.Bool.{Bool, true, false, _||_}
+use mathlib.Core.Bool.{Bool, true, false, _||_, true≢false}
 use mathlib.Core.List.{List, []}
 use mathlib.Core.Logic.{_≢_}
 use mathlib.Core.Path.{_≡_, refl, sym, _∙_, ap}
@@ -12,17 +12,17 @@ use lib.Dec.{ltb}
 use lib.ListN.{length, getD}
 use Rattle.definitions.specs.Outcome.{done, refuseIf}
 use Rattle.definitions.specs.Lists.{overwrite, has}
-use Rattle.definitions.specs.Network.{tableCheck, Accepted}
+use Rattle.definitions.specs.Network.{serves, tableCheck, Accepted}
 use Rattle.definitions.specs.Demand.{NoRepeat, MaximalOrder}
-use Rattle.definitions.specs.Order.{firstRelay, orderOf, placeOf, relayAt, orderAnswer, placesOf, relaysAfter, placesAfter}
+use Rattle.definitions.specs.Order.{servingRelays, firstRelay, orderOf, placeOf, relayAt, orderAnswer, placesOf, relaysAfter, placesAfter}
 use Rattle.lists.specs.Outcomes.{refuse-not, then-done, if-done}
 use Rattle.lists.specs.Tests.{or-neither}
 use Rattle.lists.specs.Tables.{length-table, getD-table}
 use Rattle.lists.specs.Overwritten.{getD-overwrite, take-overwrite}
 use Rattle.lists.specs.Members.{has-at}
 use Rattle.lists.specs.Positions.{position-which, position-at, position-absent}
-use Rattle.theory.specs.AllRelays.{first-busiest, first-lowest}
-use Rattle.theory.specs.Ordering.{order-length, order-no-repeat, order-has, order-at, order-maximal, order-first}
+use Rattle.theory.specs.ServingRelays.{Serving, serving-has, serving-some, first-busiest, first-lowest}
+use Rattle.theory.specs.Ordering.{order-length, order-no-repeat, order-has, order-below, order-serves, order-maximal, order-first}
 
 pub relay-of-place : (order : List ℕ) (r : ℕ) → has order r ≡ true
     → (1 ≤ placeOf order r) × (placeOf order r ≤ length order) × (relayAt order (placeOf order r) ≡ r)
@@ -54,101 +54,123 @@ unfolding placeOf relayAt
 place-of-relay order d zero h k = absurd (omega arith)
 place-of-relay order d (suc v) h k = position-at order d v k
 
-module _ (n : ℕ) (lows highs : List ℕ) where
-  -- The place of a relay, and the relay back.
-  pub relay-placed : (r : ℕ) → r < n
-      → (1 ≤ placeOf (orderOf n lows highs) r)
-      × (placeOf (orderOf n lows highs) r ≤ n)
-      × (relayAt (orderOf n lows highs) (placeOf (orderOf n lows highs) r) ≡ r)
-  relay-placed r h =
-      let w = relay-of-place (orderOf n lows highs) r (order-has n lows highs r h) in
-      (w .0, omega (arith, w .1, order-length n lows highs), w .2)
+module _ (n : ℕ) (lows highs states : List ℕ) where
+  -- The place of a relay in service, and the relay back; a withdrawn one has none.
+  pub relay-placed : (r : ℕ) → Serving n states r
+      → (1 ≤ placeOf (orderOf n lows highs states) r)
+      × (placeOf (orderOf n lows highs states) r ≤ length (servingRelays n states))
+      × (relayAt (orderOf n lows highs states) (placeOf (orderOf n lows highs states) r) ≡ r)
+  relay-placed r s =
+      let w = relay-of-place (orderOf n lows highs states) r (order-has n lows highs states r s) in
+      (w .0, omega (arith, w .1, order-length n lows highs states), w .2)
+
+  pub relay-unplaced : (r : ℕ) → serves states r ≡ false → placeOf (orderOf n lows highs states) r ≡ 0
+  unfolding placeOf
+  relay-unplaced r s = position-absent (orderOf n lows highs states) r (go (has (orderOf n lows highs states) r) refl)
+    where
+      go : (b : Bool) → has (orderOf n lows highs states) r ≡ b → b ≡ false
+      go true e = absurd (true≢false (sym (order-serves n lows highs states r e) ∙ s))
+      go false e = refl
 
   -- The relay at a place, and the place back.
-  pub place-named : (v : ℕ) → 1 ≤ v → v ≤ n
-      → (relayAt (orderOf n lows highs) v < n) × (placeOf (orderOf n lows highs) (relayAt (orderOf n lows highs) v) ≡ v)
-  unfolding relayAt
+  pub place-named : (v : ℕ) → 1 ≤ v → v ≤ length (servingRelays n states)
+      → (relayAt (orderOf n lows highs states) v < n)
+      × (serves states (relayAt (orderOf n lows highs states) v) ≡ true)
+      × (placeOf (orderOf n lows highs states) (relayAt (orderOf n lows highs states) v) ≡ v)
   place-named v h k =
-      let order = orderOf n lows highs in (
-        order-at n lows highs (pred v) (omega arith),
-        place-of-relay order (order-no-repeat n lows highs) v h (omega (arith, order-length n lows highs)),
+      let order = orderOf n lows highs states in
+      let within : v ≤ length order = omega (arith, order-length n lows highs states) in
+      let found = relay-in order v h within in (
+        order-below n lows highs states (relayAt order v) found,
+        order-serves n lows highs states (relayAt order v) found,
+        place-of-relay order (order-no-repeat n lows highs states) v h within,
       )
 
-  order-done : (relays places : List ℕ) → Accepted n lows highs → n ≤ length relays → n ≤ length places
-      → orderAnswer n lows highs relays places ≡ done []
+  order-done : (relays places : List ℕ) → Accepted n lows highs states → n ≤ length relays → n ≤ length places
+      → orderAnswer n lows highs states relays places ≡ done []
   unfolding orderAnswer
   order-done relays places accepted h k =
       let short = ltb (length relays) n || ltb (length places) n in
       let enough =
       or-neither (ltb (length relays) n) (ltb (length places) n)
       (le-ltb (length relays) n h) (le-ltb (length places) n k) in
-      then-done (tableCheck n lows highs) (λ _. refuseIf short 12 0 (done [])) [] accepted ∙ refuse-not short 12 0 (done []) enough
+      then-done (tableCheck n lows highs states) (λ _. refuseIf short 12 0 (done [])) [] accepted
+      ∙ refuse-not short 12 0 (done []) enough
 
-  pub relays-after : (relays places : List ℕ) → Accepted n lows highs → n ≤ length relays → n ≤ length places
-      → relaysAfter n lows highs relays places ≡ overwrite (orderOf n lows highs) relays
+  pub relays-after : (relays places : List ℕ) → Accepted n lows highs states → n ≤ length relays → n ≤ length places
+      → relaysAfter n lows highs states relays places ≡ overwrite (orderOf n lows highs states) relays
   unfolding relaysAfter
   relays-after relays places accepted h k =
-      if-done (orderAnswer n lows highs relays places) [] (overwrite (orderOf n lows highs) relays) relays
+      if-done (orderAnswer n lows highs states relays places) [] (overwrite (orderOf n lows highs states) relays) relays
       (order-done relays places accepted h k)
 
-  pub places-after : (relays places : List ℕ) → Accepted n lows highs → n ≤ length relays → n ≤ length places
-      → placesAfter n lows highs relays places ≡ overwrite (placesOf n (orderOf n lows highs)) places
+  pub places-after : (relays places : List ℕ) → Accepted n lows highs states → n ≤ length relays → n ≤ length places
+      → placesAfter n lows highs states relays places ≡ overwrite (placesOf n (orderOf n lows highs states)) places
   unfolding placesAfter
   places-after relays places accepted h k =
-      if-done (orderAnswer n lows highs relays places) [] (overwrite (placesOf n (orderOf n lows highs)) places) places
+      if-done (orderAnswer n lows highs states relays places) [] (overwrite (placesOf n (orderOf n lows highs states)) places) places
       (order-done relays places accepted h k)
 
   -- The lists as Order leaves them, entry by entry.
-  relay-entry : (relays : List ℕ) (v : ℕ) → v < n
-      → getD (overwrite (orderOf n lows highs) relays) v 0 ≡ relayAt (orderOf n lows highs) (suc v)
+  relay-entry : (relays : List ℕ) (v : ℕ) → v < length (servingRelays n states)
+      → getD (overwrite (orderOf n lows highs states) relays) v 0 ≡ relayAt (orderOf n lows highs states) (suc v)
   unfolding relayAt
-  relay-entry relays v h = getD-overwrite (orderOf n lows highs) relays v 0 (omega (arith, order-length n lows highs))
+  relay-entry relays v h =
+      getD-overwrite (orderOf n lows highs states) relays v 0 (omega (arith, order-length n lows highs states))
 
   place-entry : (places : List ℕ) (r : ℕ) → r < n
-      → getD (overwrite (placesOf n (orderOf n lows highs)) places) r 0 ≡ placeOf (orderOf n lows highs) r
+      → getD (overwrite (placesOf n (orderOf n lows highs states)) places) r 0 ≡ placeOf (orderOf n lows highs states) r
   unfolding placesOf
   place-entry places r h =
-      let order = orderOf n lows highs in
+      let order = orderOf n lows highs states in
       let long = length-table (placeOf order) 0 n in
       getD-overwrite (placesOf n order) places r 0 (omega arith)
       ∙ getD-table (placeOf order) 0 n r 0 h
       ∙ ap (placeOf order) (zero-add r)
 
   maximal-lists : (relays places : List ℕ)
-      → MaximalOrder n lows highs (overwrite (orderOf n lows highs) relays) (overwrite (placesOf n (orderOf n lows highs)) places)
+      → MaximalOrder n lows highs states
+      (overwrite (orderOf n lows highs states) relays) (overwrite (placesOf n (orderOf n lows highs states)) places)
   unfolding relayAt
   maximal-lists relays places =
       record {
-        placed = λ r h.
-            let w = relay-placed r h in
-            let at : placeOf order r - 1 < n = omega (arith, w .0, w .1) in
+        placed = λ r h s.
+            let w = relay-placed r (h, s) in
+            let at : placeOf order r - 1 < length (servingRelays n states) = omega (arith, w .0, w .1) in
             let back : suc (placeOf order r - 1) ≡ placeOf order r = omega (arith, w .0) in
             rw (place-entry places r h)
             (w .0, w .1, relay-entry relays (placeOf order r - 1) at ∙ ap (relayAt order) back ∙ w .2);
+        unplaced = λ r h s. place-entry places r h ∙ relay-unplaced r s;
         named = λ v h.
             let w = place-named (suc v) (omega arith) h in
-            rw (relay-entry relays v h) (w .0, place-entry places (relayAt order (suc v)) (w .0) ∙ w .1 ∙ omega arith);
+            rw (relay-entry relays v h) (w .0, w .1, place-entry places (relayAt order (suc v)) (w .0) ∙ w .2 ∙ omega arith);
         maximal = λ v w h k.
             rw (
-              take-overwrite order relays v (omega (arith, order-length n lows highs)),
-              getD-overwrite order relays v 0 (omega (arith, order-length n lows highs)),
-              getD-overwrite order relays w 0 (omega (arith, order-length n lows highs)),
+              take-overwrite order relays v (omega (arith, long)),
+              getD-overwrite order relays v 0 (omega (arith, long)),
+              getD-overwrite order relays w 0 (omega (arith, long)),
             )
-            (order-maximal n lows highs v w h k);
-        busiest = λ r h. rw (first-entry (omega arith)) (first-busiest n lows highs r h);
-        lowest = λ r h. rw (first-entry (omega arith)) (first-lowest n lows highs r h);
+            (order-maximal n lows highs states v w h k);
+        busiest = λ r h s.
+            let found = serving-has n states r (h, s) in
+            rw (first-entry (serving-some n states r found)) (first-busiest n states lows highs r found);
+        lowest = λ r h s.
+            let found = serving-has n states r (h, s) in
+            rw (first-entry (serving-some n states r found)) (first-lowest n states lows highs r found);
       }
     where
       order : List ℕ
-      order = orderOf n lows highs
+      order = orderOf n lows highs states
 
-      first-entry : 0 < n → getD (overwrite order relays) 0 0 ≡ firstRelay n lows highs
-      first-entry some =
-          getD-overwrite order relays 0 0 (omega (arith, order-length n lows highs)) ∙ order-first n lows highs some
+      long : length (orderOf n lows highs states) ≡ length (servingRelays n states)
+      long = order-length n lows highs states
 
-pub maximal-order : (n : ℕ) (lows highs relays places : List ℕ)
-    → Accepted n lows highs → n ≤ length relays → n ≤ length places
-    → MaximalOrder n lows highs (relaysAfter n lows highs relays places) (placesAfter n lows highs relays places)
-maximal-order n lows highs relays places accepted h k =
-    rw (relays-after n lows highs relays places accepted h k, places-after n lows highs relays places accepted h k)
-    (maximal-lists n lows highs relays places)
+      first-entry : 0 < length (servingRelays n states) → getD (overwrite order relays) 0 0 ≡ firstRelay n lows highs states
+      first-entry some = getD-overwrite order relays 0 0 (omega (arith, long)) ∙ order-first n lows highs states some
+
+pub maximal-order : (n : ℕ) (lows highs states relays places : List ℕ)
+    → Accepted n lows highs states → n ≤ length relays → n ≤ length places
+    → MaximalOrder n lows highs states (relaysAfter n lows highs states relays places) (placesAfter n lows highs states relays places)
+maximal-order n lows highs states relays places accepted h k =
+    rw (relays-after n lows highs states relays places accepted h k, places-after n lows highs states relays places accepted h k)
+    (maximal-lists n lows highs states relays places)

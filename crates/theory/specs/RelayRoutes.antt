@@ -18,7 +18,8 @@ use Rattle.lists.specs.Maps.{getD-map}
 use Rattle.lists.specs.Cuts.{length-joinAll-map}
 use Rattle.theory.specs.JoinedRelays.{along-map}
 use Rattle.lists.specs.Ends.{two-entries}
-use Rattle.theory.specs.Ordering.{order-length, order-has, order-below}
+use Rattle.theory.specs.ServingRelays.{Serving}
+use Rattle.theory.specs.Ordering.{order-few, order-has, order-below, order-serves}
 use Rattle.theory.specs.Places.{relay-of-place, place-of-relay, relay-in, places-apart}
 use Rattle.theory.specs.Arranged.{leftIn, Arranged, base-arranged}
 use Rattle.theory.specs.Columns.{MarkedIn, Marked}
@@ -36,13 +37,13 @@ pub record RoutesThrough (n : ℕ) (relay : ℕ → Type 0) (lows highs marks : 
   pub apart : (i j : ℕ) → i < k → j < k → i ≢ j → Apart lows highs from to (getD routes i []) (getD routes j [])
   pub written : length (joinAll routes) ≤ n - 2 + 2 * k
 
--- Through the relays of an order, and through all relays of the base.
+-- Through the relays of an order, and through the relays in service of the base.
 abbrev pub RoutesIn : (order lows highs marks : List ℕ) (k from to : ℕ) (routes : List (List ℕ)) → Type 0
 RoutesIn order lows highs marks k from to routes =
     RoutesThrough (length order) (λ r. has order r ≡ true) lows highs marks k from to routes
 
-abbrev pub RelayRoutes : ℕ → List ℕ → List ℕ → List ℕ → ℕ → ℕ → ℕ → List (List ℕ) → Type 0
-RelayRoutes n lows highs marks k from to routes = RoutesThrough n (λ r. r < n) lows highs marks k from to routes
+abbrev pub RelayRoutes : (n : ℕ) (lows highs states marks : List ℕ) (k from to : ℕ) (routes : List (List ℕ)) → Type 0
+RelayRoutes n lows highs states marks k from to routes = RoutesThrough n (Serving n states) lows highs marks k from to routes
 
 module _ (order lows highs : List ℕ) (arranged : Arranged order lows highs) (k : ℕ) (marks : List ℕ)
     (marked : MarkedIn order lows highs k marks) where
@@ -161,19 +162,19 @@ module _ (order lows highs : List ℕ) (arranged : Arranged order lows highs) (k
       (places-apart order from to hf ht differ) alive)
 
 -- The base: the routes of Route.
-pub routes-hold : (n : ℕ) (lows highs : List ℕ) → Accepted n lows highs → (k : ℕ) → 1 ≤ k → (marks : List ℕ) → Marked n lows highs k marks
-    → (from to : ℕ) → from < n → to < n → from ≢ to
-    → AliveBetween (leftOf n lows highs) k (placeOf (orderOf n lows highs) from) (placeOf (orderOf n lows highs) to)
-    → RelayRoutes n lows highs marks k from to (routesOf n lows highs k from to)
+pub routes-hold : (n : ℕ) (lows highs states : List ℕ) → Accepted n lows highs states → (k : ℕ) → 1 ≤ k → (marks : List ℕ) → Marked n lows highs states k marks
+    → (from to : ℕ) → Serving n states from → Serving n states to → from ≢ to
+    → AliveBetween (leftOf n lows highs states) k (placeOf (orderOf n lows highs states) from) (placeOf (orderOf n lows highs states) to)
+    → RelayRoutes n lows highs states marks k from to (routesOf n lows highs states k from to)
 unfolding routesOf leftOf
-routes-hold n lows highs ok k one marks marked from to hf ht differ alive =
+routes-hold n lows highs states ok k one marks marked from to hf ht differ alive =
     let r =
-    routes-in (orderOf n lows highs) lows highs (base-arranged n lows highs ok) k marks marked one from to
-    (order-has n lows highs from hf) (order-has n lows highs to ht) differ alive in
+    routes-in (orderOf n lows highs states) lows highs (base-arranged n lows highs states ok) k marks marked one from to
+    (order-has n lows highs states from hf) (order-has n lows highs states to ht) differ alive in
     record {
       number = r .number;
       each = r .each;
-      within = λ i h x e. order-below n lows highs x (r .within i h x e);
+      within = λ i h x e. let placed = r .within i h x e in (order-below n lows highs states x placed, order-serves n lows highs states x placed);
       apart = r .apart;
-      written = omega (arith, r .written, order-length n lows highs);
+      written = omega (arith, r .written, order-few n lows highs states);
     }

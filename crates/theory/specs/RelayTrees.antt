@@ -17,10 +17,11 @@ use Rattle.definitions.specs.Demand.{Joined, OneTree}
 use Rattle.theory.specs.JoinedRelays.{joined-sym, joined-map}
 use Rattle.theory.specs.LeftLaws.{LeftLaws}
 use Rattle.theory.specs.Trees.{Alive, TreeLink, treeLink-sym, chain-alive, oneTree-alive, oneTree-sym}
+use Rattle.theory.specs.ServingRelays.{Serving}
 use Rattle.theory.specs.Ordering.{order-has}
 use Rattle.theory.specs.Places.{relay-of-place, places-apart}
 use Rattle.theory.specs.Left.{left-count}
-use Rattle.theory.specs.ForestNumbers.{AllPlaced, links-placed}
+use Rattle.theory.specs.ForestNumbers.{AllPlaced, forest-placed}
 use Rattle.theory.specs.Arranged.{leftIn, Arranged, base-arranged}
 use Rattle.theory.specs.Columns.{NumberedIn, Numbered}
 use Rattle.theory.specs.TableLinks.{forest-link, forest-places}
@@ -93,33 +94,33 @@ module _ (order lows highs : List ℕ) (arranged : Arranged order lows highs)
     )
 
 -- The base.
-pub places-differ : (n : ℕ) (lows highs : List ℕ) (a b : ℕ) → a < n → b < n → a ≢ b
-    → placeOf (orderOf n lows highs) a ≢ placeOf (orderOf n lows highs) b
-places-differ n lows highs a b ha hb =
-    places-apart (orderOf n lows highs) a b (order-has n lows highs a ha) (order-has n lows highs b hb)
+pub places-differ : (n : ℕ) (lows highs states : List ℕ) (a b : ℕ) → Serving n states a → Serving n states b → a ≢ b
+    → placeOf (orderOf n lows highs states) a ≢ placeOf (orderOf n lows highs states) b
+places-differ n lows highs states a b ha hb =
+    places-apart (orderOf n lows highs states) a b (order-has n lows highs states a ha) (order-has n lows highs states b hb)
 
-module _ (n : ℕ) (lows highs : List ℕ) (ok : Accepted n lows highs) (forests : List ℕ) (numbered : Numbered n lows highs forests)
-    (f a b : ℕ) (ha : a < n) (hb : b < n) (differ : a ≢ b) where
-  all-placed : AllPlaced (orderOf n lows highs) lows highs f
-  all-placed i h e = links-placed n lows highs ok i h
+module _ (n : ℕ) (lows highs states : List ℕ) (ok : Accepted n lows highs states) (forests : List ℕ) (numbered : Numbered n lows highs states forests)
+    (f : ℕ) (one : 1 ≤ f) (a b : ℕ) (ha : Serving n states a) (hb : Serving n states b) (differ : a ≢ b) where
+  all-placed : AllPlaced (orderOf n lows highs states) lows highs f
+  all-placed = forest-placed (orderOf n lows highs states) lows highs f one
 
   pub one-tree-alive : OneTree lows highs forests f a b
-      ↔ AliveBetween (leftOf n lows highs) f (placeOf (orderOf n lows highs) a) (placeOf (orderOf n lows highs) b)
+      ↔ AliveBetween (leftOf n lows highs states) f (placeOf (orderOf n lows highs states) a) (placeOf (orderOf n lows highs states) b)
   unfolding leftOf
   one-tree-alive =
-      tree-alive (orderOf n lows highs) lows highs (base-arranged n lows highs ok) forests numbered f all-placed a b
-      (order-has n lows highs a ha) (order-has n lows highs b hb) differ
+      tree-alive (orderOf n lows highs states) lows highs (base-arranged n lows highs states ok) forests numbered f all-placed a b
+      (order-has n lows highs states a ha) (order-has n lows highs states b hb) differ
 
-  pub one-tree-test : OneTree lows highs forests f a b ↔ (oneTreeOf n lows highs f a b ≡ true)
+  pub one-tree-test : OneTree lows highs forests f a b ↔ (oneTreeOf n lows highs states f a b ≡ true)
   unfolding oneTreeOf leftOf
   one-tree-test =
-      tree-test (orderOf n lows highs) lows highs (base-arranged n lows highs ok) forests numbered f all-placed a b
-      (order-has n lows highs a ha) (order-has n lows highs b hb) differ
+      tree-test (orderOf n lows highs states) lows highs (base-arranged n lows highs states ok) forests numbered f all-placed a b
+      (order-has n lows highs states a ha) (order-has n lows highs states b hb) differ
 
-  pub one-tree-neighbours : 1 ≤ f → OneTree lows highs forests f a b
-      ↔ ((x : ℕ) → min (placeOf (orderOf n lows highs) a) (placeOf (orderOf n lows highs) b) < x
-      → x ≤ max (placeOf (orderOf n lows highs) a) (placeOf (orderOf n lows highs) b)
-      → f ≤ length (earlier (linked lows highs) (orderOf n lows highs) x))
+  pub one-tree-neighbours : OneTree lows highs forests f a b
+      ↔ ((x : ℕ) → min (placeOf (orderOf n lows highs states) a) (placeOf (orderOf n lows highs states) b) < x
+      → x ≤ max (placeOf (orderOf n lows highs states) a) (placeOf (orderOf n lows highs states) b)
+      → f ≤ length (earlier (linked lows highs) (orderOf n lows highs states) x))
   one-tree-neighbours =
-      tree-neighbours (orderOf n lows highs) lows highs (base-arranged n lows highs ok) forests numbered f all-placed a b
-      (order-has n lows highs a ha) (order-has n lows highs b hb) differ
+      tree-neighbours (orderOf n lows highs states) lows highs (base-arranged n lows highs states ok) forests numbered f all-placed a b
+      (order-has n lows highs states a ha) (order-has n lows highs states b hb) differ one

@@ -13,7 +13,7 @@ use Rattle.definitions.specs.Lists.{count}
 use Rattle.definitions.specs.Network.{Accepted}
 use Rattle.definitions.specs.Forests.{marksOf}
 use Rattle.definitions.specs.Plan.{Sheet}
-use Rattle.definitions.specs.Demand.{AnyLink, RouteHolds}
+use Rattle.definitions.specs.Demand.{InService, RouteHolds}
 use Rattle.definitions.specs.SheetHolds.{SheetHolds}
 use Rattle.definitions.specs.SheetTest.{routesHold, sheetHolds}
 use Rattle.lists.specs.Tests.{and-both, and-all}
@@ -24,26 +24,27 @@ use Rattle.theory.specs.SheetRoute.{NewTo}
 use Rattle.theory.specs.SheetRoutes.{GoodRoutes, good-routes, routes-good}
 
 -- The two ends of a route differ.
-ends-differ : (lows highs : List ℕ) (from to : ℕ) (route : List ℕ) → RouteHolds lows highs AnyLink from to route → from ≢ to
-ends-differ lows highs from to route holds e =
+ends-differ : (lows highs : List ℕ) (picked : ℕ → Type 0) (from to : ℕ) (route : List ℕ) → RouteHolds lows highs picked from to route
+    → from ≢ to
+ends-differ lows highs picked from to route holds e =
     let last : length route - 1 < length route = omega (arith, holds .long) in
     let same : 0 ≡ length route - 1 =
     same-index route (holds .noRepeat) 0 (length route - 1) (omega arith) last (holds .starts ∙ e ∙ sym (holds .ends)) in
     omega (arith, holds .long)
 
-module _ (n : ℕ) (lows highs : List ℕ) (sheet : Sheet) where
+module _ (n : ℕ) (lows highs states : List ℕ) (sheet : Sheet) where
   -- The sheet's routes are good, `from` being the one relay met before the first step; the test of that; and the cut's count.
   abbrev Good : Type 0
-  Good = GoodRoutes n lows highs (sheet .from) (sheet .to) (eqb (sheet .from)) false (sheet .routes) (sheet .overs)
+  Good = GoodRoutes n lows highs states (sheet .from) (sheet .to) (eqb (sheet .from)) false (sheet .routes) (sheet .overs)
 
   abbrev tested : Bool
-  tested = routesHold n lows highs (sheet .from) (sheet .to) (eqb (sheet .from)) false (sheet .routes) (sheet .overs)
+  tested = routesHold n lows highs states (sheet .from) (sheet .to) (eqb (sheet .from)) false (sheet .routes) (sheet .overs)
 
   abbrev marked : ℕ
-  marked = count (eqb 1) (marksOf n lows highs (sheet .k))
+  marked = count (eqb 1) (marksOf n lows highs states (sheet .k))
 
   -- The test in its three parts, both ways.
-  parts : sheetHolds n lows highs sheet ≡ true
+  parts : sheetHolds n lows highs states sheet ≡ true
       → (length (sheet .routes) ≡ sheet .k) × (tested ≡ true) × (sheet .kept ≡ marked)
   unfolding sheetHolds
   parts e =
@@ -51,7 +52,7 @@ module _ (n : ℕ) (lows highs : List ℕ) (sheet : Sheet) where
       let rest = and-both tested (eqb (sheet .kept) marked) (first .1) in
       (eqb-true (length (sheet .routes)) (sheet .k) (first .0), rest .0, eqb-true (sheet .kept) marked (rest .1))
 
-  whole : length (sheet .routes) ≡ sheet .k → tested ≡ true → sheet .kept ≡ marked → sheetHolds n lows highs sheet ≡ true
+  whole : length (sheet .routes) ≡ sheet .k → tested ≡ true → sheet .kept ≡ marked → sheetHolds n lows highs states sheet ≡ true
   unfolding sheetHolds
   whole many good kept =
       and-all (eqb (length (sheet .routes)) (sheet .k)) (tested && eqb (sheet .kept) marked)
@@ -60,14 +61,14 @@ module _ (n : ℕ) (lows highs : List ℕ) (sheet : Sheet) where
 
   -- A sheet whose routes are good holds,
   good-holds : 1 ≤ sheet .k → sheet .k ≤ 32 → length (sheet .routes) ≡ sheet .k → Good → sheet .kept ≡ marked
-      → SheetHolds n lows highs AnyLink sheet
+      → SheetHolds n lows highs states (InService lows highs states) sheet
   good-holds some few many good kept =
       record {
         some = some;
         few = few;
         many = many;
         differ =
-            ends-differ lows highs (sheet .from) (sheet .to) (getD (sheet .routes) 0 []) (good .each 0 (omega (arith, many)) .holds);
+            ends-differ lows highs (InService lows highs states) (sheet .from) (sheet .to) (getD (sheet .routes) 0 []) (good .each 0 (omega (arith, many)) .holds);
         each = λ i h. good .each i (omega (arith, many)) .holds;
         below = λ i h. good .each i (omega (arith, many)) .below;
         apart = λ i j hi hj ne.
@@ -80,7 +81,7 @@ module _ (n : ℕ) (lows highs : List ℕ) (sheet : Sheet) where
       }
 
   -- and the routes of a sheet that holds are good.
-  holds-good : SheetHolds n lows highs AnyLink sheet → Good
+  holds-good : SheetHolds n lows highs states (InService lows highs states) sheet → Good
   holds-good holds =
       record {
         even = holds .manyOvers ∙ sym (holds .many);
@@ -102,19 +103,19 @@ module _ (n : ℕ) (lows highs : List ℕ) (sheet : Sheet) where
       fresh r false e = inr (inr e)
 
 -- "say whether it holds": the test says yes exactly if the sheet holds.
-pub holds-exactly : (n : ℕ) (lows highs : List ℕ) → Accepted n lows highs → (sheet : Sheet) → 1 ≤ sheet .k → sheet .k ≤ 32
-    → (sheetHolds n lows highs sheet ≡ true) ↔ SheetHolds n lows highs AnyLink sheet
-holds-exactly n lows highs ok sheet some few =
+pub holds-exactly : (n : ℕ) (lows highs states : List ℕ) → Accepted n lows highs states → (sheet : Sheet) → 1 ≤ sheet .k → sheet .k ≤ 32
+    → (sheetHolds n lows highs states sheet ≡ true) ↔ SheetHolds n lows highs states (InService lows highs states) sheet
+holds-exactly n lows highs states ok sheet some few =
     let from = sheet .from in
     let started : eqb from from ≡ true = eq-eqb from from refl in (
       λ e.
-          let p = parts n lows highs sheet e in
-          good-holds n lows highs sheet some few (p .0)
-          (routes-good n lows highs from (sheet .to) (accepted n lows highs ok) (eqb from) started false (sheet .routes) (sheet .overs) (p .1))
+          let p = parts n lows highs states sheet e in
+          good-holds n lows highs states sheet some few (p .0)
+          (routes-good n lows highs states from (sheet .to) (accepted n lows highs states ok) (eqb from) started false (sheet .routes) (sheet .overs) (p .1))
           (p .2),
       λ holds.
-          whole n lows highs sheet (holds .many)
-          (good-routes n lows highs from (sheet .to) (eqb from) started false (sheet .routes) (sheet .overs)
-          (holds-good n lows highs sheet holds))
+          whole n lows highs states sheet (holds .many)
+          (good-routes n lows highs states from (sheet .to) (eqb from) started false (sheet .routes) (sheet .overs)
+          (holds-good n lows highs states sheet holds))
           (holds .kept),
     )

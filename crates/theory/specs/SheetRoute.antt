@@ -11,8 +11,8 @@ use lib.ListN.{length, getD}
 use Rattle.definitions.specs.Outcome.{pick}
 use Rattle.definitions.specs.Lists.{has}
 use Rattle.definitions.specs.Network.{joins}
-use Rattle.definitions.specs.Over.{OverFrom, OverHolds}
-use Rattle.definitions.specs.Demand.{LinkOf, AnyLink, AlongFrom, RouteHolds}
+use Rattle.definitions.specs.Over.{OverHolds}
+use Rattle.definitions.specs.Demand.{InService, RouteHolds}
 use Rattle.definitions.specs.SheetTest.{Walk, walk, walkRoute}
 use Rattle.lists.specs.Searches.{clash}
 use Rattle.lists.specs.Cases.{has-there, has-cases}
@@ -26,8 +26,8 @@ NewTo from to met r = (r ≡ from) ⊎ ((r ≡ to) ⊎ (met r ≡ false))
 
 -- A route with its links is good after the relays met before: it holds, its relays are below n, its links are the right ones, and
 -- each of its relays is one of the two ends or was not met.
-pub record GoodRoute (n : ℕ) (lows highs : List ℕ) (from to : ℕ) (met : ℕ → Bool) (route over : List ℕ) : Type 0 where
-  pub holds : RouteHolds lows highs AnyLink from to route
+pub record GoodRoute (n : ℕ) (lows highs states : List ℕ) (from to : ℕ) (met : ℕ → Bool) (route over : List ℕ) : Type 0 where
+  pub holds : RouteHolds lows highs (InService lows highs states) from to route
   pub below : (r : ℕ) → has route r ≡ true → r < n
   pub links : OverHolds lows highs route over
   pub fresh : (r : ℕ) → has route r ≡ true → NewTo from to met r
@@ -41,22 +41,15 @@ joined-below n lows highs proper a b l h e = go (joins-ends lows highs a b l e)
     go (inl p) = omega (arith, p .0, proper .ordered l h, proper .below l h)
     go (inr p) = omega (arith, p .1, proper .below l h)
 
--- A route that has its links in turn runs along links of the table.
-over-along : (lows highs : List ℕ) (a : ℕ) (rest over : List ℕ) → OverFrom lows highs a rest over
-    → AlongFrom (LinkOf lows highs AnyLink) a rest
-over-along lows highs a [] over links = tt
-over-along lows highs a (b ∷ rest) [] links = absurd links
-over-along lows highs a (b ∷ rest) (l ∷ over) links =
-    ((l, links .0 .0, links .0 .1, tt), over-along lows highs b rest over (links .1))
-
-module _ (n : ℕ) (lows highs : List ℕ) (from to : ℕ) (met : ℕ → Bool) where
+module _ (n : ℕ) (lows highs states : List ℕ) (from to : ℕ) (met : ℕ → Bool) where
   -- The walk from the first relay on holds where the route is good.
-  good-walked : (a : ℕ) (rest over : List ℕ) → GoodRoute n lows highs from to met (a ∷ rest) over
-      → Walked n lows highs to met a rest over
+  good-walked : (a : ℕ) (rest over : List ℕ) → GoodRoute n lows highs states from to met (a ∷ rest) over
+      → Walked n lows highs states to met a rest over
   good-walked a rest over good =
       let last : length (a ∷ rest) - 1 ≡ length rest = omega arith in
       record {
         links = good .links;
+        along = good .holds .along;
         below = λ r h. good .below r (has-there a rest r h);
         fresh = λ r h. go r h (good .fresh r (has-there a rest r h));
         noRepeat = good .holds .noRepeat;
@@ -68,23 +61,23 @@ module _ (n : ℕ) (lows highs : List ℕ) (from to : ℕ) (met : ℕ → Bool) 
       go r h (inr e) = e
 
   -- A good route has one relay more than its walk has steps,
-  pub route-steps : (route over : List ℕ) → GoodRoute n lows highs from to met route over
-      → length route ≡ walkRoute n lows highs from to met route over .steps + 1
+  pub route-steps : (route over : List ℕ) → GoodRoute n lows highs states from to met route over
+      → length route ≡ walkRoute n lows highs states from to met route over .steps + 1
   unfolding walkRoute
   route-steps [] over good = absurd (good .links)
   route-steps (a ∷ rest) over good =
       rw (eq-eqb a from (good .holds .starts))
-      (omega (arith, walk-steps n lows highs to met 0 a rest over (good-walked a rest over good)))
+      (omega (arith, walk-steps n lows highs states to met 0 a rest over (good-walked a rest over good)))
 
   module _ (started : met from ≡ true) where
     -- and its relays but for the end are met after it.
-    pub route-met : (route over : List ℕ) → GoodRoute n lows highs from to met route over → (r : ℕ)
-        → walkRoute n lows highs from to met route over .met r ≡ (met r || passes to route r)
+    pub route-met : (route over : List ℕ) → GoodRoute n lows highs states from to met route over → (r : ℕ)
+        → walkRoute n lows highs states from to met route over .met r ≡ (met r || passes to route r)
     unfolding walkRoute passes has
     route-met [] over good r = absurd (good .links)
     route-met (a ∷ rest) over good r =
         rw (eq-eqb a from (good .holds .starts))
-        (walk-met n lows highs to met 0 a rest over (good-walked a rest over good) r ∙ go (eqb a r) refl)
+        (walk-met n lows highs states to met 0 a rest over (good-walked a rest over good) r ∙ go (eqb a r) refl)
       where
         go : (c : Bool) → eqb a r ≡ c → (met r || (has rest r && not (eqb r to))) ≡ (met r || ((c || has rest r) && not (eqb r to)))
         go true e =
@@ -94,8 +87,8 @@ module _ (n : ℕ) (lows highs : List ℕ) (from to : ℕ) (met : ℕ → Bool) 
 
     module _ (proper : ProperTable n lows highs) where
       -- A route whose walk holds from `from` on, for one step at least, is good.
-      walked-good : (a : ℕ) (rest over : List ℕ) → a ≡ from → 0 < length rest → Walked n lows highs to met a rest over
-          → GoodRoute n lows highs from to met (a ∷ rest) over
+      walked-good : (a : ℕ) (rest over : List ℕ) → a ≡ from → 0 < length rest → Walked n lows highs states to met a rest over
+          → GoodRoute n lows highs states from to met (a ∷ rest) over
       walked-good a [] over first some w = absurd (omega arith)
       walked-good a (b ∷ rest) [] first some w = absurd (w .links)
       walked-good a (b ∷ rest) (l ∷ over) first some w =
@@ -106,7 +99,7 @@ module _ (n : ℕ) (lows highs : List ℕ) (from to : ℕ) (met : ℕ → Bool) 
                   long = omega arith;
                   starts = first;
                   ends = ap (λ (i : ℕ). getD (a ∷ b ∷ rest) i 0) last ∙ w .ends;
-                  along = over-along lows highs a (b ∷ rest) (l ∷ over) (w .links);
+                  along = w .along;
                   noRepeat = w .noRepeat;
                 };
             below = λ r h. below r (has-cases a (b ∷ rest) r h);
@@ -124,19 +117,19 @@ module _ (n : ℕ) (lows highs : List ℕ) (from to : ℕ) (met : ℕ → Bool) 
           fresh r (inr h) = inr (w .fresh r h)
 
       -- The route is good if the walk along it does not fail.
-      pub route-good : (route over : List ℕ) → 0 < walkRoute n lows highs from to met route over .steps
-          → GoodRoute n lows highs from to met route over
+      pub route-good : (route over : List ℕ) → 0 < walkRoute n lows highs states from to met route over .steps
+          → GoodRoute n lows highs states from to met route over
       unfolding walkRoute
       route-good [] over some = absurd (omega arith)
       route-good (a ∷ rest) over some = go (eqb a from) refl some
         where
           onward : Walk
-          onward = walk n lows highs to met 0 a rest over
+          onward = walk n lows highs states to met 0 a rest over
 
           go : (c : Bool) → eqb a from ≡ c → 0 < pick c onward (record { steps = 0; met = met }) .steps
-              → GoodRoute n lows highs from to met (a ∷ rest) over
+              → GoodRoute n lows highs states from to met (a ∷ rest) over
           go true e some =
               let first : a ≡ from = eqb-true a from e in
-              let w = walk-holds n lows highs to proper met 0 a rest over (inr (ap met first ∙ started)) some in
-              walked-good a rest over first (omega (arith, walk-steps n lows highs to met 0 a rest over w)) w
+              let w = walk-holds n lows highs states to proper met 0 a rest over (inr (ap met first ∙ started)) some in
+              walked-good a rest over first (omega (arith, walk-steps n lows highs states to met 0 a rest over w)) w
           go false e some = absurd (omega arith)

@@ -20,9 +20,9 @@ use Rattle.theory.specs.SheetRoute.{NewTo, GoodRoute, route-steps, route
 
 -- The routes with their links are good after the relays met before: as many lists of links as routes, each route good, each two
 -- apart; and after a route of a single step none of them is one.
-pub record GoodRoutes (n : ℕ) (lows highs : List ℕ) (from to : ℕ) (met : ℕ → Bool) (direct : Bool) (routes overs : List (List ℕ)) : Type 0 where
+pub record GoodRoutes (n : ℕ) (lows highs states : List ℕ) (from to : ℕ) (met : ℕ → Bool) (direct : Bool) (routes overs : List (List ℕ)) : Type 0 where
   pub even : length overs ≡ length routes
-  pub each : (i : ℕ) → i < length routes → GoodRoute n lows highs from to met (getD routes i []) (getD overs i [])
+  pub each : (i : ℕ) → i < length routes → GoodRoute n lows highs states from to met (getD routes i []) (getD overs i [])
   pub apart : (i j : ℕ) → i < j → j < length routes → Apart lows highs from to (getD routes i []) (getD routes j [])
   pub single : direct ≡ true → (i : ℕ) → i < length routes → 2 < length (getD routes i [])
 
@@ -51,32 +51,32 @@ good-steps steps direct some more =
         rw (ne-eqb steps 1 (λ e. omega arith)) refl
     go false more = ap not (and-false (eqb steps 1))
 
-module _ (n : ℕ) (lows highs : List ℕ) (from to : ℕ) where
+module _ (n : ℕ) (lows highs states : List ℕ) (from to : ℕ) where
   -- A good route is good after other relays too if they are new to it.
-  good-after : (met : ℕ → Bool) {before : ℕ → Bool} {route over : List ℕ} → GoodRoute n lows highs from to before route over
-      → ((r : ℕ) → has route r ≡ true → NewTo from to met r) → GoodRoute n lows highs from to met route over
+  good-after : (met : ℕ → Bool) {before : ℕ → Bool} {route over : List ℕ} → GoodRoute n lows highs states from to before route over
+      → ((r : ℕ) → has route r ≡ true → NewTo from to met r) → GoodRoute n lows highs states from to met route over
   good-after met good fresh = record { holds = good .holds; below = good .below; links = good .links; fresh = fresh }
 
   module _ (met : ℕ → Bool) (started : met from ≡ true) (direct : Bool) (route over : List ℕ)
-      (good : GoodRoute n lows highs from to met route over) (routes overs : List (List ℕ)) where
+      (good : GoodRoute n lows highs states from to met route over) (routes overs : List (List ℕ)) where
     -- The walk along the first route, and what is good after it.
     abbrev steps : ℕ
-    steps = walkRoute n lows highs from to met route over .steps
+    steps = walkRoute n lows highs states from to met route over .steps
 
     abbrev later : ℕ → Bool
-    later = walkRoute n lows highs from to met route over .met
+    later = walkRoute n lows highs states from to met route over .met
 
     abbrev All : Type 0
-    All = GoodRoutes n lows highs from to met direct (route ∷ routes) (over ∷ overs)
+    All = GoodRoutes n lows highs states from to met direct (route ∷ routes) (over ∷ overs)
 
     abbrev Rest : Type 0
-    Rest = GoodRoutes n lows highs from to later (direct || eqb steps 1) routes overs
+    Rest = GoodRoutes n lows highs states from to later (direct || eqb steps 1) routes overs
 
     met-later : (r : ℕ) → later r ≡ (met r || passes to route r)
-    met-later = route-met n lows highs from to met started route over good
+    met-later = route-met n lows highs states from to met started route over good
 
     size : length route ≡ steps + 1
-    size = route-steps n lows highs from to met route over good
+    size = route-steps n lows highs states from to met route over good
 
     -- What is new to the routes before is new after the first route too, on a route that is apart from it.
     still-fresh : (other : List ℕ) → Apart lows highs from to route other → (r : ℕ) → has other r ≡ true
@@ -136,7 +136,7 @@ module _ (n : ℕ) (lows highs : List ℕ) (from to : ℕ) where
     good-all e rest = record { even = ap suc (rest .even); each = each; apart = apart; single = single }
       where
         each : (i : ℕ) → i < length (route ∷ routes)
-            → GoodRoute n lows highs from to met (getD (route ∷ routes) i []) (getD (over ∷ overs) i [])
+            → GoodRoute n lows highs states from to met (getD (route ∷ routes) i []) (getD (over ∷ overs) i [])
         each zero h = good
         each (suc i) h =
             let other = rest .each i (omega arith) in
@@ -160,26 +160,26 @@ module _ (n : ℕ) (lows highs : List ℕ) (from to : ℕ) where
     still-started : later from ≡ true
     still-started = met-later from ∙ or-left (met from) (passes to route from) started
 
-module _ (n : ℕ) (lows highs : List ℕ) (from to : ℕ) where
+module _ (n : ℕ) (lows highs states : List ℕ) (from to : ℕ) where
   -- Where the routes are good the test says yes,
   pub good-routes : (met : ℕ → Bool) → met from ≡ true → (direct : Bool) (routes overs : List (List ℕ))
-      → GoodRoutes n lows highs from to met direct routes overs → routesHold n lows highs from to met direct routes overs ≡ true
+      → GoodRoutes n lows highs states from to met direct routes overs → routesHold n lows highs states from to met direct routes overs ≡ true
   unfolding routesHold
   good-routes met started direct [] [] all = refl
   good-routes met started direct [] (over ∷ overs) all = absurd (omega (arith, all .even))
   good-routes met started direct (route ∷ routes) [] all = absurd (omega (arith, all .even))
   good-routes met started direct (route ∷ routes) (over ∷ overs) all =
-      let good : GoodRoute n lows highs from to met route over = all .each 0 (omega arith) in
-      let w : Walk = walkRoute n lows highs from to met route over in
-      let size : length route ≡ w .steps + 1 = route-steps n lows highs from to met route over good in
-      and-all (goodSteps (w .steps) direct) (routesHold n lows highs from to (w .met) (direct || eqb (w .steps) 1) routes overs)
+      let good : GoodRoute n lows highs states from to met route over = all .each 0 (omega arith) in
+      let w : Walk = walkRoute n lows highs states from to met route over in
+      let size : length route ≡ w .steps + 1 = route-steps n lows highs states from to met route over good in
+      and-all (goodSteps (w .steps) direct) (routesHold n lows highs states from to (w .met) (direct || eqb (w .steps) 1) routes overs)
       (good-steps (w .steps) direct (omega (arith, size, good .holds .long)) (λ d. omega (arith, size, all .single d 0 (omega arith))))
-      (good-routes (w .met) (still-started n lows highs from to met started direct route over good routes overs)
-      (direct || eqb (w .steps) 1) routes overs (good-rest n lows highs from to met started direct route over good routes overs all))
+      (good-routes (w .met) (still-started n lows highs states from to met started direct route over good routes overs)
+      (direct || eqb (w .steps) 1) routes overs (good-rest n lows highs states from to met started direct route over good routes overs all))
 
   -- and where it says yes they are good.
   pub routes-good : ProperTable n lows highs → (met : ℕ → Bool) → met from ≡ true → (direct : Bool) (routes overs : List (List ℕ))
-      → routesHold n lows highs from to met direct routes overs ≡ true → GoodRoutes n lows highs from to met direct routes overs
+      → routesHold n lows highs states from to met direct routes overs ≡ true → GoodRoutes n lows highs states from to met direct routes overs
   unfolding routesHold
   routes-good proper met started direct [] [] e =
       record {
@@ -191,11 +191,11 @@ module _ (n : ℕ) (lows highs : List ℕ) (from to : ℕ) where
   routes-good proper met started direct [] (over ∷ overs) e = absurd (false≢true e)
   routes-good proper met started direct (route ∷ routes) [] e = absurd (false≢true e)
   routes-good proper met started direct (route ∷ routes) (over ∷ overs) e =
-      let w : Walk = walkRoute n lows highs from to met route over in
+      let w : Walk = walkRoute n lows highs states from to met route over in
       let both =
-      and-both (goodSteps (w .steps) direct) (routesHold n lows highs from to (w .met) (direct || eqb (w .steps) 1) routes overs) e in
-      let good : GoodRoute n lows highs from to met route over =
-      route-good n lows highs from to met started proper route over (steps-good (w .steps) direct (both .0) .0) in
-      good-all n lows highs from to met started direct route over good routes overs (both .0)
-      (routes-good proper (w .met) (still-started n lows highs from to met started direct route over good routes overs)
+      and-both (goodSteps (w .steps) direct) (routesHold n lows highs states from to (w .met) (direct || eqb (w .steps) 1) routes overs) e in
+      let good : GoodRoute n lows highs states from to met route over =
+      route-good n lows highs states from to met started proper route over (steps-good (w .steps) direct (both .0) .0) in
+      good-all n lows highs states from to met started direct route over good routes overs (both .0)
+      (routes-good proper (w .met) (still-started n lows highs states from to met started direct route over good routes overs)
       (direct || eqb (w .steps) 1) routes overs (both .1))

@@ -11,9 +11,9 @@ use lib.Dec.{eqb, ltb}
 use lib.ListN.{length, getD}
 use Rattle.definitions.specs.Outcome.{pick}
 use Rattle.definitions.specs.Lists.{has}
-use Rattle.definitions.specs.Network.{joins}
+use Rattle.definitions.specs.Network.{joins, linkServes}
 use Rattle.definitions.specs.Over.{OverFrom}
-use Rattle.definitions.specs.Demand.{NoRepeat}
+use Rattle.definitions.specs.Demand.{LinkOf, InService, AlongFrom, NoRepeat}
 use Rattle.definitions.specs.SheetTest.{alsoMet, stepHolds, metAt, Walk, walk}
 use Rattle.lists.specs.Tests.{or-left, or-right, or-false, or-neither, or-either, or-none, or-assoc, and-both, and-all, eqb-sym}
 use Rattle.lists.specs.Searches.{clash}
@@ -23,17 +23,19 @@ use Rattle.theory.specs.Accepted.{ProperTable}
 use Rattle.theory.specs.Links.{one-link}
 
 -- The step from relay a to relay b over link l holds after the relays met so far.
-record GoodStep (n : ℕ) (lows highs : List ℕ) (to : ℕ) (met : ℕ → Bool) (a b l : ℕ) : Type 0 where
+record GoodStep (n : ℕ) (lows highs states : List ℕ) (to : ℕ) (met : ℕ → Bool) (a b l : ℕ) : Type 0 where
   within : l < length lows
   joined : joins lows highs a b l ≡ true
+  serves : linkServes lows highs states l ≡ true
   before : a ≢ to
   below : b < n
   fresh : (b ≡ to) ⊎ (met b ≡ false)
 
--- The rest of a route from relay a on, over its links, holds after the relays met so far: each step has its one link, every relay
--- from here on is below n, is the end or was not met, none stands twice, and the last is the end.
-pub record Walked (n : ℕ) (lows highs : List ℕ) (to : ℕ) (met : ℕ → Bool) (a : ℕ) (rest over : List ℕ) : Type 0 where
+-- The rest of a route from relay a on, over its links, holds after the relays met so far: each step has its one link, with both
+-- ends in service, every relay from here on is below n, is the end or was not met, none stands twice, and the last is the end.
+pub record Walked (n : ℕ) (lows highs states : List ℕ) (to : ℕ) (met : ℕ → Bool) (a : ℕ) (rest over : List ℕ) : Type 0 where
   pub links : OverFrom lows highs a rest over
+  pub along : AlongFrom (LinkOf lows highs (InService lows highs states)) a rest
   pub below : (r : ℕ) → has rest r ≡ true → r < n
   pub fresh : (r : ℕ) → has rest r ≡ true → (r ≡ to) ⊎ (met r ≡ false)
   pub noRepeat : NoRepeat (a ∷ rest)
@@ -68,18 +70,22 @@ met-here to met b = go (eqb b to) refl
     go true e = inl (eqb-true b to e)
     go false e = inr (or-right (met b) (eqb b b) (eq-eqb b b refl))
 
-module _ (n : ℕ) (lows highs : List ℕ) (to : ℕ) where
+module _ (n : ℕ) (lows highs states : List ℕ) (to : ℕ) where
   -- What the test of a step says, both ways.
-  step-good : (met : ℕ → Bool) (a b l : ℕ) → stepHolds n lows highs to met a b l ≡ true → GoodStep n lows highs to met a b l
+  step-good : (met : ℕ → Bool) (a b l : ℕ) → stepHolds n lows highs states to met a b l ≡ true → GoodStep n lows highs states to met a b l
   unfolding stepHolds
   step-good met a b l e =
-      let halves = and-both (ltb l (length lows) && joins lows highs a b l) (not (eqb a to) && (ltb b n && (eqb b to || not (met b)))) e in
-      let link = and-both (ltb l (length lows)) (joins lows highs a b l) (halves .0) in
+      let halves =
+      and-both (ltb l (length lows) && (joins lows highs a b l && linkServes lows highs states l))
+      (not (eqb a to) && (ltb b n && (eqb b to || not (met b)))) e in
+      let link = and-both (ltb l (length lows)) (joins lows highs a b l && linkServes lows highs states l) (halves .0) in
+      let joined = and-both (joins lows highs a b l) (linkServes lows highs states l) (link .1) in
       let relays = and-both (not (eqb a to)) (ltb b n && (eqb b to || not (met b))) (halves .1) in
       let onward = and-both (ltb b n) (eqb b to || not (met b)) (relays .1) in
       record {
         within = ltb-true l (length lows) (link .0);
-        joined = link .1;
+        joined = joined .0;
+        serves = joined .1;
         before = eqb-false a to (not-true (eqb a to) (relays .0));
         below = ltb-true b n (onward .0);
         fresh = go (or-either (eqb b to) (not (met b)) (onward .1));
@@ -89,11 +95,13 @@ module _ (n : ℕ) (lows highs : List ℕ) (to : ℕ) where
       go (inl e) = inl (eqb-true b to e)
       go (inr e) = inr (not-true (met b) e)
 
-  good-step : (met : ℕ → Bool) (a b l : ℕ) → GoodStep n lows highs to met a b l → stepHolds n lows highs to met a b l ≡ true
+  good-step : (met : ℕ → Bool) (a b l : ℕ) → GoodStep n lows highs states to met a b l → stepHolds n lows highs states to met a b l ≡ true
   unfolding stepHolds
   good-step met a b l good =
-      and-all (ltb l (length lows) && joins lows highs a b l) (not (eqb a to) && (ltb b n && (eqb b to || not (met b))))
-      (and-all (ltb l (length lows)) (joins lows highs a b l) (lt-ltb l (length lows) (good .within)) (good .joined))
+      and-all (ltb l (length lows) && (joins lows highs a b l && linkServes lows highs states l))
+      (not (eqb a to) && (ltb b n && (eqb b to || not (met b))))
+      (and-all (ltb l (length lows)) (joins lows highs a b l && linkServes lows highs states l) (lt-ltb l (length lows) (good .within))
+      (and-all (joins lows highs a b l) (linkServes lows highs states l) (good .joined) (good .serves)))
       (and-all (not (eqb a to)) (ltb b n && (eqb b to || not (met b))) (ap not (ne-eqb a to (good .before)))
       (and-all (ltb b n) (eqb b to || not (met b)) (lt-ltb b n (good .below)) (go (good .fresh))))
     where
@@ -102,12 +110,15 @@ module _ (n : ℕ) (lows highs : List ℕ) (to : ℕ) where
       go (inr e) = or-right (eqb b to) (not (met b)) (ap not e)
 
   -- A walk that holds: its first step, and the walk from there.
-  walked-step : (met : ℕ → Bool) (a b l : ℕ) (rest over : List ℕ) → Walked n lows highs to met a (b ∷ rest) (l ∷ over)
-      → GoodStep n lows highs to met a b l
+  walked-step : (met : ℕ → Bool) (a b l : ℕ) (rest over : List ℕ) → Walked n lows highs states to met a (b ∷ rest) (l ∷ over)
+      → GoodStep n lows highs states to met a b l
   walked-step met a b l rest over w =
       record {
         within = w .links .0 .0;
         joined = w .links .0 .1;
+        serves =
+            let one = w .along .0 in
+            subst (λ (i : ℕ). linkServes lows highs states i ≡ true) (w .links .0 .2 (one .0) (one .1) (one .2)) (one .3);
         before = λ e.
             clash (has-at (b ∷ rest) (length rest) (omega arith))
             (ap (has (b ∷ rest)) (w .ends ∙ sym e) ∙ w .noRepeat .0);
@@ -115,11 +126,12 @@ module _ (n : ℕ) (lows highs : List ℕ) (to : ℕ) where
         fresh = w .fresh b (has-here b rest);
       }
 
-  walked-rest : (met : ℕ → Bool) (a b l : ℕ) (rest over : List ℕ) → Walked n lows highs to met a (b ∷ rest) (l ∷ over)
-      → Walked n lows highs to (metAt to met b) b rest over
+  walked-rest : (met : ℕ → Bool) (a b l : ℕ) (rest over : List ℕ) → Walked n lows highs states to met a (b ∷ rest) (l ∷ over)
+      → Walked n lows highs states to (metAt to met b) b rest over
   walked-rest met a b l rest over w =
       record {
         links = w .links .1;
+        along = w .along .1;
         below = λ r h. w .below r (has-there b rest r h);
         fresh = λ r h. go r h (w .fresh r (has-there b rest r h));
         noRepeat = w .noRepeat .1;
@@ -133,8 +145,8 @@ module _ (n : ℕ) (lows highs : List ℕ) (to : ℕ) where
           inr (met-step to met b r ∙ or-neither (met r) (eqb b r && not (eqb r to)) e (ap (λ (t : Bool). t && not (eqb r to)) apart))
 
   -- A walk whose rest holds takes a step for each relay that is left,
-  pub walk-steps : (met : ℕ → Bool) (steps a : ℕ) (rest over : List ℕ) → Walked n lows highs to met a rest over
-      → walk n lows highs to met steps a rest over .steps ≡ steps + length rest
+  pub walk-steps : (met : ℕ → Bool) (steps a : ℕ) (rest over : List ℕ) → Walked n lows highs states to met a rest over
+      → walk n lows highs states to met steps a rest over .steps ≡ steps + length rest
   unfolding walk
   walk-steps met steps a [] [] w = rw (eq-eqb a to (w .ends)) (omega arith)
   walk-steps met steps a [] (l ∷ over) w = absurd (w .links)
@@ -144,8 +156,8 @@ module _ (n : ℕ) (lows highs : List ℕ) (to : ℕ) where
       (omega (arith, walk-steps (metAt to met b) (suc steps) b rest over (walked-rest met a b l rest over w)))
 
   -- and meets these relays but for the end.
-  pub walk-met : (met : ℕ → Bool) (steps a : ℕ) (rest over : List ℕ) → Walked n lows highs to met a rest over
-      → (r : ℕ) → walk n lows highs to met steps a rest over .met r ≡ (met r || passes to rest r)
+  pub walk-met : (met : ℕ → Bool) (steps a : ℕ) (rest over : List ℕ) → Walked n lows highs states to met a rest over
+      → (r : ℕ) → walk n lows highs states to met steps a rest over .met r ≡ (met r || passes to rest r)
   unfolding walk passes has
   walk-met met steps a [] [] w r = sym (or-none (met r))
   walk-met met steps a [] (l ∷ over) w r = absurd (w .links)
@@ -159,14 +171,15 @@ module _ (n : ℕ) (lows highs : List ℕ) (to : ℕ) where
 
   module _ (proper : ProperTable n lows highs) where
     -- A step that holds, and a walk that holds from there on after it.
-    step-walked : (met : ℕ → Bool) (a b l : ℕ) (rest over : List ℕ) → (a ≡ to) ⊎ (met a ≡ true) → GoodStep n lows highs to met a b l
-        → Walked n lows highs to (metAt to met b) b rest over → Walked n lows highs to met a (b ∷ rest) (l ∷ over)
+    step-walked : (met : ℕ → Bool) (a b l : ℕ) (rest over : List ℕ) → (a ≡ to) ⊎ (met a ≡ true) → GoodStep n lows highs states to met a b l
+        → Walked n lows highs states to (metAt to met b) b rest over → Walked n lows highs states to met a (b ∷ rest) (l ∷ over)
     step-walked met a b l rest over known good w =
         record {
           links = (
             (good .within, good .joined, λ i h e. one-link n lows highs proper a b i l h (good .within) e (good .joined)),
             w .links,
           );
+          along = ((l, good .within, good .joined, good .serves), w .along);
           below = λ r h. below r (has-cases b rest r h);
           fresh = fresh;
           noRepeat = (has-not (b ∷ rest) a (λ h. again known (fresh a h)), w .noRepeat);
@@ -195,11 +208,12 @@ module _ (n : ℕ) (lows highs : List ℕ) (to : ℕ) where
 
     -- What is left of a route holds if the walk does not fail from a relay that is met or the end.
     pub walk-holds : (met : ℕ → Bool) (steps a : ℕ) (rest over : List ℕ) → (a ≡ to) ⊎ (met a ≡ true)
-        → 0 < walk n lows highs to met steps a rest over .steps → Walked n lows highs to met a rest over
+        → 0 < walk n lows highs states to met steps a rest over .steps → Walked n lows highs states to met a rest over
     unfolding walk
     walk-holds met steps a [] [] known some =
         record {
           links = tt;
+          along = tt;
           below = λ r h. absurd (clash h (has-nil r));
           fresh = λ r h. absurd (clash h (has-nil r));
           noRepeat = (has-nil a, tt);
@@ -212,13 +226,13 @@ module _ (n : ℕ) (lows highs : List ℕ) (to : ℕ) where
     walk-holds met steps a [] (l ∷ over) known some = absurd (omega arith)
     walk-holds met steps a (b ∷ rest) [] known some = absurd (omega arith)
     walk-holds met steps a (b ∷ rest) (l ∷ over) known some =
-        go (stepHolds n lows highs to met a b l) refl some (walk-holds (metAt to met b) (suc steps) b rest over (met-here to met b))
+        go (stepHolds n lows highs states to met a b l) refl some (walk-holds (metAt to met b) (suc steps) b rest over (met-here to met b))
       where
         onward : Walk
-        onward = walk n lows highs to (metAt to met b) (suc steps) b rest over
+        onward = walk n lows highs states to (metAt to met b) (suc steps) b rest over
 
-        go : (c : Bool) → stepHolds n lows highs to met a b l ≡ c → 0 < pick c onward (record { steps = 0; met = met }) .steps
-            → (0 < onward .steps → Walked n lows highs to (metAt to met b) b rest over)
-            → Walked n lows highs to met a (b ∷ rest) (l ∷ over)
+        go : (c : Bool) → stepHolds n lows highs states to met a b l ≡ c → 0 < pick c onward (record { steps = 0; met = met }) .steps
+            → (0 < onward .steps → Walked n lows highs states to (metAt to met b) b rest over)
+            → Walked n lows highs states to met a (b ∷ rest) (l ∷ over)
         go true e some deeper = step-walked met a b l rest over known (step-good met a b l e) (deeper some)
         go false e some deeper = absurd (omega arith)
