@@ -24,4 +24,5 @@ pub mod Opened
 pub mod PExamples
 pub mod OtherExamples
 pub mod SheetExamples
+pub mod StateExamples
 pub mod Astray
