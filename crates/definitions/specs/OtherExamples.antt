@@ -7,7 +7,7 @@ use mathlib.Core.Path.{_≡_, refl}
 use lib.ListN.{length, replicate}
 use Rattle.definitions.specs.Outcome.{refused, done}
 use Rattle.definitions.specs.Form.{bytes, writeForm}
-use Rattle.definitions.specs.Text.{Network, headerForm, linkForm, endForm, readAnswer, lowsAfter, highsAfter, statesAfter, outLines, writeAnswer, bufferAfter}
+use Rattle.definitions.specs.Text.{Network, headerForm, linkForm, outForm, endForm, readAnswer, lowsAfter, highsAfter, statesAfter, writeAnswer, bufferAfter}
 use Rattle.definitions.specs.Plan.{planText}
 use Rattle.definitions.specs.Lease.{keepText}
 use Rattle.definitions.specs.Networks.{
@@ -218,7 +218,9 @@ other-examples-hold = refl
 pub longest-text :
     length (writeForm headerForm (1000 ∷ 3000 ∷ []))
     + 3000 * length (writeForm linkForm (998 ∷ 999 ∷ []))
-    + length (outLines (replicate 1000 0) 0 1000)
+    + 10 * length (writeForm outForm (9 ∷ []))
+    + 90 * length (writeForm outForm (99 ∷ []))
+    + 900 * length (writeForm outForm (999 ∷ []))
     + length (writeForm endForm [])
     ≡ 54929
 unfolding opened

@@ -49,7 +49,7 @@ readEnd text n lows highs states p =
 
 -- The `(out R)` lines from offset p on, behind the states told so far, and then the end. `(out` and `(end` part at the second byte: it
 -- is o (byte 111) where a relay is withdrawn. "with 16 an `out` line whose relay is not below n or not above the one before, after
--- its form": of `most` + 1 relays no more than `most` lines can be good.
+-- its form". At most `most` lines are read: of n relays no more than n lines can be good, so n + 1 are enough.
 unfoldable pub readOuts : (text : List ℕ) (n : ℕ) (lows highs states : List ℕ) (p most : ℕ) → Outcome Network
 readOuts text n lows highs states p zero = readEnd text n lows highs states p
 readOuts text n lows highs states p (suc most) =
