@@ -1,9 +1,9 @@
-// The relay that comes first: of those with the most links the lowest.
+// The relay that comes first: of those in service with the most links the lowest.
 use network::Relay;
 ghost use Prim.Native.Nat.{max, _<_, _≤_};
 ghost use mathlib.Core.Path.{_≡_};
 ghost use lib.ListN.{length};
-ghost use Rattle.forests.specs.Busiest.{keyOf, Busiest};
+ghost use Rattle.forests.specs.Busiest.{keyOf, servingKey, Busiest};
 
 // The key of relay r with so many links: the greater the more they are, of equals the lower r is.
 fn key(r: u16, count: u16) -> u32
@@ -13,22 +13,31 @@ fn key(r: u16, count: u16) -> u32
     count as u32 * 1024 + (1023 - r as u32)
 }
 
+// The same if relay r is in service, and 0, which is less than any key, if it is withdrawn.
+fn serving_key(r: u16, state: u16, count: u16) -> u32
+    requires { ⌜ r < 1000 ⌝ }
+    ensures { λ k. ⌜ k ≡ servingKey r state count ⌝ }
+{
+    let k = key(r, count);
+    if state == 1 { k } else { 0 }
+}
+
 fn greater(a: u32, b: u32) -> u32
     ensures { λ r. ⌜ r ≡ max a b ⌝ }
 {
     if a < b { b } else { a }
 }
 
-// The lowest of the first n relays with the greatest count.
-pub(crate) fn busiest(n: u16, counts: &[u16]) -> Relay
-    requires { ⌜ (0 < n) × (n ≤ 1000) × (n ≤ length (now counts)) ⌝ }
-    ensures { λ x. ⌜ Busiest n (now (counts .entry)) (x .0) ⌝ }
+// The lowest of those of the first n relays that are in service and have the greatest count; any number where none is.
+pub(crate) fn busiest(n: u16, states: &[u16], counts: &[u16]) -> Relay
+    requires { ⌜ (n ≤ 1000) × (n ≤ length (now counts)) × (n ≤ length (now states)) ⌝ }
+    ensures { λ x. ⌜ Busiest n (now (states .entry)) (now (counts .entry)) (x .0) ⌝ }
 {
-    let mut best = key(0, counts[0]);
-    let mut r = 1;
+    let mut best = 0;
+    let mut r = 0;
     while r < n {
         let at = r as usize;
-        best = greater(best, key(r, counts[at]));
+        best = greater(best, serving_key(r, states[at], counts[at]));
         r += 1;
     }
     Relay((1023 - best % 1024) as u16)

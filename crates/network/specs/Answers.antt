@@ -20,6 +20,8 @@ use Rattle.network.specs.declared.Refusal.the-variants.{
   NotOneTree,
   SheetForm,
   SheetCount,
+  States,
+  Withdrawn,
 }
 use Rattle.network.specs.declared.Pair.{Pair}
 use Rattle.network.specs.declared.Pair.the-variants.{Number}
@@ -43,6 +45,8 @@ refusalNumber Room = 12
 refusalNumber NotOneTree = 13
 refusalNumber (SheetForm place) = 14
 refusalNumber SheetCount = 15
+refusalNumber States = 16
+refusalNumber Withdrawn = 17
 
 -- Its place in the input: a byte offset for 1, 2 and 14, a link index for 5 to 7, otherwise 0.
 abbrev pub refusalPlace : Refusal → ℕ
@@ -61,6 +65,8 @@ refusalPlace Room = 0
 refusalPlace NotOneTree = 0
 refusalPlace (SheetForm place) = place
 refusalPlace SheetCount = 0
+refusalPlace States = 0
+refusalPlace Withdrawn = 0
 
 -- "Every refusal gives its number and a place in the input."
 abbrev pub refusalOf : {A : Type 0} → Refusal → Outcome A

@@ -3,6 +3,7 @@
 use row_starts::first_row_starts;
 use row_starts::row_start;
 use row_starts::row_starts;
+use states::states_check;
 ghost use mathlib.Core.Bool.{_||_};
 ghost use mathlib.Core.Path.{_≡_};
 ghost use Prim.Native.Nat.{_+_, _<_, _≤_};
@@ -15,6 +16,7 @@ ghost use Rattle.network.specs.RowStarts.{RowsFor};
 ghost use Rattle.network.specs.Seen.{faultOf, RoomFor, LinkChecked, Seen};
 
 pub mod row_starts;
+mod states;
 
 // A relay number, never a place in the order.
 pub struct Relay(pub u16);
@@ -22,7 +24,7 @@ pub struct Relay(pub u16);
 // A place in the order, 1 to n; 0 for none. Never a relay number.
 pub struct Place(pub u16);
 
-// The refusals of documents 01 and 02, 1 to 15 in this order; the field is the place in the input where it is not always 0.
+// The refusals of documents 01 and 02, 1 to 17 in this order; the field is the place in the input where it is not always 0.
 pub enum Refusal {
     Wish(usize),
     Form(usize),
@@ -39,6 +41,8 @@ pub enum Refusal {
     NotOneTree,
     SheetForm(usize),
     SheetCount,
+    States,
+    Withdrawn,
 }
 
 // The answer of the pair number.
@@ -81,6 +85,8 @@ pub fn refusal_number(refusal: Refusal) -> u16
         Refusal::NotOneTree => 13,
         Refusal::SheetForm(_) => 14,
         Refusal::SheetCount => 15,
+        Refusal::States => 16,
+        Refusal::Withdrawn => 17,
     }
 }
 
@@ -95,15 +101,7 @@ pub fn refusal_place(refusal: Refusal) -> usize
         Refusal::NotBelow(link) => link,
         Refusal::Repeated(link) => link,
         Refusal::SheetForm(place) => place,
-        Refusal::RelayCount => 0,
-        Refusal::LinkCount => 0,
-        Refusal::TableRoom => 0,
-        Refusal::RouteCount => 0,
-        Refusal::EndRange => 0,
-        Refusal::SameEnds => 0,
-        Refusal::Room => 0,
-        Refusal::NotOneTree => 0,
-        Refusal::SheetCount => 0,
+        _ => 0,
     }
 }
 
@@ -252,8 +250,8 @@ fn all_links_check(n: u16, lows: &[u16], highs: &[u16]) -> Check
 }
 
 // The table check, which every operation on a table makes first.
-pub fn table_check(n: u16, lows: &[u16], highs: &[u16]) -> Check
-    ensures { λ r. ⌜ checkOutcome r ≡ tableCheck n (now (lows .entry)) (now (highs .entry)) ⌝ }
+pub fn table_check(n: u16, lows: &[u16], highs: &[u16], states: &[u16]) -> Check
+    ensures { λ r. ⌜ checkOutcome r ≡ tableCheck n (now (lows .entry)) (now (highs .entry)) (now (states .entry)) ⌝ }
 {
     if n < 1 {
         return Check::Refused(Refusal::RelayCount);
@@ -267,7 +265,7 @@ pub fn table_check(n: u16, lows: &[u16], highs: &[u16]) -> Check
     if 3000 < lows.len() {
         return Check::Refused(Refusal::LinkCount);
     }
-    all_links_check(n, lows, highs)
+    states_check(all_links_check(n, lows, highs), n, states)
 }
 
 // The pair number of the link a b.

@@ -15,15 +15,32 @@ fn show_refusal(refusal: Refusal) {
     io::write_all(1, b")\n");
 }
 
-fn check(label: &[u8], n: u16, lows: &[u16], highs: &[u16]) {
+fn check_states(label: &[u8], n: u16, lows: &[u16], highs: &[u16], states: &[u16]) {
     io::write_all(1, label);
-    match network::table_check(n, lows, highs) {
+    match network::table_check(n, lows, highs, states) {
         Check::Accepted => {
             io::write_all(1, b"accepted\n");
         }
         Check::Refused(refusal) => {
             show_refusal(refusal);
         }
+    }
+}
+
+fn ones() -> [u16; 1000]
+    ensures { λ r. ⌜ 1000 ≡ length r ⌝ }
+{
+    [1; 1000]
+}
+
+// All relays in service; over 1,000 relays are refused before their states are looked at.
+fn check(label: &[u8], n: u16, lows: &[u16], highs: &[u16]) {
+    let states = ones();
+    if n <= 1000 {
+        let size = n as usize;
+        check_states(label, n, lows, highs, &states[..size]);
+    } else {
+        check_states(label, n, lows, highs, &states);
     }
 }
 
@@ -104,6 +121,36 @@ fn unequal_lists() {
     check(b"more lows than highs, n 0: ", 0, &[0u16, 1], &[1u16]);
 }
 
+// The links 0 1 and 2 3 of a network of 4 relays with these states.
+fn good_links(label: &[u8], states: &[u16]) {
+    check_states(label, 4, &[0u16, 2], &[1u16, 3], states);
+}
+
+// 16 comes last: the last two of these have another fault too, which is given instead.
+fn states() {
+    good_links(b"no state: ", &[0u16; 0]);
+    good_links(b"a state too few: ", &[1u16, 1, 1]);
+    good_links(b"a state too many: ", &[1u16, 1, 1, 1, 1]);
+    good_links(b"a first state of 2: ", &[2u16, 1, 1, 1]);
+    good_links(b"a last state of 65535: ", &[1u16, 0, 1, 65535]);
+    good_links(b"relay 2 withdrawn: ", &[1u16, 1, 0, 1]);
+    good_links(b"all relays withdrawn: ", &[0u16, 0, 0, 0]);
+    check_states(
+        b"a state of 2, and a link from a relay to itself: ",
+        4,
+        &[0u16, 2],
+        &[1u16, 2],
+        &[2u16, 1, 1, 1],
+    );
+    check_states(
+        b"a state too few, and more lows than highs: ",
+        4,
+        &[0u16, 1],
+        &[1u16],
+        &[1u16, 1, 1],
+    );
+}
+
 fn zeros() -> [u16; 3001]
     ensures { λ r. ⌜ 3001 ≡ length r ⌝ }
 {
@@ -182,6 +229,7 @@ fn main() {
     double_links();
     named_tables();
     unequal_lists();
+    states();
     let mut lows = zeros();
     let mut highs = zeros();
     large_tables(&mut lows, &mut highs);

@@ -27,7 +27,7 @@ use Rattle.definitions.specs.Form.{
   decimal,
   writeForm,
 }
-use Rattle.definitions.specs.Text.{headerForm, linkForm, endForm}
+use Rattle.definitions.specs.Text.{headerForm, linkForm, outForm, endForm}
 use Rattle.definitions.specs.Plan.{wishForm}
 use Rattle.lists.specs.Parts.{Part, part-empty, part-cons, part-head, part-tail, part-append, part-first, part-second}
 use Rattle.text_theory.specs.Numbers.{number-read, read-number, byte-within}
@@ -76,6 +76,10 @@ header-line = (refl, refl)
 pub link-line : Line linkForm
 unfolding wellFormed wellFormedBehind goodWord noZero outside endsInNumber linkForm
 link-line = (refl, refl)
+
+pub out-line : Line outForm
+unfolding wellFormed wellFormedBehind goodWord noZero outside endsInNumber outForm
+out-line = (refl, refl)
 
 pub end-line : Line endForm
 unfolding wellFormed wellFormedBehind goodWord noZero outside endsInNumber endForm

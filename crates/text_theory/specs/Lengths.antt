@@ -6,7 +6,7 @@ use mathlib.Core.Path.{_≡_, refl}
 use native.Mathlib.Omega.{arith}
 use lib.ListN.{length, length-append}
 use Rattle.definitions.specs.Form.{decimal, writeForm}
-use Rattle.definitions.specs.Text.{headerForm, linkForm, endForm, linkLines, textOf}
+use Rattle.definitions.specs.Text.{headerForm, linkForm, outForm, endForm, linkLines, outLines, textOf}
 
 pub length-header : (n m : ℕ) → length (writeForm headerForm (n ∷ m ∷ [])) ≡ 25 + length (decimal n) + length (decimal m)
 unfolding headerForm writeForm
@@ -16,13 +16,18 @@ pub length-link : (a b : ℕ) → length (writeForm linkForm (a ∷ b ∷ [])) �
 unfolding linkForm writeForm
 length-link a b = simp length-append (omega arith)
 
+pub length-out : (r : ℕ) → length (writeForm outForm (r ∷ [])) ≡ 7 + length (decimal r)
+unfolding outForm writeForm
+length-out r = simp length-append (omega arith)
+
 pub length-end : length (writeForm endForm []) ≡ 6
 unfolding endForm writeForm
 length-end = refl
 
-pub length-text : (n : ℕ) (lows highs : List ℕ)
-    → length (textOf n lows highs)
+pub length-text : (n : ℕ) (lows highs states : List ℕ)
+    → length (textOf n lows highs states)
     ≡ 31 + length (decimal n) + length (decimal (length lows)) + length (linkLines lows highs 0 (length lows))
+    + length (outLines states 0 (length states))
 unfolding textOf
-length-text n lows highs =
+length-text n lows highs states =
     simp length-append (omega (arith, length-header n (length lows), length-end))

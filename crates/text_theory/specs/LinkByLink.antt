@@ -9,14 +9,15 @@ use lib.Dec.{eqb, ltb}
 use lib.ListN.{length, length-append, List·getD-append}
 use lib.Seq.{append-snoc, getD-append-seam, getD-at}
 use borrow.Author.Tests.{ltb-false, le-ltb, eq-eqb}
-use Rattle.definitions.specs.Outcome.{done, refuseIf}
+use Rattle.definitions.specs.Outcome.{Answer, done, refuseIf, andThen}
 use Rattle.definitions.specs.Lists.{outside}
-use Rattle.definitions.specs.Network.{isPair, linkFault, linksCheck, tableCheck, Accepted}
+use Rattle.definitions.specs.Network.{isPair, linkFault, linksCheck, statesFault, tableCheck, Accepted}
 use Rattle.definitions.specs.Form.{writeForm}
 use Rattle.definitions.specs.Text.{linkForm, linkLines}
-use Rattle.lists.specs.Outcomes.{not-refused, refuse-not}
+use Rattle.lists.specs.Outcomes.{not-refused, refuse-not, then-done}
+use Rattle.lists.specs.SameOutcomes.{done-then}
 use Rattle.lists.specs.Below.{some-same}
-use Rattle.theory.specs.Accepted.{accepted}
+use Rattle.theory.specs.Accepted.{ProperStates, proper-fault, accepted}
 
 -- The lines of these links.
 unfoldable pub lines : List ℕ → List ℕ → List ℕ
@@ -71,17 +72,17 @@ check-step n lows highs ls hs a b even =
       length-append lows (a ∷ []),
     )
 
--- The check of the table, both ways.
-check-faultless : (n : ℕ) (ls hs lows highs : List ℕ) → length lows ≡ length highs → length ls ≡ length hs
-    → linksCheck n (lows ++ ls) (highs ++ hs) (length lows) (length ls) ≡ done [] → Faultless n lows highs ls hs
-check-faultless n [] hs lows highs even rest check = tt
-check-faultless n (a ∷ ls) [] lows highs even rest check = tt
-check-faultless n (a ∷ ls) (b ∷ hs) lows highs even rest check =
+-- The check of the links, both ways.
+check-faultless : (n : ℕ) (ls hs lows highs values : List ℕ) → length lows ≡ length highs → length ls ≡ length hs
+    → linksCheck n (lows ++ ls) (highs ++ hs) (length lows) (length ls) ≡ done values → Faultless n lows highs ls hs
+check-faultless n [] hs lows highs values even rest check = tt
+check-faultless n (a ∷ ls) [] lows highs values even rest check = tt
+check-faultless n (a ∷ ls) (b ∷ hs) lows highs values even rest check =
     let fault = linkFault n lows highs (length lows) a b in
     let after = linksCheck n (lows ++ (a ∷ []) ++ ls) (highs ++ (b ∷ []) ++ hs) (length (lows ++ (a ∷ []))) (length ls) in
-    let step = not-refused (ltb 0 fault) fault (length lows) after [] (sym (check-step n lows highs ls hs a b even) ∙ check) in
+    let step = not-refused (ltb 0 fault) fault (length lows) after values (sym (check-step n lows highs ls hs a b even) ∙ check) in
     let none : fault ≡ 0 = omega (arith, ltb-false 0 fault (step .0)) in
-    (none, check-faultless n ls hs (lows ++ (a ∷ [])) (highs ++ (b ∷ [])) (snoc-even lows highs a b even) (omega arith) (step .1))
+    (none, check-faultless n ls hs (lows ++ (a ∷ [])) (highs ++ (b ∷ [])) values (snoc-even lows highs a b even) (omega arith) (step .1))
 
 faultless-check : (n : ℕ) (ls hs lows highs : List ℕ) → length lows ≡ length highs → length ls ≡ length hs
     → Faultless n lows highs ls hs → linksCheck n (lows ++ ls) (highs ++ hs) (length lows) (length ls) ≡ done []
@@ -95,24 +96,28 @@ faultless-check n (a ∷ ls) (b ∷ hs) lows highs even rest good =
     ∙ refuse-not (ltb 0 fault) fault (length lows) after (le-ltb 0 fault (omega (arith, good .0)))
     ∙ faultless-check n ls hs (lows ++ (a ∷ [])) (highs ++ (b ∷ [])) (snoc-even lows highs a b even) (omega arith) (good .1)
 
--- What an accepted table has, and what makes a table an accepted one, link by link.
-pub accepted-faultless : (n : ℕ) (lows highs : List ℕ) → Accepted n lows highs → Faultless n [] [] lows highs
+-- What the table of an accepted network has, and what makes a table that of an accepted network, link by link.
+pub accepted-faultless : (n : ℕ) (lows highs states : List ℕ) → Accepted n lows highs states → Faultless n [] [] lows highs
 unfolding tableCheck
-accepted-faultless n lows highs check =
-    let table = accepted n lows highs check in
-    let links = linksCheck n lows highs 0 (length lows) in
+accepted-faultless n lows highs states check =
+    let table = accepted n lows highs states check in
+    let last : Answer = refuseIf (statesFault n states) 16 0 (done []) in
+    let links = andThen (linksCheck n lows highs 0 (length lows)) λ _. last in
     let uneven = not (eqb (length lows) (length highs)) || ltb 3000 (length lows) in
     let first = not-refused (outside 1 1000 n) 3 0 (refuseIf uneven 4 0 links) [] check in
     let second = not-refused uneven 4 0 links [] (first .1) in
-    check-faultless n lows highs [] [] refl (table .even) (second .1)
+    let (values, found, fit) = done-then (linksCheck n lows highs 0 (length lows)) (λ _. last) [] (second .1) in
+    check-faultless n lows highs [] [] values refl (table .even) found
 
-pub faultless-accepted : (n : ℕ) (lows highs : List ℕ) → outside 1 1000 n ≡ false → length lows ≡ length highs → length lows ≤ 3000
-    → Faultless n [] [] lows highs → Accepted n lows highs
+pub faultless-accepted : (n : ℕ) (lows highs states : List ℕ) → outside 1 1000 n ≡ false → length lows ≡ length highs
+    → length lows ≤ 3000 → Faultless n [] [] lows highs → ProperStates n states → Accepted n lows highs states
 unfolding tableCheck
-faultless-accepted n lows highs size even few good =
-    let links = linksCheck n lows highs 0 (length lows) in
+faultless-accepted n lows highs states size even few good proper =
+    let last : Answer = refuseIf (statesFault n states) 16 0 (done []) in
+    let links = andThen (linksCheck n lows highs 0 (length lows)) λ _. last in
     let uneven = not (eqb (length lows) (length highs)) || ltb 3000 (length lows) in
     let fits : uneven ≡ false = rw (eq-eqb (length lows) (length highs) even, le-ltb 3000 (length lows) few) in
     refuse-not (outside 1 1000 n) 3 0 (refuseIf uneven 4 0 links) size
     ∙ refuse-not uneven 4 0 links fits
-    ∙ faultless-check n lows highs [] [] refl even good
+    ∙ then-done (linksCheck n lows highs 0 (length lows)) (λ _. last) [] (faultless-check n lows highs [] [] refl even good)
+    ∙ refuse-not (statesFault n states) 16 0 (done []) (proper-fault n states proper)

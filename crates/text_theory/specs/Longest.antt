@@ -1,19 +1,20 @@
--- "The longest accepted text has 45,039 bytes": none is longer, and there is one of that length.
+-- "the longest now has 54,929 bytes" (document 02, #105): no accepted text is longer, and there is one of that length.
 -- Assumes nothing.
 use Prim.Native.Nat.{ℕ, zero, suc, _+_, _*_, _/_, _%_, _≤_, _<_}
 use mathlib.Core.List.{List, [], _∷_}
 use mathlib.Core.Path.{_≡_, refl, sym, _∙_, ap}
 use native.Mathlib.Nat.{zero-add}
 use native.Mathlib.Omega.{arith}
-use lib.ListN.{length, getD, length-append}
+use lib.ListN.{length, getD, replicate, length-append, length-replicate}
 use Rattle.definitions.specs.Lists.{table}
 use Rattle.definitions.specs.Network.{Accepted}
 use Rattle.definitions.specs.Form.{decimal, writeForm}
-use Rattle.definitions.specs.Text.{linkForm, linkLines, textOf}
-use Rattle.lists.specs.Tables.{length-table, getD-table}
-use Rattle.theory.specs.Accepted.{ProperTable, accepted, accepted-intro}
+use Rattle.definitions.specs.Text.{linkForm, linkLines, outLines, textOf}
+use Rattle.lists.specs.Tables.{length-table, getD-table, getD-zeros}
+use Rattle.theory.specs.Accepted.{ProperTable, accepted, accepted-states, accepted-intro}
 use Rattle.text_theory.specs.Decimal.{length-decimal-at-most, length-decimal-three, length-decimal-four}
 use Rattle.text_theory.specs.Lengths.{length-link, length-text}
+use Rattle.text_theory.specs.OutLengths.{outs-short, outs-thousand}
 
 -- Link lines of relay numbers below 1,000 have at most 15 bytes each; with three digits each, exactly 15.
 lines-at-most : (lows highs : List ℕ) (i count : ℕ)
@@ -52,26 +53,29 @@ lines-exactly lows highs i (suc count) three =
       lines-exactly lows highs (i + 1) count (λ j h. three j (omega arith)),
     )
 
-pub longest : (n : ℕ) (lows highs : List ℕ) → Accepted n lows highs → length (textOf n lows highs) ≤ 45039
-longest n lows highs check =
-    let proper = accepted n lows highs check in
+pub longest : (n : ℕ) (lows highs states : List ℕ) → Accepted n lows highs states → length (textOf n lows highs states) ≤ 54929
+longest n lows highs states check =
+    let proper = accepted n lows highs states check in
+    let few = proper .few in
+    let long = accepted-states n lows highs states check .long in
     let m = length lows in
     let small : (j : ℕ) → j < 0 + m → (getD lows j 0 < 1000) × (getD highs j 0 < 1000) = λ j h.
     let within : j < m = omega arith in
     let ordered = proper .ordered j within in
     let below = proper .below j within in
-    (omega (arith, proper .few), omega (arith, proper .few)) in
+    (omega arith, omega arith) in
     omega (
       arith,
-      length-text n lows highs,
-      length-decimal-at-most 3 n (omega (arith, proper .few)),
+      length-text n lows highs states,
+      length-decimal-at-most 3 n (omega arith),
       length-decimal-at-most 3 m (omega (arith, proper .short)),
       lines-at-most lows highs 0 m small,
       proper .short,
+      outs-short states (omega arith),
     )
 
--- A network with a text of that length: the links of 100 to 199 with 200, then those with 201, and so on; of all these the
--- first `count`.
+-- A network with a text of that length, all its relays withdrawn: the links of 100 to 199 with 200, then those with 201, and so on;
+-- of all these the first `count`.
 unfoldable pub wideLows : ℕ → List ℕ
 wideLows count = table (λ i. 100 + i % 100) 0 count
 
@@ -123,15 +127,20 @@ wide-digits count i short h =
     let high = wide-high count i k in
     (omega arith, omega arith, omega arith, omega arith)
 
-pub wide-accepted : Accepted 1000 (wideLows 3000) (wideHighs 3000)
-wide-accepted = accepted-intro 1000 (wideLows 3000) (wideHighs 3000) (wide-proper 3000 (omega arith))
+pub wide-accepted : Accepted 1000 (wideLows 3000) (wideHighs 3000) (replicate 1000 0)
+wide-accepted =
+    accepted-intro 1000 (wideLows 3000) (wideHighs 3000) (replicate 1000 0) (wide-proper 3000 (omega arith))
+    (record { long = length-replicate {A = ℕ} 1000 0; either = λ r h. omega (arith, getD-zeros 1000 r) })
 
-pub longest-reached : length (textOf 1000 (wideLows 3000) (wideHighs 3000)) ≡ 45039
+pub longest-reached : length (textOf 1000 (wideLows 3000) (wideHighs 3000) (replicate 1000 0)) ≡ 54929
 longest-reached =
     let lows = wideLows 3000 in
     let highs = wideHighs 3000 in
+    let states : List ℕ = replicate 1000 0 in
     let lines : length (linkLines lows highs 0 (length lows)) ≡ 15 * 3000 =
     rw (wide-lows 3000) (lines-exactly lows highs 0 3000 (λ i. wide-digits 3000 i (omega arith))) in
     let count : length (decimal (length lows)) ≡ 4 =
     rw (wide-lows 3000) (length-decimal-four 3000 (omega arith) (omega arith)) in
-    omega (arith, length-text 1000 lows highs, length-decimal-four 1000 (omega arith) (omega arith))
+    let outs : length (outLines states 0 (length states)) ≡ 9890 =
+    rw (length-replicate {A = ℕ} 1000 0) outs-thousand in
+    omega (arith, length-text 1000 lows highs states, length-decimal-four 1000 (omega arith) (omega arith))

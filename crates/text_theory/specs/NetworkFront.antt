@@ -9,9 +9,9 @@ use native.Mathlib.Omega.{arith}
 use lib.Dec.{eqb}
 use lib.ListN.{length, getD}
 use borrow.Author.Tests.{ne-eqb}
-use Rattle.definitions.specs.Outcome.{done}
+use Rattle.definitions.specs.Outcome.{pick, done}
 use Rattle.definitions.specs.Form.{Item, word, numeral, byteAt, scanWord, scanItem, following, scanForm, decimal, writeForm}
-use Rattle.definitions.specs.Text.{headerForm, linkForm, endForm, Network, readNetwork, linkLines, textOf}
+use Rattle.definitions.specs.Text.{headerForm, linkForm, outForm, endForm, Network, readNetwork, linkLines, outLine, outLines, textOf}
 use Rattle.definitions.specs.Verify.{behindOr, endBehind, networkSize}
 use Rattle.lists.specs.Tests.{or-none, and-both}
 use Rattle.lists.specs.Parts.{Part, part-head, part-tail, part-first, part-second, part-start}
@@ -76,6 +76,21 @@ no-end-links lows highs i (suc count) =
     no-end-append (writeForm linkForm (a ∷ b ∷ [])) (linkLines lows highs (i + 1) count)
     (no-end-link a b) (no-end-links lows highs (i + 1) count)
 
+no-end-out : (state r : ℕ) → noEnd (outLine state r) ≡ true
+unfolding noEnd noEndWords outForm outLine
+no-end-out state r = go (eqb state 0)
+  where
+    go : (b : Bool) → noEnd (pick b (writeForm outForm (r ∷ [])) []) ≡ true
+    go true = no-end-form outForm (r ∷ []) refl
+    go false = refl
+
+no-end-outs : (states : List ℕ) (r count : ℕ) → noEnd (outLines states r count) ≡ true
+unfolding noEnd outLines
+no-end-outs states r zero = refl
+no-end-outs states r (suc count) =
+    no-end-append (outLine (getD states r 0) r) (outLines states (r + 1) count)
+    (no-end-out (getD states r 0) r) (no-end-outs states (r + 1) count)
+
 -- The search for `(end)` passes a byte at which none begins.
 passes : (input : List ℕ) (p other : ℕ) → not (eqb (byteAt input p) 40) || not (eqb (byteAt input (p + 1)) 101) ≡ true
     → behindOr (scanForm input endForm p) other ≡ other
@@ -122,19 +137,27 @@ size-behind front input q none part =
     ∙ passes-front front input 0 s (suc left) none (part-first input front end 0 q part)
     ∙ rw (line-read endForm [] input s q end-line end-fits last)
 
-text-size : (n : ℕ) (lows highs rest : List ℕ) → networkSize (textOf n lows highs ++ rest) ≡ length (textOf n lows highs)
+text-size : (n : ℕ) (lows highs states rest : List ℕ)
+    → networkSize (textOf n lows highs states ++ rest) ≡ length (textOf n lows highs states)
 unfolding textOf
-text-size n lows highs rest =
+text-size n lows highs states rest =
     let header = writeForm headerForm (n ∷ length lows ∷ []) in
     let links = linkLines lows highs 0 (length lows) in
-    rw (← (append-assoc header links (writeForm endForm [])))
-    (size-behind (header ++ links) (((header ++ links) ++ writeForm endForm []) ++ rest) _
-    (no-end-append header links (no-end-header n (length lows)) (no-end-links lows highs 0 (length lows)))
-    (part-start ((header ++ links) ++ writeForm endForm []) rest))
+    let outs = outLines states 0 (length states) in
+    let end = writeForm endForm [] in
+    let front = header ++ (links ++ outs) in
+    let joined : header ++ (links ++ (outs ++ end)) ≡ front ++ end =
+    ap (λ (l : List ℕ). header ++ l) (sym (append-assoc links outs end)) ∙ sym (append-assoc header (links ++ outs) end) in
+    rw joined
+    (size-behind front ((front ++ end) ++ rest) _
+    (no-end-append header (links ++ outs) (no-end-header n (length lows))
+    (no-end-append links outs (no-end-links lows highs 0 (length lows)) (no-end-outs states 0 (length states))))
+    (part-start (front ++ end) rest))
 
 -- In front of any rest, the text of an accepted network ends at its first `(end)` line.
-pub network-front : (text : List ℕ) (roomLows roomHighs : ℕ) (network : Network)
-    → readNetwork text roomLows roomHighs ≡ done network
+pub network-front : (text : List ℕ) (roomLows roomHighs roomStates : ℕ) (network : Network)
+    → readNetwork text roomLows roomHighs roomStates ≡ done network
     → (rest : List ℕ) → networkSize (text ++ rest) ≡ length text
-network-front text roomLows roomHighs network e rest =
-    rw (written-read text roomLows roomHighs network e .0) at (text-size (network .relays) (network .lows) (network .highs) rest)
+network-front text roomLows roomHighs roomStates network e rest =
+    rw (written-read text roomLows roomHighs roomStates network e .0)
+    at (text-size (network .relays) (network .lows) (network .highs) (network .states) rest)

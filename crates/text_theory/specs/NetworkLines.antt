@@ -1,4 +1,4 @@
--- The three lines of the network text, and the numbers that they hold.
+-- The four lines of the network text, and the numbers that they hold.
 -- Assumes nothing.
 use Prim.Native.Nat.{ℕ, _≤_, _<_}
 use mathlib.Core.Bool.{true≢false}
@@ -8,7 +8,7 @@ use native.Mathlib.Omega.{arith}
 use lib.ListN.{length, getD}
 use Rattle.definitions.specs.Network.{linkFault}
 use Rattle.definitions.specs.Form.{reads, Item, scanForm, writeForm}
-use Rattle.definitions.specs.Text.{headerForm, linkForm, endForm}
+use Rattle.definitions.specs.Text.{headerForm, linkForm, outForm, endForm}
 use Rattle.lists.specs.Parts.{Part}
 use Rattle.theory.specs.Accepted.{fault-none}
 use Rattle.text_theory.specs.Forms.{Fits, Line, scans-written, written-scanned}
@@ -33,6 +33,10 @@ pub header-fits : (n m : ℕ) → n < 10000 → m < 10000 → Fits headerForm (n
 unfolding headerForm
 header-fits n m hn hm = (hn, (hm, tt))
 
+pub out-fits : (r : ℕ) → r < 10000 → Fits outForm (r ∷ [])
+unfolding outForm
+out-fits r h = (h, tt)
+
 pub end-fits : Fits endForm []
 unfolding endForm
 end-fits = tt
@@ -50,6 +54,12 @@ header-numbers [] fits = absurd fits
 header-numbers (a ∷ []) fits = absurd (fits .1)
 header-numbers (a ∷ b ∷ []) fits = refl
 header-numbers (a ∷ b ∷ c ∷ values) fits = absurd (fits .1 .1)
+
+pub out-numbers : (values : List ℕ) → Fits outForm values → values ≡ getD values 0 0 ∷ []
+unfolding outForm
+out-numbers [] fits = absurd fits
+out-numbers (r ∷ []) fits = refl
+out-numbers (r ∷ c ∷ values) fits = absurd (fits .1)
 
 pub end-numbers : (values : List ℕ) → Fits endForm values → values ≡ []
 unfolding endForm

@@ -5,11 +5,11 @@ use mathlib.Core.Bool.{Bool, true, false, _||_}
 use mathlib.Core.List.{List, [], _∷_, _++_}
 use mathlib.Core.Path.{_≡_, refl, _∙_, ap}
 use native.Mathlib.Omega.{arith}
-use lib.Dec.{ltb}
+use lib.Dec.{eqb, ltb, leb}
 use lib.ListN.{length, getD, take, drop, length-take}
 use lib.Seq.{getD-take}
-use borrow.Author.Tests.{lt-ltb, le-ltb, ltb-true, ltb-false}
-use Rattle.definitions.specs.Outcome.{Outcome, andThen}
+use borrow.Author.Tests.{lt-ltb, le-ltb, ltb-true, ltb-false, leb-false}
+use Rattle.definitions.specs.Outcome.{pick, Outcome, andThen}
 use Rattle.definitions.specs.Lists.{outside}
 use Rattle.definitions.specs.Network.{linkFault}
 use Rattle.definitions.specs.Form.{
@@ -28,15 +28,20 @@ use Rattle.definitions.specs.Form.{
   following,
   scanForm,
   onScan,
+  decimal,
   writeForm,
 }
-use Rattle.definitions.specs.Text.{headerForm, linkForm, endForm, Network, readEnd, readLinks, readNetwork}
+use Rattle.definitions.specs.Text.{headerForm, linkForm, outForm, endForm, Network, withdrawn, readEnd, readOuts, readLinks, readNetwork}
 use Rattle.lists.specs.Front.{drop-take}
 use Rattle.lists.specs.Ranges.{inside-range}
 use Rattle.lists.specs.SameOutcomes.{refuse-same}
+use Rattle.lists.specs.Tests.{or-false}
 use Rattle.theory.specs.Accepted.{fault-none}
-use Rattle.text_theory.specs.Forms.{header-line, link-line}
-use Rattle.text_theory.specs.NetworkLines.{read-line, link-numbers}
+use Rattle.text_theory.specs.Forms.{header-line, link-line, out-line}
+use Rattle.text_theory.specs.NetworkLines.{read-line, link-numbers, out-numbers}
+use Rattle.text_theory.specs.OutByOut.{length-withdrawn}
+use Rattle.text_theory.specs.Lengths.{length-out}
+use Rattle.text_theory.specs.OutLengths.{outWidth, width-next, width-grows, width-most}
 use Rattle.text_theory.specs.Spans.{span, span-first, written-span, Within, item-within, form-within}
 
 -- The first n bytes are the same.
@@ -81,11 +86,15 @@ same-form text other (item ∷ items) p n same h =
     go (departs q) within after = refl
     go (reads values q) within after = ap (withFront values) (after q (omega (arith, span-first 4 item items)))
 
+-- A byte of the first n is that of the whole text.
+byte-reach : (n : ℕ) (text : List ℕ) (i : ℕ) → i < n → byteAt (take n text) i ≡ byteAt text i
+unfolding byteAt
+byte-reach n text i below = getD-take n text i 0 below
+
 -- A form that can reach no further than byte n is read of the first n bytes as of the whole text.
 pub form-reach : (n : ℕ) (text : List ℕ) (items : List Item) (p : ℕ) → p + span 4 items ≤ n
     → scanForm (take n text) items p ≡ scanForm text items p
-unfolding byteAt
-form-reach n text items p h = same-form text (take n text) items p n (λ i below. getD-take n text i 0 below) h
+form-reach n text items p h = same-form text (take n text) items p n (byte-reach n text) h
 
 -- The first n bytes end behind q exactly if the text does.
 length-reach : (n : ℕ) (text : List ℕ) (q : ℕ) → q < n → ltb q (length (take n text)) ≡ ltb q (length text)
@@ -103,13 +112,64 @@ unfolding onScan
 on-scan-same number limit (departs q) one other within same = refl
 on-scan-same number limit (reads values q) one other within same = same values q refl within
 
-end-reach : (n : ℕ) (text : List ℕ) (relays : ℕ) (lows highs : List ℕ) (p : ℕ) → p + 6 < n
-    → readEnd (take n text) relays lows highs p ≡ readEnd text relays lows highs p
+end-reach : (n : ℕ) (text : List ℕ) (relays : ℕ) (lows highs told : List ℕ) (p : ℕ) → p + 6 < n
+    → readEnd (take n text) relays lows highs told p ≡ readEnd text relays lows highs told p
 unfolding readEnd span endForm
-end-reach n text relays lows highs p h =
+end-reach n text relays lows highs told p h =
     rw (form-reach n text endForm p (omega arith))
     (on-scan-same 2 (p + 6) (scanForm text endForm p) _ _ (form-within endForm text p)
     (λ values q e below. rw (length-reach n text q (omega arith))))
+
+-- Where the reading of an out line ends.
+out-behind : (text : List ℕ) (p : ℕ) (values : List ℕ) (q : ℕ) → p ≤ length text → scanForm text outForm p ≡ reads values q
+    → (q ≤ length text) × (q ≡ p + (7 + length (decimal (getD values 0 0))))
+out-behind text p values q within e =
+    let line = read-line outForm text p values q out-line within e in
+    let size : length (writeForm outForm values) ≡ 7 + length (decimal (getD values 0 0)) =
+    ap (λ (l : List ℕ). length (writeForm outForm l)) (out-numbers values (line .0)) ∙ length-out (getD values 0 0) in
+    (line .1 .within, omega (arith, line .1 .reaches))
+
+-- Good out lines leave the states told behind them, and end where those of all relays before would at the latest.
+pub out-told : (text : List ℕ) (n : ℕ) (told : List ℕ) (base p : ℕ) (values : List ℕ) (q : ℕ) → p ≤ length text
+    → p ≤ base + outWidth (length told) → scanForm text outForm p ≡ reads values q
+    → (leb n (getD values 0 0) || ltb (getD values 0 0) (length told)) ≡ false
+    → (q ≤ length text) × (length (withdrawn told (getD values 0 0)) ≤ n)
+    × (q ≤ base + outWidth (length (withdrawn told (getD values 0 0))))
+out-told text n told base p values q within before e good =
+    let r = getD values 0 0 in
+    let both = or-false (leb n r) (ltb r (length told)) good in
+    let below = leb-false n r (both .0) in
+    let above = ltb-false r (length told) (both .1) in
+    let behind = out-behind text p values q within e in
+    let start = length-withdrawn told r above in (
+      behind .0,
+      omega arith,
+      rw start (omega (arith, behind .1, width-next r, width-grows (length told) r above)),
+    )
+
+-- The relays are told of one after the other, so that their lines end by 9,890 bytes; one line more, of 11 bytes at most, is read
+-- before it can be refused.
+outs-reach : (most n : ℕ) (text : List ℕ) (relays : ℕ) (lows highs told : List ℕ) (base p : ℕ) → relays ≤ 1000
+    → length told ≤ relays → p ≤ length text → p ≤ base + outWidth (length told) → base + 9901 ≤ n
+    → readOuts (take n text) relays lows highs told p most ≡ readOuts text relays lows highs told p most
+unfolding readOuts span outForm
+outs-reach zero n text relays lows highs told base p few below within before h =
+    end-reach n text relays lows highs told p (omega (arith, width-most (length told) (omega arith)))
+outs-reach (suc most) n text relays lows highs told base p few below within before h =
+    let short = width-most (length told) (omega arith) in
+    rw (
+      byte-reach n text (p + 1) (omega arith),
+      form-reach n text outForm p (omega arith),
+      end-reach n text relays lows highs told p (omega arith),
+    )
+    (ap (λ outcome. pick (eqb (byteAt text (p + 1)) 111) outcome (readEnd text relays lows highs told p))
+    (on-scan-same 2 (p + 11) (scanForm text outForm p) _ _ (form-within outForm text p)
+    (λ values q e under.
+    let r = getD values 0 0 in
+    refuse-same (leb relays r || ltb r (length told)) 16 0 _ _
+    (λ good.
+    let after = out-told text relays told base p values q within before e good in
+    outs-reach most n text relays lows highs (withdrawn told r) base q few (after .1) (after .0) (after .2) h))))
 
 -- A link without a fault takes at most 15 bytes.
 link-span : (n : ℕ) (lows highs : List ℕ) (i : ℕ) (values : List ℕ) → n ≤ 1000
@@ -135,9 +195,10 @@ link-behind text n lows highs p values q few within e none =
     (line .1 .within, omega (arith, line .1 .reaches))
 
 links-reach : (count n : ℕ) (text : List ℕ) (relays : ℕ) (lows highs : List ℕ) (p : ℕ) → relays ≤ 1000 → p ≤ length text
-    → p + 15 * count + 6 < n → readLinks (take n text) relays lows highs p count ≡ readLinks text relays lows highs p count
+    → p + 15 * count + 9901 ≤ n → readLinks (take n text) relays lows highs p count ≡ readLinks text relays lows highs p count
 unfolding readLinks span linkForm
-links-reach zero n text relays lows highs p few within h = end-reach n text relays lows highs p (omega arith)
+links-reach zero n text relays lows highs p few within h =
+    outs-reach (suc relays) n text relays lows highs [] p p few (omega arith) within (omega arith) (omega arith)
 links-reach (suc count) n text relays lows highs p few within h =
     rw (form-reach n text linkForm p (omega arith))
     (on-scan-same 2 (p + 17) (scanForm text linkForm p) _ _ (form-within linkForm text p)
@@ -150,12 +211,12 @@ links-reach (suc count) n text relays lows highs p few within h =
     let behind = link-behind text relays lows highs p values q few within e none in
     links-reach count n text relays (lows ++ (a ∷ [])) (highs ++ (b ∷ [])) q few (behind .0) (omega arith))))
 
--- The longest text that can be accepted has 45,039 bytes. Behind such a text one byte more is looked for, since nothing may
--- come after the end: any answer comes from the first 45,040 bytes.
-pub network-reach : (n : ℕ) (text : List ℕ) (roomLows roomHighs : ℕ) → 45040 ≤ n
-    → readNetwork (take n text) roomLows roomHighs ≡ readNetwork text roomLows roomHighs
+-- A header line, 3,000 link lines and 1,000 out lines have at most 54,923 bytes. Behind them one more out line is read to its end
+-- before it is refused, which is more than the end line and a byte behind it: any answer comes from the first 54,934 bytes.
+pub network-reach : (n : ℕ) (text : List ℕ) (roomLows roomHighs roomStates : ℕ) → 54934 ≤ n
+    → readNetwork (take n text) roomLows roomHighs roomStates ≡ readNetwork text roomLows roomHighs roomStates
 unfolding readNetwork span headerForm
-network-reach n text roomLows roomHighs h =
+network-reach n text roomLows roomHighs roomStates h =
     rw (form-reach n text headerForm 0 (omega arith))
     (on-scan-same 2 33 (scanForm text headerForm 0) _ _ (form-within headerForm text 0)
     (λ values p e below.
@@ -164,20 +225,20 @@ network-reach n text roomLows roomHighs h =
     let line = read-line headerForm text 0 values p header-line (omega arith) e in
     refuse-same (outside 1 1000 relays) 3 0 _ _
     (λ size. refuse-same (ltb 3000 links) 4 0 _ _
-    (λ many. refuse-same (ltb roomLows links || ltb roomHighs links) 8 0 _ _
+    (λ many. refuse-same (ltb roomLows links || (ltb roomHighs links || ltb roomStates relays)) 8 0 _ _
     (λ room.
     let least = ltb-false 3000 links many in
     links-reach links n text relays [] [] p (inside-range 1 1000 relays size .1) (line .1 .within) (omega arith))))))
 
 -- A line in front, and the network text behind it.
 pub front-reach : {A : Type 0} (form : List Item) (next : List ℕ → Network → Outcome A) (n : ℕ) (input : List ℕ)
-    → span 4 form + 45040 ≤ n
-    → onScan 1 (scanForm (take n input) form 0) (λ wish p. andThen (readNetwork (drop p (take n input)) 3000 3000) (next wish))
-    ≡ onScan 1 (scanForm input form 0) (λ wish p. andThen (readNetwork (drop p input) 3000 3000) (next wish))
+    → span 4 form + 54934 ≤ n
+    → onScan 1 (scanForm (take n input) form 0) (λ wish p. andThen (readNetwork (drop p (take n input)) 3000 3000 1000) (next wish))
+    ≡ onScan 1 (scanForm input form 0) (λ wish p. andThen (readNetwork (drop p input) 3000 3000 1000) (next wish))
 front-reach form next n input h =
     rw (form-reach n input form 0 (omega arith))
     (on-scan-same 1 (0 + span 4 form) (scanForm input form 0) _ _ (form-within form input 0)
     (λ wish p e below.
     ap (λ network. andThen network (next wish))
-    (ap (λ (rest : List ℕ). readNetwork rest 3000 3000) (drop-take p n input)
-    ∙ network-reach (n - p) (drop p input) 3000 3000 (omega arith))))
+    (ap (λ (rest : List ℕ). readNetwork rest 3000 3000 1000) (drop-take p n input)
+    ∙ network-reach (n - p) (drop p input) 3000 3000 1000 (omega arith))))

@@ -2,41 +2,42 @@
 -- Assumes nothing.
 use Prim.Native.Nat.{ℕ, zero, suc, _+_, _≤_, _<_}
 use mathlib.Core.Bool.{Bool, true, false, _||_}
-use mathlib.Core.List.{List, [], _∷_, _++_}
+use mathlib.Core.List.{List, [], _∷_, _++_, append-assoc}
 use mathlib.Core.Logic.{_↔_}
 use mathlib.Core.Path.{_≡_, refl, sym, _∙_, ap}
+use native.Mathlib.Nat.{add-zero}
 use native.Mathlib.Omega.{arith}
 use lib.Dec.{ltb, leb}
-use lib.ListN.{length, getD}
-use borrow.Author.Tests.{ltb-true, ltb-false, lt-ltb}
-use Rattle.definitions.specs.Outcome.{pick, Outcome, refused, done, refuseIf}
+use lib.ListN.{length, getD, replicate}
+use borrow.Author.Tests.{ltb-false}
+use Rattle.definitions.specs.Outcome.{pick, Outcome, refused, refuseIf}
 use Rattle.definitions.specs.Lists.{outside, someBelow}
 use Rattle.definitions.specs.Network.{isPair, linkFault, Accepted}
 use Rattle.definitions.specs.Form.{Scan, departs, reads, scanForm, onScan, writeForm}
-use Rattle.definitions.specs.Text.{headerForm, linkForm, endForm, Network, readEnd, readLinks, readNetwork, linkLines}
+use Rattle.definitions.specs.Text.{headerForm, linkForm, Network, readLinks, readNetwork, linkLines, outLines}
 use Rattle.lists.specs.Parts.{Part, part-empty, part-append, part-first, part-second}
-use Rattle.theory.specs.Accepted.{accepted}
-use Rattle.text_theory.specs.Forms.{header-line, link-line, end-line}
-use Rattle.text_theory.specs.NetworkLines.{read-line, link-numbers, header-numbers, end-numbers}
+use Rattle.theory.specs.Accepted.{ProperStates, accepted, accepted-states}
+use Rattle.text_theory.specs.Forms.{header-line, link-line}
+use Rattle.text_theory.specs.NetworkLines.{read-line, link-numbers, header-numbers}
 use Rattle.text_theory.specs.LinkByLink.{lines, Faultless, linkLines-lines, accepted-faultless, faultless-accepted}
-use Rattle.text_theory.specs.Onward.{header-onward, links-onward, end-onward}
+use Rattle.text_theory.specs.OutByOut.{outs, outLines-outs, tell, all-serve}
+use Rattle.text_theory.specs.Onward.{header-onward, links-onward, states-onward}
 use Rattle.text_theory.specs.DepartsFromForm.{DepartsAt, departs-at}
 use Rattle.text_theory.specs.DepartsOnce.{departs-exactly}
+use Rattle.text_theory.specs.OutOrEnd.{EndDeparts, due-refused, OutsDepart, outs-depart}
 
--- What is due at byte `at` with `left` link lines to come, and how the text departs from it at byte q: a link line; the end
--- line; or, the end line being there, nothing.
-pub data NextDeparts (text : List ℕ) (left at q : ℕ) : Type 0 where
-  linkDue : 0 < left → DepartsAt text linkForm at q → NextDeparts text left at q
-  endDue : left ≡ 0 → DepartsAt text endForm at q → NextDeparts text left at q
-  nothingDue : left ≡ 0 → Part text at (writeForm endForm []) q → q < length text → NextDeparts text left at q
-
--- Where a text departs: in its header line; or behind that line and the lines of an accepted table, up to byte `at`, where
--- `left` of the link lines that the header announces are still to come.
+-- Where a text departs: in its header line; behind that line and the lines of an accepted table, up to byte `at`, where `left` more
+-- link lines are due; or behind all the link lines that the header announces and the out lines of some states.
 pub data Departure (text : List ℕ) (q : ℕ) : Type 0 where
   headerDue : DepartsAt text headerForm 0 q → Departure text q
-  linesDue : (n : ℕ) (lows highs : List ℕ) (left at : ℕ) → Accepted n lows highs → length lows + left ≤ 3000
+  linkDue : (n : ℕ) (lows highs : List ℕ) (left at : ℕ) → Accepted n lows highs (replicate n 1) → 0 < left
+      → length lows + left ≤ 3000
       → Part text 0 (writeForm headerForm (n ∷ (length lows + left) ∷ []) ++ linkLines lows highs 0 (length lows)) at
-      → NextDeparts text left at q → Departure text q
+      → DepartsAt text linkForm at q → Departure text q
+  endDue : (n : ℕ) (lows highs states : List ℕ) (at : ℕ) → Accepted n lows highs states
+      → Part text 0
+      (writeForm headerForm (n ∷ length lows ∷ []) ++ (linkLines lows highs 0 (length lows) ++ outLines states 0 (length states))) at
+      → EndDeparts text at q → Departure text q
 
 -- A refusal with another number than the test's comes from what follows the test.
 refused-later : {A : Type 0} (b : Bool) (number place : ℕ) (rest : Outcome A) (r q : ℕ)
@@ -56,6 +57,11 @@ fault-not-two n lows highs i a b e = go (leb n a || leb n b) (leb b a) (someBelo
     go false false true e = omega arith
     go false false false e = omega arith
 
+-- Behind the link lines that were read: one more, or the out lines and the end.
+data LinksOver (text : List ℕ) (n left at q : ℕ) : Type 0 where
+  oneMore : 0 < left → DepartsAt text linkForm at q → LinksOver text n left at q
+  noMore : left ≡ 0 → OutsDepart text n at q → LinksOver text n left at q
+
 -- The links that were read from byte p on, up to byte `at`, and what is due there.
 record LinksDepart (text : List ℕ) (n : ℕ) (lows highs : List ℕ) (p count q : ℕ) : Type 0 where
   ls : List ℕ
@@ -66,45 +72,45 @@ record LinksDepart (text : List ℕ) (n : ℕ) (lows highs : List ℕ) (p count 
   many : length ls + left ≡ count
   good : Faultless n lows highs ls hs
   part : Part text p (lines ls hs) at
-  due : NextDeparts text left at q
-
-end-refused : (text : List ℕ) (n : ℕ) (lows highs : List ℕ) (p q : ℕ) → p ≤ length text
-    → readEnd text n lows highs p ≡ refused 2 q → NextDeparts text 0 p q
-unfolding readEnd onScan refuseIf
-end-refused text n lows highs p q within e = go (scanForm text endForm p) refl e
-  where
-    over : (values : List ℕ) (at : ℕ) → scanForm text endForm p ≡ reads values at → (b : Bool) → ltb at (length text) ≡ b
-        → refuseIf {A = Network} b 2 at (done (record { relays = n; lows = lows; highs = highs })) ≡ refused 2 q → NextDeparts text 0 p q
-    over values at first true test e =
-        let same : at ≡ q = cc in
-        let line = read-line endForm text p values at end-line within first in
-        let here : Part text p (writeForm endForm []) at = rw (end-numbers values (line .0)) at (line .1) in
-        nothingDue refl (rw same at here) (rw same at (ltb-true at (length text) test))
-    over values at first false test e = let z : _≡_ {A = ℕ} 0 1 = cc in absurd (omega arith)
-
-    go : (scan : Scan) → scanForm text endForm p ≡ scan
-        → onScan {A = Network} 2 scan
-        (λ _ at. refuseIf (ltb at (length text)) 2 at (done (record { relays = n; lows = lows; highs = highs }))) ≡ refused 2 q
-        → NextDeparts text 0 p q
-    go (departs at) first e =
-        let same : at ≡ q = cc in
-        endDue refl (departs-at endForm text p q (end-line .0) within (first ∙ ap departs same))
-    go (reads values at) first e = over values at first (ltb at (length text)) refl e
+  over : LinksOver text n left at q
 
 -- Behind the header line: the lines that were read, and the table that they make.
 behind-header : (text : List ℕ) (n m p q : ℕ) → Part text 0 (writeForm headerForm (n ∷ m ∷ [])) p
     → outside 1 1000 n ≡ false → m ≤ 3000 → LinksDepart text n [] [] p m q → Departure text q
-behind-header text n m p q header size few links =
-    let short : length (links .ls) ≤ 3000 = omega (arith, links .many) in
-    let written : lines (links .ls) (links .hs) ≡ linkLines (links .ls) (links .hs) 0 (length (links .ls)) =
-    sym (linkLines-lines (links .ls) (links .hs) [] [] refl (links .even)) in
-    let before = part-append text (writeForm headerForm (n ∷ m ∷ [])) (lines (links .ls) (links .hs)) 0 p (links .at)
-    header (links .part) in
-    linesDue n (links .ls) (links .hs) (links .left) (links .at)
-    (faultless-accepted n (links .ls) (links .hs) size (links .even) short (links .good))
-    (omega (arith, links .many))
-    (rw (links .many, ← written) before)
-    (links .due)
+behind-header text n m p q header size few links = go (links .over)
+  where
+    ls : List ℕ
+    ls = links .ls
+
+    hs : List ℕ
+    hs = links .hs
+
+    accept : (states : List ℕ) → ProperStates n states → Accepted n ls hs states
+    accept states proper =
+        faultless-accepted n ls hs states size (links .even) (omega (arith, links .many)) (links .good) proper
+
+    written : lines ls hs ≡ linkLines ls hs 0 (length ls)
+    written = sym (linkLines-lines ls hs [] [] refl (links .even))
+
+    before : Part text 0 (writeForm headerForm (n ∷ (length ls + links .left) ∷ []) ++ linkLines ls hs 0 (length ls)) (links .at)
+    before =
+        rw (links .many, ← written)
+        (part-append text (writeForm headerForm (n ∷ m ∷ [])) (lines ls hs) 0 p (links .at) header (links .part))
+
+    go : LinksOver text n (links .left) (links .at) q → Departure text q
+    go (oneMore more here) =
+        linkDue n ls hs (links .left) (links .at) (accept (replicate n 1) (all-serve n)) more (omega (arith, links .many)) before here
+    go (noMore none seen) =
+        let states = seen .states in
+        let written = outLines states 0 (length states) in
+        let table = linkLines ls hs 0 (length ls) in
+        let first = writeForm headerForm (n ∷ length ls ∷ []) in
+        let count : length ls + links .left ≡ length ls = omega arith in
+        let out : Part text (links .at) written (seen .at) = rw (outLines-outs states []) (seen .part) in
+        endDue n ls hs states (seen .at) (accept states (seen .proper))
+        (rw (append-assoc first table written) at
+        (part-append text (first ++ table) written 0 (links .at) (seen .at) (rw count at before) out))
+        (seen .due)
 
 -- A link line, and behind it the others.
 one-more : (text : List ℕ) (n : ℕ) (lows highs : List ℕ) (a b p at count q : ℕ)
@@ -121,14 +127,14 @@ one-more text n lows highs a b p at count q none line after =
       many = omega (arith, after .many);
       good = (none, after .good);
       part = part-append text (writeForm linkForm (a ∷ b ∷ [])) (lines (after .ls) (after .hs)) p at (after .at) line (after .part);
-      due = after .due;
+      over = after .over;
     }
 
 -- No line was read.
-none-read : (text : List ℕ) (n : ℕ) (lows highs : List ℕ) (p count q : ℕ) → p ≤ length text → NextDeparts text count p q
+none-read : (text : List ℕ) (n : ℕ) (lows highs : List ℕ) (p count q : ℕ) → p ≤ length text → LinksOver text n count p q
     → LinksDepart text n lows highs p count q
 unfolding lines
-none-read text n lows highs p count q within due =
+none-read text n lows highs p count q within over =
     record {
       ls = [];
       hs = [];
@@ -138,14 +144,14 @@ none-read text n lows highs p count q within due =
       many = omega arith;
       good = tt;
       part = part-empty text p within;
-      due = due;
+      over = over;
     }
 
 links-depart : (count : ℕ) (text : List ℕ) (n : ℕ) (lows highs : List ℕ) (p q : ℕ) → p ≤ length text
     → readLinks text n lows highs p count ≡ refused 2 q → LinksDepart text n lows highs p count q
 unfolding readLinks onScan
 links-depart zero text n lows highs p q within e =
-    none-read text n lows highs p 0 q within (end-refused text n lows highs p q within e)
+    none-read text n lows highs p 0 q within (noMore refl (outs-depart text n lows highs p q within e))
 links-depart (suc count) text n lows highs p q within e =
     go (scanForm text linkForm p) refl e
     (λ a b at. links-depart count text n (lows ++ (a ∷ [])) (highs ++ (b ∷ [])) at q)
@@ -162,7 +168,7 @@ links-depart (suc count) text n lows highs p q within e =
     go (departs at) first e hyp =
         let same : at ≡ q = cc in
         none-read text n lows highs p (suc count) q within
-        (linkDue (omega arith) (departs-at linkForm text p q (link-line .0) within (first ∙ ap departs same)))
+        (oneMore (omega arith) (departs-at linkForm text p q (link-line .0) within (first ∙ ap departs same)))
     go (reads values at) first e hyp =
         let a = getD values 0 0 in
         let b = getD values 1 0 in
@@ -175,16 +181,16 @@ links-depart (suc count) text n lows highs p q within e =
         (hyp a b at (line .1 .within) (over .1))
 
 -- Refusal 2 is at the first byte that departs from the form due, whatever room there is.
-pub refused-two : (text : List ℕ) (roomLows roomHighs q : ℕ) → readNetwork text roomLows roomHighs ≡ refused 2 q
+pub refused-two : (text : List ℕ) (roomLows roomHighs roomStates q : ℕ) → readNetwork text roomLows roomHighs roomStates ≡ refused 2 q
     → Departure text q
 unfolding readNetwork onScan
-refused-two text roomLows roomHighs q e = go (scanForm text headerForm 0) refl e
+refused-two text roomLows roomHighs roomStates q e = go (scanForm text headerForm 0) refl e
   where
     go : (scan : Scan) → scanForm text headerForm 0 ≡ scan
         → onScan {A = Network} 2 scan
         (λ counts p. refuseIf (outside 1 1000 (getD counts 0 0)) 3 0
         (refuseIf (ltb 3000 (getD counts 1 0)) 4 0
-        (refuseIf (ltb roomLows (getD counts 1 0) || ltb roomHighs (getD counts 1 0)) 8 0
+        (refuseIf (ltb roomLows (getD counts 1 0) || (ltb roomHighs (getD counts 1 0) || ltb roomStates (getD counts 0 0))) 8 0
         (readLinks text (getD counts 0 0) [] [] p (getD counts 1 0))))) ≡ refused 2 q
         → Departure text q
     go (departs at) first e =
@@ -196,47 +202,73 @@ refused-two text roomLows roomHighs q e = go (scanForm text headerForm 0) refl e
         let line = read-line headerForm text 0 values p header-line (omega arith) first in
         let here : Part text 0 (writeForm headerForm (n ∷ m ∷ [])) p = rw (header-numbers values (line .0)) at (line .1) in
         let links = readLinks text n [] [] p m in
-        let roomy = refuseIf (ltb roomLows m || ltb roomHighs m) 8 0 links in
+        let full = ltb roomLows m || (ltb roomHighs m || ltb roomStates n) in
+        let roomy = refuseIf full 8 0 links in
         let size = refused-later (outside 1 1000 n) 3 0 (refuseIf (ltb 3000 m) 4 0 roomy) 2 q e (λ x. omega arith) in
         let many = refused-later (ltb 3000 m) 4 0 roomy 2 q (size .1) (λ x. omega arith) in
-        let room = refused-later (ltb roomLows m || ltb roomHighs m) 8 0 links 2 q (many .1) (λ x. omega arith) in
+        let room = refused-later full 8 0 links 2 q (many .1) (λ x. omega arith) in
         behind-header text n m p q here (size .0) (ltb-false 3000 m (many .0))
         (links-depart m text n [] [] p q (line .1 .within) (room .1))
 
--- What is due decides the reader's answer from there on.
-due-refused : (text : List ℕ) (n : ℕ) (lows highs : List ℕ) (left at q : ℕ) → at ≤ length text → NextDeparts text left at q
-    → readLinks text n lows highs at left ≡ refused 2 q
-unfolding readLinks readEnd onScan refuseIf
-due-refused text n lows highs zero at q within (linkDue more here) = absurd (omega arith)
-due-refused text n lows highs (suc left) at q within (linkDue more here) =
+-- One more link line is due.
+link-refused : (text : List ℕ) (n : ℕ) (lows highs : List ℕ) (left at q : ℕ) → at ≤ length text → 0 < left
+    → DepartsAt text linkForm at q → readLinks text n lows highs at left ≡ refused 2 q
+unfolding readLinks onScan
+link-refused text n lows highs zero at q within more here = absurd (omega arith)
+link-refused text n lows highs (suc left) at q within more here =
     rw (departs-exactly linkForm text at q link-line within .1 here)
-due-refused text n lows highs zero at q within (endDue none here) =
-    rw (departs-exactly endForm text at q end-line within .1 here)
-due-refused text n lows highs (suc left) at q within (endDue none here) = absurd (omega arith)
-due-refused text n lows highs zero at q within (nothingDue none here before) =
-    end-onward text n lows highs at q here ∙ rw (lt-ltb q (length text) before)
-due-refused text n lows highs (suc left) at q within (nothingDue none here before) = absurd (omega arith)
 
-departure-refused : (text : List ℕ) (roomLows roomHighs q : ℕ) → 3000 ≤ roomLows → 3000 ≤ roomHighs → Departure text q
-    → readNetwork text roomLows roomHighs ≡ refused 2 q
-unfolding readNetwork onScan
-departure-refused text roomLows roomHighs q inLows inHighs (headerDue here) =
-    rw (departs-exactly headerForm text 0 q header-line (omega arith) .1 here)
-departure-refused text roomLows roomHighs q inLows inHighs (linesDue n lows highs left at check few before due) =
-    let table = accepted n lows highs check in
+-- An out line or the end is due, behind the out lines of some states.
+end-due-refused : (text : List ℕ) (n : ℕ) (lows highs states : List ℕ) (p at q : ℕ) → Accepted n lows highs states
+    → Part text p (outLines states 0 (length states)) at → EndDeparts text at q → readLinks text n lows highs p 0 ≡ refused 2 q
+end-due-refused text n lows highs states p at q check part due =
+    let proper = accepted-states n lows highs states check in
+    let out : Part text p (outs 0 states) at = rw (outLines-outs states []) at part in
+    let (left, some, told) = states-onward text n lows highs states p at (accepted n lows highs states check .few) proper out in
+    told ∙ due-refused text n lows highs (tell [] 0 states) at q left (part .within) some due
+
+-- The reader goes on behind the header line and the lines of an accepted table, with room for every network.
+table-onward : (text : List ℕ) (n : ℕ) (lows highs states : List ℕ) (left at roomLows roomHighs roomStates : ℕ)
+    → Accepted n lows highs states → length lows + left ≤ 3000 → 3000 ≤ roomLows → 3000 ≤ roomHighs → 1000 ≤ roomStates
+    → Part text 0 (writeForm headerForm (n ∷ (length lows + left) ∷ []) ++ linkLines lows highs 0 (length lows)) at
+    → readNetwork text roomLows roomHighs roomStates ≡ readLinks text n lows highs at left
+table-onward text n lows highs states left at roomLows roomHighs roomStates check few inLows inHighs inStates before =
+    let table = accepted n lows highs states check in
+    let size = table .few in
     let m = length lows + left in
     let header = writeForm headerForm (n ∷ m ∷ []) in
     let p = 0 + length header in
     let both : Part text 0 (header ++ lines lows highs) at =
     rw (linkLines-lines lows highs [] [] refl (table .even)) at before in
-    header-onward text n m p roomLows roomHighs (table .some) (table .few) few (omega arith) (omega arith)
+    header-onward text n m p roomLows roomHighs roomStates (table .some) size few (omega arith) (omega arith) (omega arith)
     (part-first text header (lines lows highs) 0 at both)
-    ∙ links-onward text n lows highs [] [] p at left (table .few) (table .even) (accepted-faultless n lows highs check)
+    ∙ links-onward text n lows highs [] [] p at left size (table .even) (accepted-faultless n lows highs states check)
     (part-second text header (lines lows highs) 0 at both)
-    ∙ due-refused text n lows highs left at q (before .within) due
 
--- With room for 3,000 links each, the reader refuses with 2 at q exactly if the text departs at q.
-pub refused-two-exactly : (text : List ℕ) (roomLows roomHighs q : ℕ) → 3000 ≤ roomLows → 3000 ≤ roomHighs
-    → (readNetwork text roomLows roomHighs ≡ refused 2 q) ↔ Departure text q
-refused-two-exactly text roomLows roomHighs q inLows inHighs =
-    (refused-two text roomLows roomHighs q, departure-refused text roomLows roomHighs q inLows inHighs)
+departure-refused : (text : List ℕ) (roomLows roomHighs roomStates q : ℕ) → 3000 ≤ roomLows → 3000 ≤ roomHighs → 1000 ≤ roomStates
+    → Departure text q → readNetwork text roomLows roomHighs roomStates ≡ refused 2 q
+unfolding readNetwork onScan
+departure-refused text roomLows roomHighs roomStates q inLows inHighs inStates (headerDue here) =
+    rw (departs-exactly headerForm text 0 q header-line (omega arith) .1 here)
+departure-refused text roomLows roomHighs roomStates q inLows inHighs inStates (linkDue n lows highs left at check more few before here) =
+    table-onward text n lows highs (replicate n 1) left at roomLows roomHighs roomStates check few inLows inHighs inStates before
+    ∙ link-refused text n lows highs left at q (before .within) more here
+departure-refused text roomLows roomHighs roomStates q inLows inHighs inStates (endDue n lows highs states at check before due) =
+    let table = accepted n lows highs states check in
+    let header = writeForm headerForm (n ∷ length lows ∷ []) in
+    let links = linkLines lows highs 0 (length lows) in
+    let written = outLines states 0 (length states) in
+    let both : Part text 0 ((header ++ links) ++ written) at = rw (append-assoc header links written) before in
+    let p = 0 + length (header ++ links) in
+    let first : Part text 0 (writeForm headerForm (n ∷ (length lows + 0) ∷ []) ++ links) p =
+    rw (add-zero (length lows)) (part-first text (header ++ links) written 0 at both) in
+    table-onward text n lows highs states 0 p roomLows roomHighs roomStates check (omega (arith, table .short)) inLows inHighs inStates first
+    ∙ end-due-refused text n lows highs states p at q check (part-second text (header ++ links) written 0 at both) due
+
+-- With room for 3,000 links and 1,000 relays, the reader refuses with 2 at q exactly if the text departs at q.
+pub refused-two-exactly : (text : List ℕ) (roomLows roomHighs roomStates q : ℕ) → 3000 ≤ roomLows → 3000 ≤ roomHighs
+    → 1000 ≤ roomStates → (readNetwork text roomLows roomHighs roomStates ≡ refused 2 q) ↔ Departure text q
+refused-two-exactly text roomLows roomHighs roomStates q inLows inHighs inStates = (
+  refused-two text roomLows roomHighs roomStates q,
+  departure-refused text roomLows roomHighs roomStates q inLows inHighs inStates,
+)

@@ -1,42 +1,46 @@
--- The refusals of a reading: what holds of them step by step. With room for every table the numbers of Read's refusals go up to
--- 7, and their places up to the longest text. Assumes nothing.
-use Prim.Native.Nat.{ℕ, zero, suc, _+_, _*_, _≤_}
-use mathlib.Core.Bool.{false, _||_}
+-- The refusals of a reading: what holds of them step by step. With room for every network the numbers of Read's refusals are 2 to 7
+-- and 16, and their places go up to 54,933. Assumes nothing.
+use Prim.Native.Nat.{ℕ, zero, suc, _+_, _*_, _≤_, _<_}
+use mathlib.Core.Bool.{Bool, true, false, _||_}
 use mathlib.Core.List.{List, [], _∷_, _++_}
 use mathlib.Core.Logic.{_⊎_, inl, inr}
 use mathlib.Core.Path.{_≡_, refl, ap}
 use native.Mathlib.Omega.{arith}
-use lib.Dec.{ltb, leb}
+use lib.Dec.{eqb, ltb, leb}
 use lib.ListN.{length, getD, length-append}
 use borrow.Author.Tests.{ltb-false, le-ltb}
-use Rattle.definitions.specs.Outcome.{Outcome, refused}
+use Rattle.definitions.specs.Outcome.{pick, Outcome, refused}
 use Rattle.definitions.specs.Lists.{outside, someBelow}
 use Rattle.definitions.specs.Network.{isPair, linkFault}
-use Rattle.definitions.specs.Form.{Scan, departs, reads, scanForm, onScan}
-use Rattle.definitions.specs.Text.{headerForm, linkForm, endForm, readEnd, readLinks, readNetwork}
+use Rattle.definitions.specs.Form.{Scan, departs, reads, byteAt, scanForm, onScan}
+use Rattle.definitions.specs.Text.{
+  headerForm,
+  linkForm,
+  outForm,
+  endForm,
+  withdrawn,
+  readEnd,
+  readOuts,
+  readLinks,
+  readNetwork,
+}
 use Rattle.lists.specs.Ranges.{inside-range}
 use Rattle.lists.specs.Outcomes.{refuse-not}
-use Rattle.lists.specs.RefusedWithin.{RefusedAs, Bounds, RefusedWithin, refuse-within, pick-within}
+use Rattle.lists.specs.RefusedWithin.{RefusedAs, refuse-as, pick-within}
 use Rattle.lists.specs.Tests.{or-neither}
 use Rattle.text_theory.specs.Forms.{header-line}
 use Rattle.text_theory.specs.NetworkLines.{read-line}
+use Rattle.text_theory.specs.OutLengths.{outWidth, width-most}
 use Rattle.text_theory.specs.Spans.{span, Within, form-within}
-use Rattle.text_theory.specs.Reach.{link-behind}
+use Rattle.text_theory.specs.Reach.{link-behind, out-told}
 
 pub on-scan-as : {A : Type 0} (P : ℕ → ℕ → Type 0) (number limit : ℕ) (scan : Scan) (next : List ℕ → ℕ → Outcome A)
-    → ((place : ℕ) → place ≤ limit → P number place) → Within limit scan
+    → ((place : ℕ) → place < limit → P number place) → Within limit scan
     → ((values : List ℕ) (q : ℕ) → scan ≡ reads values q → q ≤ limit → RefusedAs P (next values q))
     → RefusedAs P (onScan number scan next)
 unfolding onScan
 on-scan-as P number limit (departs q) next here within after = here q within
 on-scan-as P number limit (reads values q) next here within after = after values q refl within
-
-pub on-scan-within : {A : Type 0} (numbers places number limit : ℕ) (scan : Scan) (next : List ℕ → ℕ → Outcome A)
-    → number ≤ numbers → limit ≤ places → Within limit scan
-    → ((values : List ℕ) (q : ℕ) → scan ≡ reads values q → q ≤ limit → RefusedWithin numbers places (next values q))
-    → RefusedWithin numbers places (onScan number scan next)
-on-scan-within numbers places number limit scan next h l within after =
-    on-scan-as (Bounds numbers places) number limit scan next (λ place below. (h, omega arith)) within after
 
 -- What stands before a refusal: the scan departs, or it reads and the next step refuses.
 pub on-scan-refused : {A : Type 0} (own : ℕ) (scan : Scan) (next : List ℕ → ℕ → Outcome A) (number place : ℕ)
@@ -56,45 +60,82 @@ fault-within n lows highs i a b =
     (pick-within 7 (leb b a) 6 _ (omega arith)
     (pick-within 7 (someBelow (isPair lows highs a b) i) 7 0 (omega arith) (omega arith)))
 
-end-within : (text : List ℕ) (n : ℕ) (lows highs : List ℕ) (p : ℕ) → p + 6 ≤ 45039
-    → RefusedWithin 7 45039 (readEnd text n lows highs p)
+-- The numbers and places of Read's refusals with room for every network. The last place is that of the line end of an out line
+-- behind 3,000 link lines and 1,000 out lines.
+abbrev pub ReadRefusal : (number place : ℕ) → Type 0
+ReadRefusal number place = ((number ≤ 7) ⊎ (number ≡ 16)) × (place ≤ 54933)
+
+-- One of two ways to go on.
+either-as : {A : Type 0} (P : ℕ → ℕ → Type 0) (b : Bool) (one other : Outcome A) → RefusedAs P one → RefusedAs P other
+    → RefusedAs P (pick b one other)
+either-as P true one other first second = first
+either-as P false one other first second = second
+
+end-within : (text : List ℕ) (n : ℕ) (lows highs told : List ℕ) (p : ℕ) → p + 6 ≤ 54933
+    → RefusedAs ReadRefusal (readEnd text n lows highs told p)
 unfolding readEnd span endForm
-end-within text n lows highs p h =
-    on-scan-within 7 45039 2 (p + 6) (scanForm text endForm p) _ (omega arith) h (form-within endForm text p)
+end-within text n lows highs told p h =
+    on-scan-as ReadRefusal 2 (p + 6) (scanForm text endForm p) _ (λ place below. (inl (omega arith), omega arith))
+    (form-within endForm text p)
     (λ values q e below.
-    refuse-within 7 45039 (ltb q (length text)) 2 q _ (omega arith) (omega arith) (λ _. tt))
+    refuse-as ReadRefusal (ltb q (length text)) 2 q _ (λ _. (inl (omega arith), omega arith)) (λ _. tt))
+
+outs-within : (most : ℕ) (text : List ℕ) (n : ℕ) (lows highs told : List ℕ) (base p : ℕ) → n ≤ 1000 → length told ≤ n
+    → p ≤ length text → p ≤ base + outWidth (length told) → base + 9901 ≤ 54934
+    → RefusedAs ReadRefusal (readOuts text n lows highs told p most)
+unfolding readOuts span outForm
+outs-within zero text n lows highs told base p few below within before h =
+    end-within text n lows highs told p (omega (arith, width-most (length told) (omega arith)))
+outs-within (suc most) text n lows highs told base p few below within before h =
+    let short = width-most (length told) (omega arith) in
+    either-as ReadRefusal (eqb (byteAt text (p + 1)) 111) _ (readEnd text n lows highs told p)
+    (on-scan-as ReadRefusal 2 (p + 11) (scanForm text outForm p) _ (λ place under. (inl (omega arith), omega arith))
+    (form-within outForm text p)
+    (λ values q e under.
+    let r = getD values 0 0 in
+    refuse-as ReadRefusal (leb n r || ltb r (length told)) 16 0 _ (λ _. (inr refl, omega arith))
+    (λ good.
+    let after = out-told text n told base p values q within before e good in
+    outs-within most text n lows highs (withdrawn told r) base q few (after .1) (after .0) (after .2) h)))
+    (end-within text n lows highs told p (omega arith))
 
 links-within : (count : ℕ) (text : List ℕ) (n : ℕ) (lows highs : List ℕ) (p : ℕ) → n ≤ 1000 → p ≤ length text
-    → p + 15 * count + 6 ≤ 45039 → length lows + count ≤ 3000 → RefusedWithin 7 45039 (readLinks text n lows highs p count)
+    → p + 15 * count + 9901 ≤ 54934 → length lows + count ≤ 3000 → RefusedAs ReadRefusal (readLinks text n lows highs p count)
 unfolding readLinks span linkForm
-links-within zero text n lows highs p few within h many = end-within text n lows highs p (omega arith)
+links-within zero text n lows highs p few within h many =
+    outs-within (suc n) text n lows highs [] p p few (omega arith) within (omega arith) (omega arith)
 links-within (suc count) text n lows highs p few within h many =
-    on-scan-within 7 45039 2 (p + 17) (scanForm text linkForm p) _ (omega arith) (omega arith) (form-within linkForm text p)
+    on-scan-as ReadRefusal 2 (p + 17) (scanForm text linkForm p) _ (λ place below. (inl (omega arith), omega arith))
+    (form-within linkForm text p)
     (λ values q e below.
     let a = getD values 0 0 in
     let b = getD values 1 0 in
     let fault = linkFault n lows highs (length lows) a b in
-    refuse-within 7 45039 (ltb 0 fault) fault (length lows) _
-    (omega (arith, fault-within n lows highs (length lows) a b)) (omega arith)
+    refuse-as ReadRefusal (ltb 0 fault) fault (length lows) _
+    (λ _. (inl (fault-within n lows highs (length lows) a b), omega arith))
     (λ none.
     let behind = link-behind text n lows highs p values q few within e none in
     links-within count text n (lows ++ (a ∷ [])) (highs ++ (b ∷ [])) q few (behind .0) (omega arith)
     (omega (arith, length-append lows (a ∷ [])))))
 
-pub network-within : (text : List ℕ) (roomLows roomHighs : ℕ) → 3000 ≤ roomLows → 3000 ≤ roomHighs
-    → RefusedWithin 7 45039 (readNetwork text roomLows roomHighs)
+pub network-within : (text : List ℕ) (roomLows roomHighs roomStates : ℕ) → 3000 ≤ roomLows → 3000 ≤ roomHighs → 1000 ≤ roomStates
+    → RefusedAs ReadRefusal (readNetwork text roomLows roomHighs roomStates)
 unfolding readNetwork span headerForm
-network-within text roomLows roomHighs inLows inHighs =
-    on-scan-within 7 45039 2 33 (scanForm text headerForm 0) _ (omega arith) (omega arith) (form-within headerForm text 0)
+network-within text roomLows roomHighs roomStates inLows inHighs inStates =
+    on-scan-as ReadRefusal 2 33 (scanForm text headerForm 0) _ (λ place below. (inl (omega arith), omega arith))
+    (form-within headerForm text 0)
     (λ values p e below.
     let n = getD values 0 0 in
     let m = getD values 1 0 in
     let line = read-line headerForm text 0 values p header-line (omega arith) e in
-    refuse-within 7 45039 (outside 1 1000 n) 3 0 _ (omega arith) (omega arith)
-    (λ size. refuse-within 7 45039 (ltb 3000 m) 4 0 _ (omega arith) (omega arith)
+    refuse-as ReadRefusal (outside 1 1000 n) 3 0 _ (λ _. (inl (omega arith), omega arith))
+    (λ size. refuse-as ReadRefusal (ltb 3000 m) 4 0 _ (λ _. (inl (omega arith), omega arith))
     (λ many.
     let most = ltb-false 3000 m many in
-    let roomy : (ltb roomLows m || ltb roomHighs m) ≡ false =
-    or-neither (ltb roomLows m) (ltb roomHighs m) (le-ltb roomLows m (omega arith)) (le-ltb roomHighs m (omega arith)) in
-    rw (refuse-not (ltb roomLows m || ltb roomHighs m) 8 0 (readLinks text n [] [] p m) roomy)
-    (links-within m text n [] [] p (inside-range 1 1000 n size .1) (line .1 .within) (omega arith) (omega arith)))))
+    let few = inside-range 1 1000 n size .1 in
+    let full = ltb roomLows m || (ltb roomHighs m || ltb roomStates n) in
+    let roomy : full ≡ false =
+    or-neither (ltb roomLows m) _ (le-ltb roomLows m (omega arith))
+    (or-neither (ltb roomHighs m) _ (le-ltb roomHighs m (omega arith)) (le-ltb roomStates n (omega arith))) in
+    rw (refuse-not full 8 0 (readLinks text n [] [] p m) roomy)
+    (links-within m text n [] [] p few (line .1 .within) (omega arith) (omega arith)))))

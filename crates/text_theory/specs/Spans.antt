@@ -56,9 +56,9 @@ written-span more (numeral ∷ items) (x ∷ values) small =
       written-span more items values (small .1),
     )
 
--- The offset that a reading gives, the byte that departs or the one behind what was read, is at most this.
+-- The byte that departs is before this offset, or what was read ends there at most.
 abbrev pub Within : ℕ → Scan → Type 0
-Within limit (departs q) = q ≤ limit
+Within limit (departs q) = q < limit
 Within limit (reads values q) = q ≤ limit
 
 within-wider : (low high : ℕ) (scan : Scan) → low ≤ high → Within low scan → Within high scan

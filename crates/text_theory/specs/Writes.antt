@@ -10,20 +10,20 @@ use Rattle.definitions.specs.Lists.{overwrite}
 use Rattle.definitions.specs.Network.{Accepted}
 use Rattle.definitions.specs.Text.{textOf, writeAnswer, bufferAfter}
 
-module _ (n : ℕ) (lows highs buffer : List ℕ) (check : Accepted n lows highs) where
-  pub write-short : length buffer < length (textOf n lows highs)
-      → (writeAnswer n lows highs buffer ≡ refused 12 0) × (bufferAfter n lows highs buffer ≡ buffer)
+module _ (n : ℕ) (lows highs states buffer : List ℕ) (check : Accepted n lows highs states) where
+  pub write-short : length buffer < length (textOf n lows highs states)
+      → (writeAnswer n lows highs states buffer ≡ refused 12 0) × (bufferAfter n lows highs states buffer ≡ buffer)
   unfolding writeAnswer bufferAfter andThen ifDone refuseIf
   write-short h = (
-    rw (check, lt-ltb (length buffer) (length (textOf n lows highs)) h),
-    rw (check, lt-ltb (length buffer) (length (textOf n lows highs)) h),
+    rw (check, lt-ltb (length buffer) (length (textOf n lows highs states)) h),
+    rw (check, lt-ltb (length buffer) (length (textOf n lows highs states)) h),
   )
 
-  pub write-done : length (textOf n lows highs) ≤ length buffer
-      → (writeAnswer n lows highs buffer ≡ done (length (textOf n lows highs) ∷ []))
-      × (bufferAfter n lows highs buffer ≡ overwrite (textOf n lows highs) buffer)
+  pub write-done : length (textOf n lows highs states) ≤ length buffer
+      → (writeAnswer n lows highs states buffer ≡ done (length (textOf n lows highs states) ∷ []))
+      × (bufferAfter n lows highs states buffer ≡ overwrite (textOf n lows highs states) buffer)
   unfolding writeAnswer bufferAfter andThen ifDone refuseIf
   write-done h = (
-    rw (check, le-ltb (length buffer) (length (textOf n lows highs)) h),
-    rw (check, le-ltb (length buffer) (length (textOf n lows highs)) h),
+    rw (check, le-ltb (length buffer) (length (textOf n lows highs states)) h),
+    rw (check, le-ltb (length buffer) (length (textOf n lows highs states)) h),
   )

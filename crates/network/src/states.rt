@@ -1,0 +1,41 @@
+// The states of the relays, 1 in service or 0 withdrawn: the last step of the table check.
+use crate::Check;
+use crate::Refusal;
+ghost use mathlib.Core.List.{[]};
+ghost use mathlib.Core.Path.{_≡_};
+ghost use Rattle.definitions.specs.Outcome.{done, refuseIf, andThen};
+ghost use Rattle.definitions.specs.Network.{statesFault};
+ghost use Rattle.network.specs.Answers.{checkOutcome};
+
+// The list is not n long, or has an entry other than 0 and 1.
+fn states_fault(n: u16, states: &[u16]) -> bool
+    ensures { λ r. ⌜ r ≡ statesFault n (now (states .entry)) ⌝ }
+{
+    if states.len() != n as usize {
+        return true;
+    }
+    let mut i = 0;
+    while i < states.len() {
+        if 1 < states[i] {
+            return true;
+        }
+        i += 1;
+    }
+    false
+}
+
+// What the links were refused for stands; after good links the states decide.
+pub(crate) fn states_check(links: Check, n: u16, states: &[u16]) -> Check
+    ensures { λ r. ⌜ checkOutcome r
+        ≡ andThen (checkOutcome links) (λ _. refuseIf (statesFault n (now (states .entry))) 16 0 (done [])) ⌝ }
+{
+    match links {
+        Check::Refused(refusal) => Check::Refused(refusal),
+        Check::Accepted => {
+            if states_fault(n, states) {
+                return Check::Refused(Refusal::States);
+            }
+            Check::Accepted
+        }
+    }
+}
