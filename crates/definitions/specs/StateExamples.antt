@@ -12,7 +12,6 @@ use Rattle.definitions.specs.Plan.{planText}
 use Rattle.definitions.specs.Lease.{keepText}
 use Rattle.definitions.specs.SheetTest.{sheetAnswer}
 use Rattle.definitions.specs.Networks.{
-  Result,
   Example,
   AllHold,
   mesh,
@@ -73,7 +72,7 @@ says lines due =
 
 abbrev stateExamples : List Example
 stateExamples =
-    -- "order 1 0 3 4, places 2 1 0 3 4": the list of relays is left past the relays in service.
+    -- The list of relays is left past the relays in service.
     record {
       found = orderWith 5 withoutTwo;
       due = record { answer = done []; lists = (1 ∷ 0 ∷ 3 ∷ 4 ∷ 7 ∷ []) ∷ (2 ∷ 1 ∷ 0 ∷ 3 ∷ 4 ∷ []) ∷ [] };

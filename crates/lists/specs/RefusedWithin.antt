@@ -1,4 +1,4 @@
--- What holds of the number and the place of a refusal, step by step; and with bounds for both. Assumes nothing.
+-- What holds of the number and the place of a refusal, step by step. Assumes nothing.
 use Prim.Native.Nat.{ℕ, _≤_}
 use mathlib.Core.Bool.{Bool, true, false}
 use mathlib.Core.Path.{_≡_, refl}
@@ -24,19 +24,6 @@ pub then-as : {A B : Type 0} (P : ℕ → ℕ → Type 0) (outcome : Outcome A) 
 unfolding andThen
 then-as P (refused number place) next holds after = holds
 then-as P (done value) next holds after = after value refl
-
--- Numbers and places up to a bound.
-abbrev pub Bounds : (numbers places number place : ℕ) → Type 0
-Bounds numbers places number place = (number ≤ numbers) × (place ≤ places)
-
-abbrev pub RefusedWithin : {A : Type 0} → ℕ → ℕ → Outcome A → Type 0
-RefusedWithin numbers places outcome = RefusedAs (Bounds numbers places) outcome
-
-pub refuse-within : {A : Type 0} (numbers places : ℕ) (b : Bool) (number place : ℕ) (rest : Outcome A)
-    → number ≤ numbers → place ≤ places → (b ≡ false → RefusedWithin numbers places rest)
-    → RefusedWithin numbers places (refuseIf b number place rest)
-refuse-within numbers places b number place rest h l after =
-    refuse-as (Bounds numbers places) b number place rest (λ _. (h, l)) after
 
 pub pick-within : (limit : ℕ) (b : Bool) (one other : ℕ) → one ≤ limit → other ≤ limit → pick b one other ≤ limit
 pick-within limit true one other h l = h

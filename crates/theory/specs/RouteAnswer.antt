@@ -1,6 +1,6 @@
 -- What Route gives: the routes where the ends are in one tree of forest k, and 13 exactly where they are not.
 -- Of accepted networks, with no cause for 9 to 12 and 17.
-use Prim.Native.Nat.{ℕ, _≤_, _<_}
+use Prim.Native.Nat.{ℕ, _≤_}
 use mathlib.Core.Bool.{Bool, true, false, not}
 use mathlib.Core.List.{List, [], _∷_, _++_, map}
 use mathlib.Core.Logic.{_≢_}
