@@ -4,23 +4,26 @@
  *
  * A network has n relays, numbered from 0, and m links, each between two different relays and no two between the same. A table
  * is two lists, lows and highs: link i joins relay lows[i] to relay highs[i], lows[i] below highs[i]. i, counted from 0, is the
- * link's index.
+ * link's index. A list of n states goes with it: states[r] is 1 where relay r is in service, and 0 where it is withdrawn. A withdrawn
+ * relay keeps its number, and its links stay in the table, but no route runs over it: it has no place in the order, and its links are
+ * in no forest and are not kept. Any relays may be withdrawn, even all.
  *
- * The relays have an order. The one with the most links is first; next comes always the relay not yet placed that has the most
- * links to placed ones; of equals each time the one with the lowest number. A relay's place, 1 to n, is where it stands in the
- * order. A relay's link to the i-th of its neighbours with a lower place, in rising place, belongs to forest i; so each link is in
- * one forest, and the links of a forest close no ring. Two relays are in one tree of a forest if its links lead from one to the
- * other.
+ * The relays in service have an order, by the links that have both ends in service. The relay with the most of these is first; next
+ * comes always the relay not yet placed that has the most to placed ones; of equals each time the one with the lowest number. A
+ * relay's place, counted from 1, is where it stands in the order. A relay's link to the i-th of its neighbours with a lower place, in
+ * rising place, belongs to forest i; so each link with both ends in service is in one forest, and the links of a forest close no ring.
+ * Two relays are in one tree of a forest if its links lead from one to the other.
  *
- * Cutting down to k keeps the links of forests 1 to k. As long as fewer than k relays are dead, two live relays are joined through
- * live relays over the kept links exactly if they are over all links. Between two relays in one tree of forest k there are k routes
- * over kept links that share only their ends; where two are not in one tree of forest k there may be k routes all the same, but
- * none are given.
+ * Cutting down to k keeps the links of forests 1 to k. Live relays are those in service that were not found dead. As long as fewer than
+ * k relays in service are dead, two live relays are joined through live relays over the kept links exactly if they are over all links
+ * with both ends in service. Between two relays in one tree of forest k there are k routes over kept links that share only their ends;
+ * where two are not in one tree of forest k there may be k routes all the same, but none are given.
  *
  * A network's text, each line ended by byte 10, single spaces, numbers of one to four digits with no zero in front:
  *
  *    (net (relays N) (links M))
  *    (link A B)                     M such lines, A below B
+ *    (out R)                        one for each withdrawn relay, in rising order; all others are in service
  *    (end)                          and nothing behind it
  *
  * What a caller owes:
@@ -49,10 +52,10 @@ extern "C" {
 /* Lengths that are enough for every network: of a text, of what nolkisei_plan and nolkisei_keep print, all in bytes, and of the
  * relays, the links and the scratch of nolkisei_route and nolkisei_route_links, in entries.
  * The longest text has just NOLKISEI_TEXT bytes. What is proved of a sheet and of a list is that they fit into NOLKISEI_SHEET and
- * NOLKISEI_LIST; counted, a sheet has at most 9,821 bytes and a list at most 58,938. */
-#define NOLKISEI_TEXT 45039
+ * NOLKISEI_LIST; counted, a sheet has at most 9,821 bytes and a list at most 58,955. */
+#define NOLKISEI_TEXT 54929
 #define NOLKISEI_SHEET 9935
-#define NOLKISEI_LIST 66050
+#define NOLKISEI_LIST 66067
 #define NOLKISEI_ROUTE_RELAYS 1062
 #define NOLKISEI_ROUTE_LINKS 1030
 #define NOLKISEI_ROUTE_SCRATCH 32000
@@ -75,68 +78,78 @@ enum nolkisei_refusal {
     NOLKISEI_RELAY_RANGE = 5,  /* a relay number is not below n (of a pair: not below 1,000) */
     NOLKISEI_NOT_BELOW = 6,    /* a link's low relay is not below its high relay */
     NOLKISEI_REPEATED = 7,     /* an earlier link has the same pair */
-    NOLKISEI_TABLE_ROOM = 8,   /* a table list is shorter than m */
+    NOLKISEI_TABLE_ROOM = 8,   /* a table list is shorter than m, or a state list shorter than n */
     NOLKISEI_ROUTE_COUNT = 9,  /* k is not 1 to 32 */
     NOLKISEI_END_RANGE = 10,   /* `from` or `to` is not below n */
     NOLKISEI_SAME_ENDS = 11,   /* `from` and `to` are equal */
     NOLKISEI_ROOM = 12,        /* a lent list is too short */
     NOLKISEI_NOT_ONE_TREE = 13, /* the two relays are not in one tree of forest k */
     NOLKISEI_SHEET_FORM = 14,  /* a sheet's text departs from its form */
-    NOLKISEI_SHEET_COUNT = 15  /* a sheet's k is not 1 to 32 */
+    NOLKISEI_SHEET_COUNT = 15, /* a sheet's k is not 1 to 32 */
+    NOLKISEI_STATES = 16,      /* the state list is not n long, or has an entry other than 0 and 1; in a text, the relay of an `out`
+                                  line is not below n or not above the one before */
+    NOLKISEI_WITHDRAWN = 17    /* `from` or `to` is withdrawn */
 };
 
-/* The table check: 3, 4, 5, 6, 7. All functions below that take a table begin with it. */
+/* The table check: 3, 4, then link by link 5, 6, 7, and last 16. All functions below that take a table begin with it. */
 uint32_t nolkisei_check(uint16_t n, const uint16_t *lows, size_t lows_length, const uint16_t *highs, size_t highs_length,
-                        uint64_t answer[2]);
+                        const uint16_t *states, size_t states_length, uint64_t answer[2]);
 
 /* The pair number of the link a b: 5, 6. answer: b * (b - 1) / 2 + a, which no other link has. */
 uint32_t nolkisei_pair(uint16_t a, uint16_t b, uint64_t answer[2]);
 
-/* Reads a text into a table: 2, 3, 4, 8, 5, 6, 7. answer: n and m.
- * Done, the first m entries of both lists are the links and all others 0; refused, both lists are all zeros. */
+/* Reads a text into a table: 2 where it is met; 3, 4, 8 behind the first line; 5, 6, 7 behind a link's line; 16, with place 0, behind
+ * the line of an `out`. answer: n and m.
+ * Done, the first m entries of lows and highs are the links and the first n of states the states, and all others are 0; refused, all
+ * three lists are all zeros. Each list may be longer than it need be. */
 uint32_t nolkisei_read(const uint8_t *text, size_t text_length, uint16_t *lows, size_t lows_length, uint16_t *highs,
-                       size_t highs_length, uint64_t answer[2]);
+                       size_t highs_length, uint16_t *states, size_t states_length, uint64_t answer[2]);
 
 /* Writes a table's text: the table check, then 12 where the buffer is shorter than the text.
  * answer: the text's length in bytes. Done, the text stands at the buffer's start and the rest is unchanged. */
 uint32_t nolkisei_write(uint16_t n, const uint16_t *lows, size_t lows_length, const uint16_t *highs, size_t highs_length,
-                        uint8_t *buffer, size_t buffer_length, uint64_t answer[2]);
+                        const uint16_t *states, size_t states_length, uint8_t *buffer, size_t buffer_length,
+                        uint64_t answer[2]);
 
-/* Orders the relays: the table check, then 12 where a list is shorter than n.
- * Done, relays[p - 1] is the relay at place p and places[r] the place, 1 to n, of relay r; past n entries both are
- * unchanged. */
+/* Orders the relays: the table check, then 12 where a list is shorter than n, however many are in service.
+ * Done, relays[p - 1] is the relay at place p, and places[r] the place of relay r, from 1, or 0 where it is withdrawn; past as many
+ * entries as relays are in service the relays are unchanged, and past n the places. */
 uint32_t nolkisei_order(uint16_t n, const uint16_t *lows, size_t lows_length, const uint16_t *highs, size_t highs_length,
-                        uint16_t *relays, size_t relays_length, uint16_t *places, size_t places_length, uint64_t answer[2]);
+                        const uint16_t *states, size_t states_length, uint16_t *relays, size_t relays_length, uint16_t *places,
+                        size_t places_length, uint64_t answer[2]);
 
 /* Splits the links into forests: the table check, then 12 where the list is shorter than m.
- * answer: the highest forest used, 0 without links. Done, forests[i] is the forest, from 1, of link i; past m entries the
- * list is unchanged. */
+ * answer: the highest forest used, 0 where there is none. Done, forests[i] is the forest of link i, from 1, or 0 where an end of it is
+ * withdrawn; past m entries the list is unchanged. */
 uint32_t nolkisei_split(uint16_t n, const uint16_t *lows, size_t lows_length, const uint16_t *highs, size_t highs_length,
-                        uint16_t *forests, size_t forests_length, uint64_t answer[2]);
+                        const uint16_t *states, size_t states_length, uint16_t *forests, size_t forests_length,
+                        uint64_t answer[2]);
 
 /* Cuts down to k: the table check, then 9, then 12 where the list is shorter than m.
- * answer: how many links are kept. Done, marks[i] is 1 where link i is kept and 0 where it is dropped; past m entries the
- * list is unchanged. */
+ * answer: how many links are kept. Done, marks[i] is 1 where link i is kept and 0 where it is dropped or an end of it is withdrawn;
+ * past m entries the list is unchanged. */
 uint32_t nolkisei_cut(uint16_t n, const uint16_t *lows, size_t lows_length, const uint16_t *highs, size_t highs_length,
-                      uint16_t k, uint16_t *marks, size_t marks_length, uint64_t answer[2]);
+                      const uint16_t *states, size_t states_length, uint16_t k, uint16_t *marks, size_t marks_length,
+                      uint64_t answer[2]);
 
-/* Finds k routes that share only their ends: the table check, then 9, 10, 11, 12 and 13.
+/* Finds k routes through relays in service that share only their ends: the table check, then 9, 10, 11, 17, 12 and 13.
  * 12: counts shorter than k, relays shorter than n - 2 + 2k, or scratch shorter than k * n.
  * answer: how many relays were written. Done, counts[i] is how many relays route i + 1 has, and relays holds the routes one
  * after another, each from `from` to `to`; what stands past k counts and past the relays written is unchanged.
  * After success and after 13 scratch is all zeros, over its whole length. */
 uint32_t nolkisei_route(uint16_t n, const uint16_t *lows, size_t lows_length, const uint16_t *highs, size_t highs_length,
-                        uint16_t k, uint16_t from, uint16_t to, uint16_t *counts, size_t counts_length, uint16_t *relays,
-                        size_t relays_length, uint16_t *scratch, size_t scratch_length, uint64_t answer[2]);
+                        const uint16_t *states, size_t states_length, uint16_t k, uint16_t from, uint16_t to, uint16_t *counts,
+                        size_t counts_length, uint16_t *relays, size_t relays_length, uint16_t *scratch, size_t scratch_length,
+                        uint64_t answer[2]);
 
 /* Finds the same k routes and the links that they run over: refusals, answer and the other lists are those of nolkisei_route, and
  * 12 is also given where links is shorter than n - 2 + k.
  * Done, links holds the indices of the links of route 1 in turn, then of route 2, and so on, each one fewer than the route has
  * relays; what stands past them is unchanged. */
 uint32_t nolkisei_route_links(uint16_t n, const uint16_t *lows, size_t lows_length, const uint16_t *highs, size_t highs_length,
-                              uint16_t k, uint16_t from, uint16_t to, uint16_t *counts, size_t counts_length, uint16_t *relays,
-                              size_t relays_length, uint16_t *links, size_t links_length, uint16_t *scratch,
-                              size_t scratch_length, uint64_t answer[2]);
+                              const uint16_t *states, size_t states_length, uint16_t k, uint16_t from, uint16_t to,
+                              uint16_t *counts, size_t counts_length, uint16_t *relays, size_t relays_length, uint16_t *links,
+                              size_t links_length, uint16_t *scratch, size_t scratch_length, uint64_t answer[2]);
 
 /* Reads a sheet back with its network: the table check, then 14 over the whole text, then 15. answer: 1 where the sheet holds, 0 where
  * it does not. No list is lent. A sheet's text, whoever made it, may have any length, and any number of routes, each with its two
@@ -148,11 +161,12 @@ uint32_t nolkisei_route_links(uint16_t n, const uint16_t *lows, size_t lows_leng
  *    (kept COUNT)
  *    (end)                          and nothing behind it
  *
- * It holds exactly if there are K routes, each from FROM to TO along links of the network and with no relay twice, its indices are
- * those of its links in turn, no two routes share a link or a relay but the ends, and COUNT is what a cut down to K keeps. A relay or
- * an index that the network does not have makes it 0, and so does FROM equal to TO. */
+ * It holds exactly if there are K routes, each from FROM to TO along links of the network and with no relay twice, all relays on them
+ * are in service, its indices are those of its links in turn, no two routes share a link or a relay but the ends, and COUNT is what a
+ * cut down to K keeps. A relay or an index that the network does not have makes it 0, and so does FROM equal to TO. */
 uint32_t nolkisei_verify(uint16_t n, const uint16_t *lows, size_t lows_length, const uint16_t *highs, size_t highs_length,
-                         const uint8_t *text, size_t text_length, uint64_t answer[2]);
+                         const uint16_t *states, size_t states_length, const uint8_t *text, size_t text_length,
+                         uint64_t answer[2]);
 
 /* The two programs. Their input is a line that asks, and behind it a network's text; what they print goes to the output. The return
  * value is 0 with the number of bytes printed as answer, which stand at the output's start, and the rest of it is unchanged; or 12
@@ -162,7 +176,7 @@ uint32_t nolkisei_verify(uint16_t n, const uint16_t *lows, size_t lows_length, c
  *    (refused NUMBER PLACE)
  *
  * with the first refusal met: 1 where the line that asks departs from its form, at the byte; then 2, at the byte counted from the
- * first one behind that line, 3, 4, 5, 6, 7; then 9; and of nolkisei_plan then 10, 11, 13. */
+ * first one behind that line, 3, 4, 5, 6, 7, 16; then 9; and of nolkisei_plan then 10, 11, 17, 13. */
 
 /* The planner: routes between two relays. The line is (want FROM TO K), and this is printed, with K lines `route`, each with the
  * relays of a route in turn, behind each of them a line `over` with the indices of its links in turn, one fewer than its relays,
@@ -176,13 +190,16 @@ uint32_t nolkisei_verify(uint16_t n, const uint16_t *lows, size_t lows_length, c
 uint32_t nolkisei_plan(const uint8_t *input, size_t input_length, uint8_t *output, size_t output_length, uint64_t answer[2]);
 
 /* The keeper: the links that a cut down to K keeps. The line is (keep K), and this is printed, with a line `keep` or `drop` for
- * each link, with its index and its two relays, in the order of the text, and the numbers of both:
+ * each link, or `idle` where an end of it is withdrawn, with its index and its two relays, in the order of the text, and the numbers
+ * of the three:
  *
  *    (lease (k K))
  *    (keep INDEX A B)
  *    (drop INDEX A B)
+ *    (idle INDEX A B)
  *    (kept COUNT)
  *    (dropped COUNT)
+ *    (withdrawn COUNT)
  *    (end) */
 uint32_t nolkisei_keep(const uint8_t *input, size_t input_length, uint8_t *output, size_t output_length, uint64_t answer[2]);
 

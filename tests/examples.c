@@ -1,5 +1,5 @@
 /* Document 01's examples through the C header: P1 to P12 as they are since #104 of document 02, with the links that #101 asks for,
- * and the others. */
+ * and the others; and the mesh without relay 2 (#105). */
 #include "nolkisei.h"
 #include <stdio.h>
 #include <string.h>
@@ -19,13 +19,18 @@ static void list(const char *what, const uint16_t *found, const uint16_t *due, s
     }
 }
 
-#define TABLE(net) net##_lows, sizeof net##_lows / 2, net##_highs, sizeof net##_highs / 2
 #define LENT(name) name, sizeof name / sizeof name[0]
+#define LINKS(net) LENT(net##_lows), LENT(net##_highs)
+#define TABLE(net) LINKS(net), LENT(net##_states)
+#define EMPTY(n) none, 0, none, 0, ones, n
 
 static const uint16_t square_lows[] = {0, 1, 2, 0}, square_highs[] = {1, 2, 3, 3};
 static const uint16_t full_lows[] = {0, 0, 1, 0, 1, 2}, full_highs[] = {1, 2, 2, 3, 3, 3};
 static const uint16_t mesh_lows[] = {0, 0, 1, 1, 2, 2, 3}, mesh_highs[] = {1, 2, 2, 3, 3, 4, 4};
+static const uint16_t square_states[] = {1, 1, 1, 1}, full_states[] = {1, 1, 1, 1}, mesh_states[] = {1, 1, 1, 1, 1};
+static const uint16_t without_2[] = {1, 1, 0, 1, 1};
 static const uint16_t none[] = {0};
+static uint16_t ones[NOLKISEI_RELAYS + 1], states[NOLKISEI_RELAYS];
 
 static uint64_t answer[2];
 static uint16_t counts[NOLKISEI_ROUTES], relays[NOLKISEI_ROUTE_RELAYS], scratch[NOLKISEI_ROUTE_SCRATCH];
@@ -33,7 +38,7 @@ static uint16_t links[NOLKISEI_ROUTE_LINKS];
 static uint16_t places[NOLKISEI_RELAYS], marks[NOLKISEI_LINKS + 1], lows[NOLKISEI_LINKS], highs[NOLKISEI_LINKS];
 
 static uint64_t read_text(const char *text) {
-    return nolkisei_read((const uint8_t *)text, strlen(text), LENT(lows), LENT(highs), answer);
+    return nolkisei_read((const uint8_t *)text, strlen(text), LENT(lows), LENT(highs), LENT(states), answer);
 }
 
 static void marked(void) {
@@ -61,11 +66,11 @@ static void marked(void) {
     is("P9", nolkisei_cut(5, TABLE(mesh), 1, LENT(marks), answer), 0);
     list("P9 marks", marks, (const uint16_t[]){0, 1, 1, 0, 1, 1, 0}, 7);
     is("P9 count", answer[0], 4);
-    is("P10", nolkisei_cut(1, none, 0, none, 0, 32, LENT(marks), answer), 0);
+    is("P10", nolkisei_cut(1, EMPTY(1), 32, LENT(marks), answer), 0);
     is("P10 count", answer[0], 0);
-    is("P10", nolkisei_split(1, none, 0, none, 0, LENT(marks), answer), 0);
+    is("P10", nolkisei_split(1, EMPTY(1), LENT(marks), answer), 0);
     is("P10 highest", answer[0], 0);
-    is("P11", nolkisei_route(2, none, 0, none, 0, 1, 0, 1, LENT(counts), LENT(relays), LENT(scratch), answer), NOLKISEI_NOT_ONE_TREE);
+    is("P11", nolkisei_route(2, EMPTY(2), 1, 0, 1, LENT(counts), LENT(relays), LENT(scratch), answer), NOLKISEI_NOT_ONE_TREE);
     is("P12", nolkisei_pair(0, 1, answer), 0);
     is("P12 first", answer[0], 0);
     is("P12", nolkisei_pair(998, 999, answer), 0);
@@ -123,7 +128,7 @@ static void programs(void) {
            "(sheet (from 4) (to 1) (k 2))\n(route 4 2 1)\n(over 5 2)\n(route 4 3 1)\n(over 6 3)\n(kept 7)\n(end)\n");
     prints("P9 as a list", nolkisei_keep, "(keep 1)\n",
            "(lease (k 1))\n(drop 0 0 1)\n(keep 1 0 2)\n(keep 2 1 2)\n(drop 3 1 3)\n(keep 4 2 3)\n(keep 5 2 4)\n(drop 6 3 4)\n"
-           "(kept 4)\n(dropped 3)\n(end)\n");
+           "(kept 4)\n(dropped 3)\n(withdrawn 0)\n(end)\n");
     prints("no wish", nolkisei_plan, "", "(refused 1 1)\n");
     prints("no keep line", nolkisei_keep, "(keep)\n", "(refused 1 5)\n");
     prints("k 33", nolkisei_keep, "(keep 33)\n", "(refused 9 0)\n");
@@ -148,12 +153,12 @@ static void sheets(void) {
 }
 
 static void others(void) {
-    is("n 0", nolkisei_check(0, none, 0, none, 0, answer), 3);
-    is("n 1,001", nolkisei_check(1001, none, 0, none, 0, answer), 3);
-    is("n 1,000", nolkisei_check(1000, none, 0, none, 0, answer), 0);
-    is("m 3,001", nolkisei_check(1000, marks, 3001, marks, 3001, answer), 4);
-    is("k 0", nolkisei_cut(1, none, 0, none, 0, 0, LENT(marks), answer), 9);
-    is("k 33", nolkisei_cut(1, none, 0, none, 0, 33, LENT(marks), answer), 9);
+    is("n 0", nolkisei_check(0, EMPTY(0), answer), 3);
+    is("n 1,001", nolkisei_check(1001, EMPTY(1001), answer), 3);
+    is("n 1,000", nolkisei_check(1000, EMPTY(1000), answer), 0);
+    is("m 3,001", nolkisei_check(1000, marks, 3001, marks, 3001, ones, 1000, answer), 4);
+    is("k 0", nolkisei_cut(1, EMPTY(1), 0, LENT(marks), answer), 9);
+    is("k 33", nolkisei_cut(1, EMPTY(1), 33, LENT(marks), answer), 9);
     is("7 7", read_text("(net (relays 4) (links 1))\n(link 7 7)\n(end)\n"), 5);
     is("2 2", read_text("(net (relays 4) (links 1))\n(link 2 2)\n(end)\n"), 6);
     is("04", read_text("(net (relays 04"), 2);
@@ -162,12 +167,83 @@ static void others(void) {
     is("no text at", answer[0], 0);
 }
 
+/* The mesh with relay 2 withdrawn. */
+#define WITHOUT_2 5, LINKS(mesh), LENT(without_2)
+
+static void withdrawn(void) {
+    memset(relays, 9, sizeof relays);
+    is("without 2", nolkisei_order(WITHOUT_2, LENT(relays), LENT(places), answer), 0);
+    list("without 2, order", relays, (const uint16_t[]){1, 0, 3, 4, 0x909}, 5);
+    list("without 2, places", places, (const uint16_t[]){2, 1, 0, 3, 4}, 5);
+    is("without 2", nolkisei_split(WITHOUT_2, LENT(marks), answer), 0);
+    list("without 2, forests", marks, (const uint16_t[]){1, 0, 0, 1, 0, 0, 1}, 7);
+    is("without 2, highest", answer[0], 1);
+    is("without 2", nolkisei_cut(WITHOUT_2, 32, LENT(marks), answer), 0);
+    list("without 2, marks", marks, (const uint16_t[]){1, 0, 0, 1, 0, 0, 1}, 7);
+    is("without 2, count", answer[0], 3);
+    is("without 2, to 2", nolkisei_route(WITHOUT_2, 1, 4, 2, LENT(counts), LENT(relays), LENT(scratch), answer), NOLKISEI_WITHDRAWN);
+    is("without 2, to 2 at", answer[0], 0);
+    is("without 2, no room", nolkisei_route(WITHOUT_2, 1, 2, 4, counts, 0, relays, 0, scratch, 0, answer), NOLKISEI_WITHDRAWN);
+    is("without 2, equal ends", nolkisei_route(WITHOUT_2, 1, 2, 2, LENT(counts), LENT(relays), LENT(scratch), answer), NOLKISEI_SAME_ENDS);
+    is("without 2, k 2", nolkisei_route(WITHOUT_2, 2, 4, 1, LENT(counts), LENT(relays), LENT(scratch), answer), NOLKISEI_NOT_ONE_TREE);
+    is("without 2", nolkisei_route_links(WITHOUT_2, 1, 4, 1, LENT(counts), LENT(relays), LENT(links), LENT(scratch), answer), 0);
+    list("without 2, route", relays, (const uint16_t[]){4, 3, 1}, 3);
+    list("without 2, links", links, (const uint16_t[]){6, 3}, 2);
+    const char *sheet = "(sheet (from 4) (to 1) (k 1))\n(route 4 2 1)\n(over 5 2)\n(kept 3)\n(end)\n";
+    is("a sheet over 2", nolkisei_verify(WITHOUT_2, (const uint8_t *)sheet, strlen(sheet), answer), 0);
+    is("a sheet over 2 fails", answer[0], 0);
+    sheet = "(sheet (from 4) (to 1) (k 1))\n(route 4 3 1)\n(over 6 3)\n(kept 3)\n(end)\n";
+    is("a sheet without 2", nolkisei_verify(WITHOUT_2, (const uint8_t *)sheet, strlen(sheet), answer), 0);
+    is("a sheet without 2 holds", answer[0], 1);
+}
+
+/* State lists that are refused, texts with out lines, and the longest text. */
+static void refused_states(void) {
+    is("4 states", nolkisei_check(5, LINKS(mesh), ones, 4, answer), NOLKISEI_STATES);
+    is("6 states", nolkisei_check(5, LINKS(mesh), ones, 6, answer), NOLKISEI_STATES);
+    is("a state 2", nolkisei_check(5, LINKS(mesh), (const uint16_t[]){1, 1, 2, 1, 1}, 5, answer), NOLKISEI_STATES);
+    is("all withdrawn", nolkisei_check(5, LINKS(mesh), (const uint16_t[]){0, 0, 0, 0, 0}, 5, answer), 0);
+    is("out", read_text("(net (relays 3) (links 1))\n(link 0 2)\n(out 1)\n(end)\n"), 0);
+    list("out, states", states, (const uint16_t[]){1, 0, 1, 0}, 4);
+    is("falling", read_text("(net (relays 3) (links 0))\n(out 1)\n(out 0)\n(end)\n"), NOLKISEI_STATES);
+    is("falling at", answer[0], 0);
+    list("falling, states", states, (const uint16_t[]){0, 0, 0}, 3);
+    is("no relay 3", read_text("(net (relays 3) (links 0))\n(out 3)\n"), NOLKISEI_STATES);
+    is("off", read_text("(net (relays 3) (links 0))\n(off 1)\n"), NOLKISEI_FORM);
+    is("off at", answer[0], 29);
+    is("2 states to read", nolkisei_read((const uint8_t *)"(net (relays 3) (links 0))\n(end)\n", 33, lows, 0, highs, 0, states, 2, answer),
+       NOLKISEI_TABLE_ROOM);
+}
+
+/* The longest text: 3,000 links whose numbers have three digits, and all relays withdrawn. */
+static void longest_text(void) {
+    static uint8_t text[NOLKISEI_TEXT + 1];
+    size_t m = 0;
+    for (uint16_t b = 999; m < NOLKISEI_LINKS; b--) {
+        for (uint16_t a = 100; a < b && m < NOLKISEI_LINKS; a++, m++) {
+            lows[m] = a, highs[m] = b;
+        }
+    }
+    memset(states, 0, sizeof states);
+    is("the longest text", nolkisei_write(1000, LENT(lows), LENT(highs), LENT(states), LENT(text), answer), 0);
+    is("its length", answer[0], NOLKISEI_TEXT);
+    is("read back", nolkisei_read(text, NOLKISEI_TEXT, LENT(lows), LENT(highs), LENT(states), answer), 0);
+    is("its links", answer[1], NOLKISEI_LINKS);
+    is("a byte too short", nolkisei_write(1000, LENT(lows), LENT(highs), LENT(states), text, NOLKISEI_TEXT - 1, answer), NOLKISEI_ROOM);
+}
+
 int main(void) {
+    for (size_t i = 0; i <= NOLKISEI_RELAYS; i++) {
+        ones[i] = 1;
+    }
     marked();
     with_links();
     programs();
     sheets();
     others();
+    withdrawn();
+    refused_states();
+    longest_text();
     printf("document 01's examples through the C header: %s\n", failed ? "some differ" : "as printed");
     return failed != 0;
 }

@@ -9,18 +9,18 @@
 #include <string.h>
 
 #define LENT(name) name, sizeof name / sizeof name[0]
-#define TABLE net->n, net->lows, net->m, net->highs, net->m
+#define TABLE net->n, net->lows, net->m, net->highs, net->m, net->states, net->n
 
 typedef struct {
     uint16_t n, k, from, to;
     size_t m, length, sheet_length;
-    uint16_t lows[NOLKISEI_LINKS], highs[NOLKISEI_LINKS];
+    uint16_t lows[NOLKISEI_LINKS], highs[NOLKISEI_LINKS], states[NOLKISEI_RELAYS];
     uint8_t text[NOLKISEI_TEXT], sheet[NOLKISEI_SHEET];
 } network;
 
-static network large, small;
+static network large, small, thin;
 static uint64_t answer[2];
-static uint16_t first[NOLKISEI_LINKS], second[NOLKISEI_LINKS];
+static uint16_t first[NOLKISEI_LINKS], second[NOLKISEI_LINKS], third[NOLKISEI_RELAYS];
 static uint16_t counts[NOLKISEI_ROUTES], relays[NOLKISEI_ROUTE_RELAYS], scratch[NOLKISEI_ROUTE_SCRATCH];
 static uint16_t links[NOLKISEI_ROUTE_LINKS];
 static uint8_t input[NOLKISEI_TEXT + 22], output[NOLKISEI_LIST];
@@ -42,7 +42,9 @@ static void check(const network *net) { returned = nolkisei_check(TABLE, answer)
 
 static void pair(const network *net) { returned = nolkisei_pair(net->to, net->from, answer); }
 
-static void read_text(const network *net) { returned = nolkisei_read(net->text, net->length, LENT(first), LENT(second), answer); }
+static void read_text(const network *net) {
+    returned = nolkisei_read(net->text, net->length, LENT(first), LENT(second), LENT(third), answer);
+}
 
 static void write_text(const network *net) { returned = nolkisei_write(TABLE, LENT(output), answer); }
 
@@ -78,9 +80,12 @@ static void verify(const network *net) {
     returned = nolkisei_verify(TABLE, net->sheet, net->sheet_length, answer);
 }
 
-/* A path over the relays 100 to `path`, and every pair among the last `core` relays. */
-static void make(network *net, uint16_t n, uint16_t path, uint16_t core, uint16_t k) {
+/* A path over the relays 100 to `path`, and every pair among the last `core` relays. The others are in service or withdrawn. */
+static void make(network *net, uint16_t n, uint16_t path, uint16_t core, uint16_t k, uint16_t others) {
     net->n = n, net->k = k, net->from = n - 1, net->to = n - 2, net->m = 0;
+    for (uint16_t relay = 0; relay < n; relay++) {
+        net->states[relay] = others || (relay >= 100 && relay <= path) || relay >= n - core;
+    }
     for (uint16_t b = 101; b <= path; b++) {
         net->lows[net->m] = b - 1, net->highs[net->m++] = b;
     }
@@ -89,7 +94,7 @@ static void make(network *net, uint16_t n, uint16_t path, uint16_t core, uint16_
             net->lows[net->m] = a, net->highs[net->m++] = b;
         }
     }
-    nolkisei_write(net->n, net->lows, net->m, net->highs, net->m, LENT(net->text), answer);
+    nolkisei_write(TABLE, LENT(net->text), answer);
     net->length = answer[0];
     plan(net);
     net->sheet_length = answer[0];
@@ -135,14 +140,15 @@ int main(void) {
                  {"split", split}, {"cut", cut},     {"route", route},    {"route_links", route_links}, {"plan", plan},
                  {"keep", keep},   {"verify", verify}};
     int failed = 0;
-    make(&large, 1000, 174, 77, 32);
-    make(&small, 28, 0, 28, 27);
+    make(&large, 1000, 174, 77, 32, 1);
+    make(&small, 28, 0, 28, 27, 1);
+    make(&thin, 1000, 174, 77, 32, 0);
     size_t base = used(nothing, &large);
     printf("bytes of stack:");
     for (size_t i = 0; i < sizeof calls / sizeof calls[0]; i++) {
         size_t most = 0;
-        for (int turn = 0; turn < 2; turn++) {
-            size_t bytes = used(calls[i].call, turn ? &small : &large);
+        for (int turn = 0; turn < 3; turn++) {
+            size_t bytes = used(calls[i].call, turn == 0 ? &large : turn == 1 ? &small : &thin);
             most = bytes > most ? bytes : most;
             failed += returned != 0;
         }

@@ -44,13 +44,23 @@ one='(net (relays 5) (links 1))\n'
 busy='(net (relays 4) (links 4))\n(link 0 1)\n(link 0 2)\n(link 1 2)\n(link 1 3)\n(end)\n'
 parts='(net (relays 7) (links 6))\n(link 0 1)\n(link 3 4)\n(link 3 5)\n(link 4 5)\n(link 4 6)\n(link 5 6)\n(end)\n'
 
-# A longest text, of 45,039 bytes: 1,000 relays, and 3,000 links whose numbers all have three digits. A path from 100 to 174, and
-# among 923 to 999 every pair.
+# without NETWORK RELAY..: one of these networks with relays withdrawn, in this order.
+without() {
+    local network=$1
+    shift
+    printf '%s' "${network%'(end)\n'}"
+    printf '(out %s)\\n' "$@"
+    printf '(end)\\n'
+}
+
+# longest [OUTS]: a longest text with so many relays withdrawn, of 45,039 bytes with none and of 54,929 with 1,000: 1,000 relays, and
+# 3,000 links whose numbers all have three digits. A path from 100 to 174, and among 923 to 999 every pair.
 longest() {
-    awk 'BEGIN {
+    awk -v outs="${1:-0}" 'BEGIN {
         print "(net (relays 1000) (links 3000))"
         for (b = 101; b <= 174; b++) print "(link " b - 1 " " b ")"
         for (b = 924; b <= 999; b++) for (a = 923; a < b; a++) print "(link " a " " b ")"
+        for (r = 0; r < outs; r++) print "(out " r ")"
         print "(end)"
     }'
 }
@@ -97,6 +107,18 @@ spoilt() {
     try 'the end for a link' "$1$one(end)\n" '(refused 2 28)\n'
     try 'the word of the end' "$1$one(link 0 1)\n(and)\n" '(refused 2 39)\n'
     try 'the end of the input for its line end' "$1$one(link 0 1)\n(end)" '(refused 2 43)\n'
+    try 'the word of an out line' "$1$one(link 0 1)\n(off 0)\n(end)\n" '(refused 2 40)\n'
+    try 'the space behind it' "$1$one(link 0 1)\n(out)\n(end)\n" '(refused 2 42)\n'
+    try 'its relay' "$1$one(link 0 1)\n(out x)\n(end)\n" '(refused 2 43)\n'
+    try 'a zero in front of it' "$1$one(link 0 1)\n(out 00)\n(end)\n" '(refused 2 44)\n'
+    try 'five digits of it' "$1$one(link 0 1)\n(out 10000)\n(end)\n" '(refused 2 47)\n'
+    try 'two relays for one' "$1$one(link 0 1)\n(out 0 1)\n(end)\n" '(refused 2 44)\n'
+    try 'the bracket behind it' "$1$one(link 0 1)\n(out 9]\n(end)\n" '(refused 2 44)\n'
+    try 'the end of its line' "$1$one(link 0 1)\n(out 9) \n(end)\n" '(refused 2 45)\n'
+    try 'a capital letter' "$1$one(link 0 1)\n(Out 0)\n(end)\n" '(refused 2 39)\n'
+    try 'an out line for a link' "$1$one(out 0)\n(link 0 1)\n(end)\n" '(refused 2 28)\n'
+    try 'a link behind an out line' "$1$one(link 0 1)\n(out 0)\n(link 0 2)\n(end)\n" '(refused 2 47)\n'
+    try 'no end behind an out line' "$1$one(link 0 1)\n(out 0)\n" '(refused 2 46)\n'
     try 'a byte behind the end' "$1$one(link 0 1)\n(end)\nx" "${2:-(refused 2 44)\n}"
 
     try 'no relay' "$1(net (relays 0) (links 0))\n(end)\n" '(refused 3 0)\n'
@@ -106,4 +128,10 @@ spoilt() {
     try 'a link from a relay to itself' "$1(net (relays 4) (links 2))\n(link 0 1)\n(link 2 2)\n(end)\n" '(refused 6 1)\n'
     try 'a link in falling order' "$1(net (relays 4) (links 2))\n(link 0 1)\n(link 3 2)\n(end)\n" '(refused 6 1)\n'
     try 'a link twice' "$1(net (relays 4) (links 2))\n(link 0 1)\n(link 0 1)\n(end)\n" '(refused 7 1)\n'
+    try 'a link twice, before an out line of no relay' "$1(net (relays 4) (links 2))\n(link 0 1)\n(link 0 1)\n(out 4)\n(end)\n" '(refused 7 1)\n'
+    try 'an out line of no relay' "$1$one(link 0 1)\n(out 5)\n(end)\n" '(refused 16 0)\n'
+    try 'an out line of the highest number' "$1$one(link 0 1)\n(out 9999)\n(end)\n" '(refused 16 0)\n'
+    try 'an out line twice' "$1$one(link 0 1)\n(out 3)\n(out 3)\n(end)\n" '(refused 16 0)\n'
+    try 'out lines in falling order' "$1$one(link 0 1)\n(out 1)\n(out 3)\n(out 2)\n(end)\n" '(refused 16 0)\n'
+    try '16 before what departs in a later line' "$1$one(link 0 1)\n(out 5)\n(and)\n" '(refused 16 0)\n'
 }

@@ -1,7 +1,9 @@
-/* Two versions of the library turn by turn on the same networks, for tests/turns: how long the table check, Read, the pair numbers
- * of all links, one call each, Order and Route take in the earlier one, whose functions begin with `before_`, and in this one. Each
- * time is the lower quartile of 200 batches. The two may order the relays in another way (document 02, #104): then the same wish has
- * other routes, so behind k stands how many relays each version writes. */
+/* Two versions of the library turn by turn on the same networks, all relays in service, for tests/turns: how long the table check,
+ * Read, Write, the pair numbers of all links, one call each, Order, Split, Cut and Route take in the earlier one, whose functions begin
+ * with `before_`, and in this one. `before.h` declares them as the earlier header does; where that knows nothing of states (document
+ * 02, #105), BEFORE_STATES is not defined and they are called without. Each time is the lower quartile of 200 batches. The two may
+ * order the relays in another way (document 02, #104): then the same wish has other routes, so behind k stands how many relays each
+ * version writes. */
 #define _POSIX_C_SOURCE 200112L
 #include "nolkisei.h"
 #include <stdio.h>
@@ -9,32 +11,32 @@
 #include <string.h>
 #include <time.h>
 
+#include "before.h"
+
 #define BATCHES 200
-#define TABLE n, lows, m, highs, m
+#define LINKS n, lows, m, highs, m
+#define TABLE LINKS, states, n
 #define ROUTE (uint16_t)k, from, to, counts, NOLKISEI_ROUTES, relays, NOLKISEI_ROUTE_RELAYS, scratch, (size_t)k * n, answer
 #define ORDER first, NOLKISEI_RELAYS, second, NOLKISEI_RELAYS, answer
-#define READ text, text_length, first, NOLKISEI_LINKS, second, NOLKISEI_LINKS, answer
+#define SPLIT first, NOLKISEI_LINKS, answer
+#define WRITE other_text, sizeof other_text, answer
+#define READ text, text_length, first, NOLKISEI_LINKS, second, NOLKISEI_LINKS
+#ifdef BEFORE_STATES
+#define BEFORE_TABLE TABLE
+#define BEFORE_READ READ, third, NOLKISEI_RELAYS
+#else
+#define BEFORE_TABLE LINKS
+#define BEFORE_READ READ
+#endif
 
-typedef uint32_t check_of(uint16_t, const uint16_t *, size_t, const uint16_t *, size_t, uint64_t *);
-typedef uint32_t read_of(const uint8_t *, size_t, uint16_t *, size_t, uint16_t *, size_t, uint64_t *);
-typedef uint32_t order_of(uint16_t, const uint16_t *, size_t, const uint16_t *, size_t, uint16_t *, size_t, uint16_t *, size_t,
-                          uint64_t *);
-typedef uint32_t route_of(uint16_t, const uint16_t *, size_t, const uint16_t *, size_t, uint16_t, uint16_t, uint16_t, uint16_t *,
-                          size_t, uint16_t *, size_t, uint16_t *, size_t, uint64_t *);
-typedef uint32_t pair_of(uint16_t, uint16_t, uint64_t *);
-check_of before_nolkisei_check;
-order_of before_nolkisei_order;
-pair_of before_nolkisei_pair;
-read_of before_nolkisei_read;
-route_of before_nolkisei_route;
-
-static uint16_t n, lows[NOLKISEI_LINKS], highs[NOLKISEI_LINKS], from, to, first[NOLKISEI_LINKS], second[NOLKISEI_LINKS];
+static uint16_t n, lows[NOLKISEI_LINKS], highs[NOLKISEI_LINKS], states[NOLKISEI_RELAYS], from, to;
+static uint16_t first[NOLKISEI_LINKS], second[NOLKISEI_LINKS], third[NOLKISEI_RELAYS];
 static uint16_t counts[NOLKISEI_ROUTES], relays[NOLKISEI_ROUTE_RELAYS], scratch[NOLKISEI_ROUTE_SCRATCH];
-static uint8_t text[NOLKISEI_TEXT];
+static uint8_t text[NOLKISEI_TEXT], other_text[NOLKISEI_TEXT];
 static uint64_t answer[2], written[2], state = 88172645463325252u;
 static size_t m, text_length;
 static int k;
-static double worst[5];
+static double worst[8];
 static char linked[NOLKISEI_RELAYS][NOLKISEI_RELAYS];
 
 static unsigned random_below(unsigned bound) {
@@ -63,14 +65,21 @@ static void make(int kind) {
     text_length = answer[0];
 }
 
-static void check(int now) { (now ? nolkisei_check : before_nolkisei_check)(TABLE, answer); }
-static void read_text(int now) { (now ? nolkisei_read : before_nolkisei_read)(READ); }
-static void pairs(int now) {
-    for (size_t i = 0; i < m; i++) (now ? nolkisei_pair : before_nolkisei_pair)(lows[i], highs[i], answer);
+/* One call: of this library or of the earlier one. */
+static uint32_t check(int now) { return now ? nolkisei_check(TABLE, answer) : before_nolkisei_check(BEFORE_TABLE, answer); }
+static uint32_t read_text(int now) {
+    return now ? nolkisei_read(READ, third, NOLKISEI_RELAYS, answer) : before_nolkisei_read(BEFORE_READ, answer);
 }
-
-static void order(int now) { (now ? nolkisei_order : before_nolkisei_order)(TABLE, ORDER); }
-static void route(int now) { (now ? nolkisei_route : before_nolkisei_route)(TABLE, ROUTE); }
+static uint32_t write_text(int now) { return now ? nolkisei_write(TABLE, WRITE) : before_nolkisei_write(BEFORE_TABLE, WRITE); }
+static uint32_t pairs(int now) {
+    uint32_t refused = 0;
+    for (size_t i = 0; i < m; i++) refused |= (now ? nolkisei_pair : before_nolkisei_pair)(lows[i], highs[i], answer);
+    return refused;
+}
+static uint32_t order(int now) { return now ? nolkisei_order(TABLE, ORDER) : before_nolkisei_order(BEFORE_TABLE, ORDER); }
+static uint32_t split(int now) { return now ? nolkisei_split(TABLE, SPLIT) : before_nolkisei_split(BEFORE_TABLE, SPLIT); }
+static uint32_t cut(int now) { return now ? nolkisei_cut(TABLE, 2, SPLIT) : before_nolkisei_cut(BEFORE_TABLE, 2, SPLIT); }
+static uint32_t route(int now) { return now ? nolkisei_route(TABLE, ROUTE) : before_nolkisei_route(BEFORE_TABLE, ROUTE); }
 
 static double microseconds(void) {
     struct timespec t;
@@ -83,9 +92,10 @@ static int by_size(const void *a, const void *b) {
     return (x > y) - (x < y);
 }
 
-static void turns(int operation, const char *name, void call(int)) {
+static void turns(int operation, const char *name, uint32_t call(int)) {
     static double times[2][BATCHES];
     int calls = n < 300 ? 200 : 40;
+    if (call(0) || call(1)) fprintf(stderr, "%s is refused\n", name), exit(1);
     for (int batch = 0; batch < BATCHES; batch++)
         for (int now = 0; now < 2; now++) {
             double start = microseconds();
@@ -99,7 +109,7 @@ static void turns(int operation, const char *name, void call(int)) {
 }
 
 /* The relays that a version writes for the wish; 0 if it is refused. */
-static uint64_t relays_of(route_of *version) { return version(TABLE, ROUTE) == NOLKISEI_DONE ? answer[0] : 0; }
+static uint64_t relays_of(int now) { return route(now) == NOLKISEI_DONE ? answer[0] : 0; }
 
 /* The longest routes of some at random, by the version with fewer relays; 0 if there are none that both give. */
 static int wish(void) {
@@ -107,7 +117,7 @@ static int wish(void) {
     uint16_t ends[2] = {0, 0};
     for (int i = 0; i < 2000; i++) {
         from = (uint16_t)random_below(n), to = (uint16_t)random_below(n);
-        uint64_t was = relays_of(before_nolkisei_route), is = relays_of(nolkisei_route), fewer = was < is ? was : is;
+        uint64_t was = relays_of(0), is = relays_of(1), fewer = was < is ? was : is;
         if (fewer > most) most = fewer, ends[0] = from, ends[1] = to, written[0] = was, written[1] = is;
     }
     from = ends[0], to = ends[1];
@@ -118,20 +128,23 @@ int main(void) {
     const char *kinds[] = {"random", "band", "core"};
     const uint16_t sizes[] = {10, 30, 128, 300, 1000};
     const int counts_of_routes[] = {1, 2, 3, 8, 32};
+    for (size_t i = 0; i < NOLKISEI_RELAYS; i++) states[i] = 1;
     puts("microseconds before and now, and their ratio");
     for (int kind = 0; kind < 3; kind++)
         for (int size = 0; size < 5; size++) {
             n = sizes[size], make(kind);
             printf("%s %u %zu", kinds[kind], n, m);
-            turns(0, "check", check), turns(1, "read", read_text), turns(2, "pairs", pairs), turns(3, "order", order);
+            turns(0, "check", check), turns(1, "read", read_text), turns(2, "write", write_text), turns(3, "pairs", pairs);
+            turns(4, "order", order), turns(5, "split", split), turns(6, "cut", cut);
             for (int i = 0; i < 5; i++)
                 if (k = counts_of_routes[i], wish()) {
                     char name[32];
-                    snprintf(name, sizeof name, "route %d (%d, %d)", k, (int)written[0], (int)written[1]), turns(4, name, route);
+                    snprintf(name, sizeof name, "route %d (%d, %d)", k, (int)written[0], (int)written[1]), turns(7, name, route);
                 }
             puts("");
         }
-    printf("worst: check %.3f, read %.3f, pairs %.3f, order %.3f, route %.3f times\n", worst[0], worst[1], worst[2], worst[3],
-           worst[4]);
+    const char *operations[] = {"check", "read", "write", "pairs", "order", "split", "cut", "route"};
+    for (int i = 0; i < 8; i++) printf("%s %s %.3f", i ? "," : "worst:", operations[i], worst[i]);
+    puts(" times");
     return 0;
 }

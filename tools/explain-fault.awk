@@ -3,6 +3,7 @@
 
 !end && /^\(net / { numbers($0, value); relays = value[1] }
 !end && /^\(link / { numbers($0, value); index_of[value[1], value[2]] = links++ }
+!end && /^\(out / { numbers($0, value); out_line[value[1]] = NR }
 !end && /^\(end/ { end = NR; next }
 end { line[NR - end] = $0 }
 
@@ -27,7 +28,9 @@ function at(where) { return ENVIRON["sheet"] ", line " where (where > 1 && where
 
 function of(count, thing) { return count " " thing (count == 1 ? "" : "s") }
 
+# Why a relay cannot be on a sheet; nothing where it can.
 function unknown(relay) {
+    if (relay in out_line) return "relay " relay " is withdrawn (" ENVIRON["network"] ", line " out_line[relay] ")"
     if (relay < relays) return ""
     return "relay " relay " is not in the network; it has " (relays == 1 ? "relay 0 alone" : "the relays 0 to " relays - 1)
 }
@@ -61,7 +64,8 @@ function wrong_route(route,    words, steps, circuits) {
     return ""
 }
 
-# The relays of a route: where it starts and ends, each in the network, none twice or on a route before, each linked to the next.
+# The relays of a route: where it starts and ends, each in the network and in service, none twice or on a route before, each linked to
+# the next.
 function wrong_relays(route, steps,    i, r) {
     if (relay[1] != head[1]) return "it starts at relay " relay[1] ", not at " head[1]
     for (i = 1; i <= steps + 1; i++) {

@@ -1,21 +1,22 @@
 //! The proved library against the second version: the same answers and lists from both, and what must hold of them.
 
-use crate::boundaries::boundaries;
-use crate::facts::{first_relay, kept, parts};
+use crate::boundaries::{boundaries, withdrawn};
+use crate::facts::{first_relay, forest_counts, kept, parts};
 use crate::flow::greatest;
-use crate::generate::{Network, any, damage, scratch};
+use crate::generate::{any, damage};
 use crate::lengths::{Lengths, any_length, mostly_enough};
 use crate::library::{self, Report};
-use crate::printed::{KEEP, PLAN, Program, keep_input, printed};
+use crate::printed::{KEEP, PLAN, keep_input, printed};
 use crate::random::Random;
 use crate::routed::{flowed, routed};
 use crate::sheets::Known;
+use crate::states::kinds;
 use crate::sweep::Wish;
-use crate::table;
+use crate::table::{self, Network};
 use crate::tally::Tally;
-use crate::variants::at_every_byte;
+use crate::texts::{input, read, texts};
 use crate::verified::{before_sheets, other_sheets, our_sheet};
-use crate::wishes::{any_wish, line, wish};
+use crate::wishes::{any_wish, wish};
 use crate::{forests, text};
 
 fn two_lists(random: &mut Random, lengths: Lengths, exact: usize) -> (Vec<u16>, Vec<u16>) {
@@ -24,9 +25,9 @@ fn two_lists(random: &mut Random, lengths: Lengths, exact: usize) -> (Vec<u16>, 
 }
 
 fn tables(random: &mut Random, tally: &mut Tally, net: &Network) {
-    let Network { n, lows, highs } = net;
-    let reference = Report::of(table::check(*n, lows, highs).map(|()| [0, 0]));
-    tally.same("check", reference.code, library::check(*n, lows, highs), reference, net);
+    kinds(net).into_iter().for_each(|kind| tally.states(kind));
+    let reference = Report::of(table::check(net).map(|()| [0, 0]));
+    tally.same("check", reference.code, library::check(net), reference, net);
 
     let edge = [0, 1, 2, 998, 999, 1000, 1001, 65535];
     let mut relay = || if random.once_in(2) { *random.pick(&edge) } else { random.below(1003) as u16 };
@@ -36,138 +37,99 @@ fn tables(random: &mut Random, tally: &mut Tally, net: &Network) {
 }
 
 fn written(random: &mut Random, tally: &mut Tally, net: &Network, lengths: Lengths) {
-    let Network { n, lows, highs } = net;
-    let size = lengths(random, text::text(*n, lows, highs).len());
+    let size = lengths(random, text::text(net).len());
     let mut ours = random.bytes(size);
     let mut theirs = ours.clone();
-    let reference = Report::of(text::write(*n, lows, highs, &mut ours).map(|length| [length as u64, 0]));
-    let report = library::write(*n, lows, highs, &mut theirs);
+    let reference = Report::of(text::write(net, &mut ours).map(|length| [length as u64, 0]));
+    let report = library::write(net, &mut theirs);
     tally.same("write", reference.code, (report, theirs), (reference, ours), net);
 }
 
-pub fn read(random: &mut Random, tally: &mut Tally, input: &[u8], links: usize, lengths: Lengths) {
-    let (mut lows, mut highs) = two_lists(random, lengths, links);
-    let (mut library_lows, mut library_highs) = (lows.clone(), highs.clone());
-    let reference = Report::of(text::read(input, &mut lows, &mut highs).map(|(n, m)| [n.into(), m.into()]));
-    let report = library::read(input, &mut library_lows, &mut library_highs);
-    let shown = String::from_utf8_lossy(input);
-    tally.same("read", reference.code, (report, library_lows, library_highs), (reference, lows, highs), &shown);
-}
-
 fn ordered(random: &mut Random, tally: &mut Tally, net: &Network, lengths: Lengths) {
-    let Network { n, lows, highs } = net;
-    let (mut relays, mut places) = two_lists(random, lengths, usize::from(*n));
+    let (mut relays, mut places) = two_lists(random, lengths, usize::from(net.n));
     let (mut library_relays, mut library_places) = (relays.clone(), places.clone());
-    let reference = Report::of(forests::order(*n, lows, highs, &mut relays, &mut places).map(|()| [0, 0]));
-    let report = library::order(*n, lows, highs, &mut library_relays, &mut library_places);
+    let reference = Report::of(forests::order(net, &mut relays, &mut places).map(|()| [0, 0]));
+    let report = library::order(net, &mut library_relays, &mut library_places);
     tally.same("order", reference.code, (report, library_relays, library_places), (reference, relays, places), net);
 
-    let size = lengths(random, lows.len());
+    let size = lengths(random, net.lows.len());
     let mut ours = random.numbers(size);
     let mut theirs = ours.clone();
-    let reference = Report::one(forests::split(*n, lows, highs, &mut ours));
-    let report = library::split(*n, lows, highs, &mut theirs);
+    let reference = Report::one(forests::split(net, &mut ours));
+    let report = library::split(net, &mut theirs);
     tally.same("split", reference.code, (report, theirs), (reference, ours), net);
 
-    let size = lengths(random, lows.len());
+    let size = lengths(random, net.lows.len());
     let mut ours = random.numbers(size);
     let mut theirs = ours.clone();
     let k = random.below(40) as u16;
-    let reference = Report::one(forests::cut(*n, lows, highs, k, &mut ours));
-    let report = library::cut(*n, lows, highs, k, &mut theirs);
+    let reference = Report::one(forests::cut(net, k, &mut ours));
+    let report = library::cut(net, k, &mut theirs);
     tally.same("cut", reference.code, (report, theirs), (reference, ours), &(net, k));
 }
 
-/// The first relay of the library's order.
+/// The first relay of the library's order, and the counts of its forests.
 fn started(tally: &mut Tally, net: &Network) {
     let mut lists = [vec![0; usize::from(net.n)], vec![0; usize::from(net.n)]];
     let [relays, places] = &mut lists;
-    library::order(net.n, &net.lows, &net.highs, relays, places);
-    first_relay(tally, net, relays[0]);
+    library::order(net, relays, places);
+    if net.states.contains(&1) {
+        first_relay(tally, net, relays[0]);
+    }
+    let mut numbers = vec![0; net.lows.len()];
+    library::split(net, &mut numbers);
+    forest_counts(tally, net, &numbers);
+}
+
+/// Fewer than k dead relays among those in service, at times all about one relay, and any number of withdrawn ones.
+fn dead(random: &mut Random, net: &Network, k: u16) -> Vec<bool> {
+    let mut dead: Vec<bool> = net.states.iter().map(|&state| state == 0 && random.once_in(2)).collect();
+    let relays = net.in_service();
+    if relays.is_empty() {
+        return dead;
+    }
+    let centre = *random.pick(&relays);
+    let around: Vec<u16> = (0..net.lows.len())
+        .filter(|&link| (net.lows[link] == centre || net.highs[link] == centre) && net.whole(link))
+        .map(|link| net.lows[link] ^ net.highs[link] ^ centre)
+        .collect();
+    let near = random.once_in(2) && !around.is_empty();
+    for _ in 0..random.below(usize::from(k)) {
+        let relay = *random.pick(if near { &around } else { &relays });
+        dead[usize::from(relay)] = true;
+    }
+    dead
 }
 
 /// Kept links against all links: with fewer than k relays dead they join the same live relays, and between two relays
 /// there are as many disjoint routes, counted up to k.
 fn certified(random: &mut Random, tally: &mut Tally, net: &Network) {
-    let Network { n, lows, highs } = net;
-    let n = usize::from(*n);
+    let relays = net.in_service();
     for _ in 0..3 {
         let k = random.within(1, 32).min(random.within(1, 32)).min(random.within(1, 32)) as u16;
-        let mut marks = vec![9; lows.len()];
-        let report = library::cut(net.n, lows, highs, k, &mut marks);
+        let mut marks = vec![9; net.lows.len()];
+        let report = library::cut(net, k, &mut marks);
         let ones = marks.iter().filter(|&&mark| mark == 1).count();
-        tally.holds(
-            "cut",
-            "the count is that of the kept links",
-            report == Report { code: 0, answer: [ones as u64, 0] },
-            &(net, k),
-        );
-        let few = n * usize::from(k);
-        tally.holds("cut", "at most k times n links are kept", ones <= few, &(net, k));
+        let counted = report == Report { code: 0, answer: [ones as u64, 0] };
+        tally.holds("cut", "the count is that of the kept links", counted, &(net, k));
+        let few = relays.len() * usize::from(k);
+        tally.holds("cut", "at most k times the relays in service is what is kept", ones <= few, &(net, k));
 
-        let mut dead = vec![false; n];
-        let centre = random.below(n) as u16;
-        let around: Vec<u16> = (0..lows.len())
-            .filter(|&link| lows[link] == centre || highs[link] == centre)
-            .map(|link| lows[link] ^ highs[link] ^ centre)
-            .collect();
-        let near = random.once_in(2) && !around.is_empty();
-        for _ in 0..random.below(usize::from(k)) {
-            let relay = if near { usize::from(*random.pick(&around)) } else { random.below(n) };
-            dead[relay] = true;
-        }
+        let dead = dead(random, net, k);
         let same = parts(net, &dead, None) == parts(net, &dead, Some(&marks));
         tally.holds("cut", "kept links join what all links join, fewer than k dead", same, &(net, k, &dead));
 
-        let less = kept(net, &marks);
-        let (from, to) = (random.below(n) as u16, random.below(n) as u16);
+        if relays.len() < 2 {
+            continue;
+        }
+        let (from, to) = (*random.pick(&relays), *random.pick(&relays));
         if from != to {
-            let most = usize::from(k);
-            let all = greatest(net.n, lows, highs, from, to, most);
-            let over_kept = greatest(net.n, &less.lows, &less.highs, from, to, most);
+            let (less, most) = (kept(net, &marks), usize::from(k));
+            let (all, over_kept) = (greatest(net, from, to, most), greatest(&less, from, to, most));
             tally.holds("cut", "kept links have as many disjoint routes, up to k", all == over_kept, &(net, k, from, to));
             flowed(tally, net, Wish { k: all as u16, from, to });
         }
     }
-}
-
-/// The planner's input: the line of a wish, and where it ends the network's text.
-pub fn input(net: &Network, wish: Wish) -> (Vec<u8>, usize) {
-    let mut input = line(wish);
-    let end = input.len();
-    input.extend(text::text(net.n, &net.lows, &net.highs).bytes());
-    (input, end)
-}
-
-/// An input through its program and, behind the line that asks, through Read.
-fn through(random: &mut Random, tally: &mut Tally, program: &Program, input: &[u8], line: usize, links: usize) {
-    printed(random, tally, program, input, mostly_enough);
-    read(random, tally, input.get(line..).unwrap_or_default(), links, any_length);
-}
-
-/// Inputs of a program: as written, damaged, and small ones damaged at every byte.
-fn inputs(random: &mut Random, tally: &mut Tally, program: &Program, (input, line): (Vec<u8>, usize), links: usize) {
-    through(random, tally, program, &input, line, links);
-    for _ in 0..3 {
-        let mut bad = input.clone();
-        for _ in 0..random.within(1, 2) {
-            scratch(random, &mut bad);
-        }
-        through(random, tally, program, &bad, line, links);
-    }
-    if input.len() <= 165 {
-        for variant in at_every_byte(random, &input) {
-            through(random, tally, program, &variant, line, links);
-        }
-    }
-}
-
-/// The inputs of both programs for a network.
-fn texts(random: &mut Random, tally: &mut Tally, net: &Network, wish: Wish) {
-    let planned = input(net, wish);
-    let kept = keep_input(random, &planned.0[planned.1..]);
-    inputs(random, tally, &PLAN, planned, net.lows.len());
-    inputs(random, tally, &KEEP, kept, net.lows.len());
 }
 
 /// A table through every operation, with some wishes if it is accepted; then it gives the forest of each link.
@@ -175,14 +137,14 @@ pub fn operations(random: &mut Random, tally: &mut Tally, net: &Network, wishes:
     tables(random, tally, net);
     written(random, tally, net, any_length);
     ordered(random, tally, net, any_length);
-    if table::check(net.n, &net.lows, &net.highs).is_err() {
+    if table::check(net).is_err() {
         routed(random, tally, net, Wish { k: 2, from: 1, to: 0 }, mostly_enough);
         before_sheets(random, tally, net);
         return None;
     }
     started(tally, net);
     certified(random, tally, net);
-    let numbers = forests::numbers(net.n, &net.lows, &net.highs);
+    let numbers = forests::numbers(net);
     let known = Known { net, numbers: &numbers };
     for _ in 0..wishes {
         let wish = wish(random, net, &numbers);
@@ -215,27 +177,36 @@ pub fn case(seed: u64, tally: &mut Tally) {
     whole(random, tally, &net);
 }
 
-/// The networks at the boundaries from a seed: each with lists of exact length and a wish that is met, then as any other, and then
-/// with its highest pair of relays linked twice. Gives how many there are.
+/// A network with links through every operation, with lists of exact length and a wish that is met.
+fn exactly(random: &mut Random, tally: &mut Tally, net: &Network) {
+    let exact: Lengths = |_, exact| exact;
+    let numbers = forests::numbers(net);
+    let link = (0..numbers.len()).max_by_key(|&link| numbers[link]).expect("a link");
+    let wish = Wish { k: numbers[link].min(32), from: net.highs[link], to: net.lows[link] };
+    let (input, line) = input(net, wish);
+    written(random, tally, net, exact);
+    read(random, tally, &input[line..], exact);
+    ordered(random, tally, net, exact);
+    routed(random, tally, net, wish, exact);
+    printed(random, tally, &PLAN, &input, exact);
+    let asked = keep_input(random, &input[line..]).0;
+    printed(random, tally, &KEEP, &asked, exact);
+}
+
+/// The networks at the boundaries from a seed: each with all relays in service and with some withdrawn, both with lists of exact
+/// length and a wish that is met, one of the two as any other, and then with its highest pair of relays linked twice. Gives how many
+/// there are.
 pub fn boundary_cases(seed: u64, tally: &mut Tally) -> usize {
     let random = &mut Random::new(seed);
-    let exact: Lengths = |_, exact| exact;
     let nets = boundaries(random);
-    for net in &nets {
-        let (n, lows, highs, m) = (net.n, &net.lows, &net.highs, net.lows.len());
-        let numbers = forests::numbers(n, lows, highs);
-        let link = (0..m).max_by_key(|&link| numbers[link]).expect("a link");
-        let wish = Wish { k: numbers[link].min(32), from: highs[link], to: lows[link] };
-        let (input, line) = input(net, wish);
-        written(random, tally, net, exact);
-        read(random, tally, &input[line..], m, exact);
-        ordered(random, tally, net, exact);
-        routed(random, tally, net, wish, exact);
-        printed(random, tally, &PLAN, &input, exact);
-        let asked = keep_input(random, &input[line..]).0;
-        printed(random, tally, &KEEP, &asked, exact);
+    for (number, net) in nets.iter().enumerate() {
+        let both = [net.clone(), withdrawn(net)];
+        both.iter().for_each(|net| exactly(random, tally, net));
+        let net = &both[number % 2];
         whole(random, tally, net);
 
+        let Network { lows, highs, .. } = net;
+        let m = lows.len();
         let highest = (0..m).max_by_key(|&link| (highs[link], lows[link])).expect("a link");
         let other = (highest + random.within(1, m - 1)) % m;
         let mut twice = net.clone();

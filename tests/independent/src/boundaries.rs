@@ -1,7 +1,8 @@
 //! Networks of the sizes at which a program takes other arrays or one word of bits more, and with the highest counts there can be.
 
-use crate::generate::{Links, Network, full, random_links, table, tree_from};
+use crate::generate::{Links, full, random_links, table, tree_from};
 use crate::random::Random;
+use crate::table::Network;
 
 /// About a word of 64 relays and about arrays for 128, 512 and 1,000.
 const RELAYS: [usize; 11] = [63, 64, 65, 127, 128, 129, 511, 512, 513, 999, 1000];
@@ -46,4 +47,12 @@ pub fn boundaries(random: &mut Random) -> Vec<Network> {
         }
     }
     all
+}
+
+/// The same network with the relays about the ends of the first word of 64 withdrawn: 0, 63, 64 and the last.
+pub fn withdrawn(net: &Network) -> Network {
+    let mut net = net.clone();
+    let last = net.states.len() - 1;
+    [0, 63, 64, last].into_iter().filter(|&relay| relay <= last).for_each(|relay| net.states[relay] = 0);
+    net
 }

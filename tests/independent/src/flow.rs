@@ -1,6 +1,7 @@
 //! An ordinary flow program: Dinic on split relays. It knows nothing of orders and forests.
 
 use crate::sweep::Wish;
+use crate::table::Network;
 
 /// A network with every relay split into a way in (2r) and a way out (2r + 1).
 pub struct Flow {
@@ -14,10 +15,10 @@ pub struct Flow {
 }
 
 impl Flow {
-    /// One route at most through each relay but the two ends.
-    pub fn new(n: u16, lows: &[u16], highs: &[u16], from: u16, to: u16) -> Flow {
-        let nodes = 2 * usize::from(n);
-        let edges = 2 * usize::from(n) + 4 * lows.len();
+    /// One route at most through each relay but the two ends, over the links with both ends in service.
+    pub fn new(net: &Network, from: u16, to: u16) -> Flow {
+        let nodes = 2 * usize::from(net.n);
+        let edges = 2 * usize::from(net.n) + 4 * net.lows.len();
         let mut flow = Flow {
             first: vec![-1; nodes],
             next: Vec::with_capacity(edges),
@@ -27,11 +28,11 @@ impl Flow {
             at: vec![-1; nodes],
             queue: Vec::with_capacity(nodes),
         };
-        for relay in 0..u32::from(n) {
+        for relay in 0..u32::from(net.n) {
             let end = relay == u32::from(from) || relay == u32::from(to);
             flow.edge(2 * relay, 2 * relay + 1, if end { u32::MAX / 2 } else { 1 });
         }
-        for (&a, &b) in lows.iter().zip(highs) {
+        for (a, b) in net.links().filter(|&(a, b)| net.serves(a) && net.serves(b)) {
             let (a, b) = (u32::from(a), u32::from(b));
             flow.edge(2 * a + 1, 2 * b, 1);
             flow.edge(2 * b + 1, 2 * a, 1);
@@ -140,16 +141,16 @@ impl Flow {
     }
 }
 
-/// The greatest number of routes between two different relays without a relay in common between the ends, counted up to `most`.
-pub fn greatest(n: u16, lows: &[u16], highs: &[u16], from: u16, to: u16, most: usize) -> usize {
-    Flow::new(n, lows, highs, from, to).routes(from, to, most)
+/// The greatest number of routes between two different relays in service without a relay in common between the ends, counted up to `most`.
+pub fn greatest(net: &Network, from: u16, to: u16, most: usize) -> usize {
+    Flow::new(net, from, to).routes(from, to, most)
 }
 
 /// An ordinary program in Route's place: finds k routes, writes them as Route does and gives how many relays it wrote; none if there
 /// are fewer routes. It checks nothing.
-pub fn route(n: u16, lows: &[u16], highs: &[u16], wish: Wish, counts: &mut [u16], relays: &mut [u16]) -> Option<usize> {
+pub fn route(net: &Network, wish: Wish, counts: &mut [u16], relays: &mut [u16]) -> Option<usize> {
     let Wish { k, from, to } = wish;
-    let mut flow = Flow::new(n, lows, highs, from, to);
+    let mut flow = Flow::new(net, from, to);
     if flow.routes(from, to, usize::from(k)) < usize::from(k) {
         return None;
     }

@@ -1,15 +1,9 @@
 //! Seeded networks of many kinds, tables that the check refuses, and damaged texts.
 
 use crate::random::Random;
+use crate::states::{spoil, withdraw};
+use crate::table::Network;
 use std::collections::HashSet;
-
-/// A table with its number of relays.
-#[derive(Clone, Debug, PartialEq, Eq)]
-pub struct Network {
-    pub n: u16,
-    pub lows: Vec<u16>,
-    pub highs: Vec<u16>,
-}
 
 /// The kinds of networks that `network` makes.
 pub const KINDS: [&str; 14] =
@@ -123,14 +117,14 @@ fn links(random: &mut Random, kind: &str, n: usize) -> (usize, Links) {
     }
 }
 
-/// The table of these links, with the relays numbered anew.
+/// The table of these links, with the relays numbered anew and all in service.
 pub(crate) fn table(links: Links, names: &[usize]) -> Network {
     let ends = |(a, b): (usize, usize)| (names[a].min(names[b]) as u16, names[a].max(names[b]) as u16);
     let (lows, highs) = links.into_iter().map(ends).unzip();
-    Network { n: names.len() as u16, lows, highs }
+    Network::serving(names.len() as u16, lows, highs)
 }
 
-/// A network of a kind with at most `most` relays, which are numbered anew at random in most runs.
+/// A network of a kind with at most `most` relays, which are numbered anew at random in most runs; all are in service.
 pub fn network(random: &mut Random, kind: &str, most: usize) -> Network {
     let (n, mut links) = links(random, kind, most);
     let mut names: Vec<usize> = (0..n).collect();
@@ -146,19 +140,22 @@ pub fn network(random: &mut Random, kind: &str, most: usize) -> Network {
     table(links, &names)
 }
 
-/// A network of any kind; small ones more often than large ones.
+/// A network of any kind, at times with withdrawn relays; small ones more often than large ones.
 pub fn any(random: &mut Random, most: usize) -> Network {
     let top = *random.pick(&[4, 8, 16, 40, 100, 300, 1000, most]);
     let size = random.within(1, top.min(most));
     let kind = KINDS[random.below(KINDS.len())];
-    network(random, kind, size)
+    let mut net = network(random, kind, size);
+    withdraw(random, &mut net);
+    net
 }
 
-/// Changes an accepted table into another: a link less, a link more, two links or two relays exchanged.
+/// Changes an accepted table into another: a link less, a link more, two links or two relays exchanged, a relay withdrawn or back in
+/// service.
 pub fn alter(random: &mut Random, net: &mut Network) {
     let (n, m) = (usize::from(net.n), net.lows.len());
     let (a, b) = (random.below(n) as u16, random.below(n) as u16);
-    match random.below(4) {
+    match random.below(5) {
         0 if m > 0 => {
             let at = random.below(m);
             net.lows.remove(at);
@@ -184,9 +181,10 @@ pub fn alter(random: &mut Random, net: &mut Network) {
                 (*low, *high) = (one.min(two), one.max(two));
             }
         }
+        3 => net.states[usize::from(a)] ^= 1,
         _ => {
             let (low, high) = (a.min(b), a.max(b));
-            let taken = net.lows.iter().zip(&net.highs).any(|link| link == (&low, &high));
+            let taken = net.links().any(|link| link == (low, high));
             if a != b && !taken && m < 3000 {
                 net.lows.push(low);
                 net.highs.push(high);
@@ -200,16 +198,22 @@ pub fn damage(random: &mut Random, net: &mut Network) {
     let m = net.lows.len().min(net.highs.len());
     let at = random.below(m);
     let value = *random.pick(&[0, 1, net.n.wrapping_sub(1), net.n, net.n.wrapping_add(1), 999, 1000, 65535]);
-    match random.below(12) {
+    match random.below(15) {
         0 => net.n = 0,
         1 => net.n = 1001,
-        2 => net.n = *random.pick(&[1000, 1002, 65535, 1, 2, 3]),
+        2 => {
+            net.n = *random.pick(&[1000, 1002, 65535, 1, 2, 3]);
+            if random.once_in(2) {
+                net.states.resize(usize::from(net.n), 1);
+            }
+        }
         3 => net.lows.push(value),
         4 => net.highs.push(value),
         5 => {
             net.lows.resize(3001, 0);
             net.highs.resize(3001, 1);
         }
+        12.. => spoil(random, &mut net.states),
         _ if m == 0 => {
             net.lows.push(value);
             net.highs.push(random.below(usize::from(net.n) + 2) as u16);
@@ -234,7 +238,7 @@ pub fn damage(random: &mut Random, net: &mut Network) {
 
 /// Damages a text in one place.
 pub fn scratch(random: &mut Random, text: &mut Vec<u8>) {
-    const BYTES: &[u8] = b"0123456789()( \n\r\tnetrelayslinkdw/:\0\x80\xff";
+    const BYTES: &[u8] = b"0123456789()( \n\r\tnetrelayslinkdwou/:\0\x80\xff";
     let at = random.below(text.len());
     let byte = *random.pick(BYTES);
     match random.below(12) {

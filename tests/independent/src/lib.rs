@@ -15,6 +15,7 @@ pub mod lengths;
 #[cfg(feature = "library")]
 pub mod library;
 pub mod manner;
+pub mod outs;
 pub mod over;
 pub mod plan;
 #[cfg(feature = "library")]
@@ -24,6 +25,7 @@ pub mod random;
 pub mod routed;
 pub mod sheet;
 pub mod sheets;
+pub mod states;
 pub mod sweep;
 pub mod swift;
 pub mod swift_sheet;
@@ -31,6 +33,8 @@ pub mod swift_text;
 pub mod table;
 pub mod tally;
 pub mod text;
+#[cfg(feature = "library")]
+pub mod texts;
 pub mod variants;
 #[cfg(feature = "library")]
 pub mod verified;
@@ -41,3 +45,5 @@ pub mod wishes;
 mod examples;
 #[cfg(test)]
 mod sheet_examples;
+#[cfg(test)]
+mod state_examples;

@@ -1,6 +1,6 @@
 //! The proved static library behind safe functions. A slice goes over as its pointer and its length.
 
-use crate::table::Refusal;
+use crate::table::{Network, Refusal};
 
 /// What the library reports: 0 or a refusal's number, and the two entries of the answer.
 #[derive(Clone, Copy, Debug, PartialEq, Eq)]
@@ -36,16 +36,17 @@ macro_rules! on_tables {
     ($($name:ident = $symbol:ident ($($number:ident),*) ($($list:ident: $entry:ty),*);)*) => {
         unsafe extern "C" {
             $(fn $symbol(
-                n: u16, lows: *const u16, _: usize, highs: *const u16, _: usize,
+                n: u16, lows: *const u16, _: usize, highs: *const u16, _: usize, states: *const u16, _: usize,
                 $($number: u16,)* $($list: *mut $entry, _: usize,)* answer: *mut u64,
             ) -> u32;)*
         }
         $(
             #[allow(clippy::too_many_arguments)]
-            pub fn $name(n: u16, lows: &[u16], highs: &[u16], $($number: u16,)* $($list: &mut [$entry]),*) -> Report {
+            pub fn $name(net: &Network, $($number: u16,)* $($list: &mut [$entry]),*) -> Report {
+                let Network { n, lows, highs, states } = net;
                 report(|answer| unsafe {
                     $symbol(
-                        n, lows.as_ptr(), lows.len(), highs.as_ptr(), highs.len(),
+                        *n, lows.as_ptr(), lows.len(), highs.as_ptr(), highs.len(), states.as_ptr(), states.len(),
                         $($number,)* $($list.as_mut_ptr(), $list.len(),)* answer,
                     )
                 })
@@ -73,6 +74,8 @@ unsafe extern "C" {
         lows_length: usize,
         highs: *mut u16,
         highs_length: usize,
+        states: *mut u16,
+        states_length: usize,
         answer: *mut u64,
     ) -> u32;
     fn nolkisei_verify(
@@ -81,6 +84,8 @@ unsafe extern "C" {
         lows_length: usize,
         highs: *const u16,
         highs_length: usize,
+        states: *const u16,
+        states_length: usize,
         text: *const u8,
         text_length: usize,
         answer: *mut u64,
@@ -93,15 +98,18 @@ pub fn pair(a: u16, b: u16) -> Report {
     report(|answer| unsafe { nolkisei_pair(a, b, answer) })
 }
 
-pub fn read(text: &[u8], lows: &mut [u16], highs: &mut [u16]) -> Report {
+pub fn read(text: &[u8], lows: &mut [u16], highs: &mut [u16], states: &mut [u16]) -> Report {
+    let [low, high, state] = [&mut *lows, &mut *highs, &mut *states].map(|list| list.as_mut_ptr());
     report(|answer| unsafe {
-        nolkisei_read(text.as_ptr(), text.len(), lows.as_mut_ptr(), lows.len(), highs.as_mut_ptr(), highs.len(), answer)
+        nolkisei_read(text.as_ptr(), text.len(), low, lows.len(), high, highs.len(), state, states.len(), answer)
     })
 }
 
-pub fn verify(n: u16, lows: &[u16], highs: &[u16], text: &[u8]) -> Report {
+pub fn verify(net: &Network, text: &[u8]) -> Report {
+    let Network { n, lows, highs, states } = net;
+    let [low, high, state] = [lows, highs, states].map(|list| list.as_ptr());
     report(|answer| unsafe {
-        nolkisei_verify(n, lows.as_ptr(), lows.len(), highs.as_ptr(), highs.len(), text.as_ptr(), text.len(), answer)
+        nolkisei_verify(*n, low, lows.len(), high, highs.len(), state, states.len(), text.as_ptr(), text.len(), answer)
     })
 }
 

@@ -2,9 +2,9 @@
 //! from the second one, so the manners stand for the ways through the reader, the refusals and the sweep.
 
 use crate::forests::{earlier, ordering, places};
-use crate::generate::Network;
 use crate::sweep::{Wish, sweep};
-use crate::table::{Refusal, check, known};
+use crate::table::{Network, Refusal, check, known};
+use crate::text::form;
 use crate::verify::{Fault, verify};
 use std::cell::RefCell;
 
@@ -13,11 +13,11 @@ use std::cell::RefCell;
 pub enum Manner {
     /// The number printed, 0 for a sheet, the line that it is about by its shape, what stands there or k, and two sizes.
     Printed(u32, Vec<u8>, u8, [u32; 2]),
-    /// The number, and the sizes of its place and of the table.
-    Table(u32, [u32; 2]),
-    /// k, the sizes of the network and its highest forest, how many ends one exchange replaced at most, and the sizes of how many
+    /// The number, and the sizes of its place, of the table and of the state list.
+    Table(u32, [u32; 3]),
+    /// k, the sizes of the network, of its relays in service and its highest forest, how many ends one exchange replaced at most, and the sizes of how many
     /// ends were replaced and appended in all.
-    Sweep(u16, [u32; 3], u32, [u32; 2]),
+    Sweep(u16, [u32; 4], u32, [u32; 2]),
     /// The number, or 0 and the faults; for 14 the ends of the line up to the byte by their shape, and what stands there.
     Sheet(u32, Vec<Fault>, [Vec<u8>; 2], u8),
 }
@@ -67,8 +67,15 @@ fn lines(text: &[u8]) -> Vec<&[u8]> {
     text.split_inclusive(|&byte| byte == b'\n').collect()
 }
 
-/// The manner of an input for which the planner printed this: the line up to the byte for 1 and 2, the link's line for 5 to 7,
-/// otherwise the header line; for a sheet k and the sizes of its longest route and of all of them.
+/// Which of the lines is the first out line that is not above the one before; the last line where all are.
+fn falling(lines: &[&[u8]]) -> usize {
+    let out = |line: usize| form(lines[line], 0, "(out #)\n").ok().map(|(relay, _)| relay[0]);
+    let falls = |line: &usize| out(*line).is_some() && out(*line) <= out(line - 1);
+    (1..lines.len()).find(falls).unwrap_or(lines.len() - 1)
+}
+
+/// The manner of an input for which the planner printed this: the line up to the byte for 1 and 2, the link's line for 5 to 7, the
+/// out line for 16, otherwise the header line; for a sheet k and the sizes of its longest route and of all of them.
 pub fn printed(input: &[u8], sheet: &str) -> Manner {
     let words: Vec<usize> = sheet.split(|c: char| !c.is_ascii_digit()).filter_map(|word| word.parse().ok()).collect();
     let all = lines(input);
@@ -86,19 +93,20 @@ pub fn printed(input: &[u8], sheet: &str) -> Manner {
             Manner::Printed(number, shape(&input[start..at]), found(input, at), [size(before).min(3), 0])
         }
         5..=7 => Manner::Printed(number, shape(all[place + 2]), 0, [size(place), 0]),
+        16 => Manner::Printed(number, shape(all[falling(&all)]), 0, [size(falling(&all)), size(all.len())]),
         _ => Manner::Printed(number, shape(all[1]), 0, [0, size(all.len())]),
     }
 }
 
 /// The manner of a table that the check refuses.
 pub fn refused(net: &Network) -> Option<Manner> {
-    let refusal = check(net.n, &net.lows, &net.highs).err()?;
-    Some(Manner::Table(refusal.number, [size(refusal.place), size(net.lows.len())]))
+    let refusal = check(net).err()?;
+    Some(Manner::Table(refusal.number, [refusal.place, net.lows.len(), net.states.len()].map(size)))
 }
 
 /// The manner of a sheet that is read back with a network.
 pub fn read_back(net: &Network, text: &[u8]) -> Manner {
-    match verify(net.n, &net.lows, &net.highs, text) {
+    match verify(net, text) {
         Ok(faults) => Manner::Sheet(0, faults, [vec![], vec![]], 0),
         Err(Refusal { number: 14, place }) => {
             let line = &text[line_start(text, place)..place];
@@ -113,23 +121,24 @@ pub fn read_back(net: &Network, text: &[u8]) -> Manner {
 pub struct Lefts {
     places: Vec<u16>,
     earlier: Vec<Vec<(u16, usize)>>,
-    sizes: [u32; 3],
+    sizes: [u32; 4],
 }
 
 impl Lefts {
     pub fn new(net: &Network) -> Lefts {
-        let Network { n, lows, highs } = net;
-        let places = places(&ordering(*n, lows, highs));
-        let earlier = earlier(*n, lows, highs, &places);
+        let order = ordering(net);
+        let places = places(net.n, &order);
+        let earlier = earlier(net, &places);
         let highest = earlier.iter().map(Vec::len).max().unwrap_or(0);
-        Lefts { places, earlier, sizes: [size(usize::from(*n)), size(lows.len()), size(highest)] }
+        let sizes = [places.len(), net.lows.len(), order.len(), highest].map(size);
+        Lefts { places, earlier, sizes }
     }
 
     /// The later and the earlier place of a wish that can be met.
     fn ends(&self, wish: Wish) -> Option<(u16, u16)> {
         let (p, q) = (*self.places.get(usize::from(wish.from))?, *self.places.get(usize::from(wish.to))?);
         let (s, t) = (p.max(q), p.min(q));
-        let tree = (t + 1..=s).all(|v| self.earlier[usize::from(v)].len() >= usize::from(wish.k));
+        let tree = t > 0 && (t + 1..=s).all(|v| self.earlier[usize::from(v)].len() >= usize::from(wish.k));
         if s != t && tree && known(wish.k).is_ok() { Some((s, t)) } else { None }
     }
 

@@ -1,17 +1,17 @@
 //! Document 02, #101: the links of a route, looked up in the table pair by pair, and Route with links.
 
 use crate::sweep::{Wish, asked, route};
-use crate::table::{Refusal, room};
+use crate::table::{Network, Refusal, room};
 
 /// The index of the link between two relays.
-fn link(lows: &[u16], highs: &[u16], one: u16, two: u16) -> u16 {
-    let pair = (&one.min(two), &one.max(two));
-    lows.iter().zip(highs).position(|link| link == pair).expect("each relay is linked to the next") as u16
+fn link(net: &Network, one: u16, two: u16) -> u16 {
+    let pair = (one.min(two), one.max(two));
+    net.links().position(|link| link == pair).expect("each relay is linked to the next") as u16
 }
 
 /// The indices of a route's links in turn, one fewer than its relays.
-pub fn over(lows: &[u16], highs: &[u16], route: &[u16]) -> Vec<u16> {
-    route.windows(2).map(|two| link(lows, highs, two[0], two[1])).collect()
+pub fn over(net: &Network, route: &[u16]) -> Vec<u16> {
+    route.windows(2).map(|two| link(net, two[0], two[1])).collect()
 }
 
 /// What Route with links is lent.
@@ -24,16 +24,16 @@ pub struct Lent {
 }
 
 /// Route with links: the count of relays written.
-pub fn route_links(n: u16, lows: &[u16], highs: &[u16], wish: Wish, lent: &mut Lent) -> Result<u16, Refusal> {
+pub fn route_links(net: &Network, wish: Wish, lent: &mut Lent) -> Result<u16, Refusal> {
     let Lent { counts, relays, links, scratch } = lent;
-    asked(n, lows, highs, wish)?;
+    asked(net, wish)?;
     let k = usize::from(wish.k);
-    room(links, usize::from(n) - 2 + k)?;
-    let written = route(n, lows, highs, wish, counts, relays, scratch)?;
+    room(links, usize::from(net.n) - 2 + k)?;
+    let written = route(net, wish, counts, relays, scratch)?;
     let (mut rest, mut all) = (&relays[..], vec![]);
     for &count in &counts[..k] {
         let (route, behind) = rest.split_at(usize::from(count));
-        all.extend(over(lows, highs, route));
+        all.extend(over(net, route));
         rest = behind;
     }
     links[..all.len()].copy_from_slice(&all);

@@ -3,25 +3,24 @@
 
 use crate::examples::{mesh, net, refused, square};
 use crate::forests::numbers;
-use crate::generate::{Network, any, scratch};
+use crate::generate::{any, scratch};
 use crate::plan::plan;
 use crate::random::Random;
-use crate::sheets::{CHANGES, Known, STILL, crossing, direct_twice, flowing, there_and_back};
+use crate::sheets::{CHANGES, Known, STILL, crossing, direct_twice, flowing, formerly, there_and_back};
 use crate::swift_sheet;
-use crate::table::Refusal;
+use crate::table::{Network, Refusal};
 use crate::text::text;
 use crate::verify::{Fault, read, verify};
 use crate::wishes::{line, wish};
 
 /// What is said of these lines between the head and the end of a sheet, from 4 to 1 in the mesh, k 2.
 fn between(lines: &str) -> Result<Vec<Fault>, Refusal> {
-    let Network { n, lows, highs } = mesh();
-    verify(n, &lows, &highs, format!("(sheet (from 4) (to 1) (k 2))\n{lines}(end)\n").as_bytes())
+    verify(&mesh(), format!("(sheet (from 4) (to 1) (k 2))\n{lines}(end)\n").as_bytes())
 }
 
 /// The same of a whole sheet of a network.
 fn of(net: Network, text: &str) -> Result<Vec<Fault>, Refusal> {
-    verify(net.n, &net.lows, &net.highs, text.as_bytes())
+    verify(&net, text.as_bytes())
 }
 
 #[test]
@@ -116,12 +115,12 @@ fn two_ways_read_sheets() {
     let mut said = [0; 4];
     for _ in 0..400 {
         let net = any(&mut random, 120);
-        let numbers = numbers(net.n, &net.lows, &net.highs);
+        let numbers = numbers(&net);
         let known = Known { net: &net, numbers: &numbers };
         let mut input = line(wish(&mut random, &net, &numbers));
-        input.extend(text(net.n, &net.lows, &net.highs).bytes());
+        input.extend(text(&net).bytes());
         let ours = read(plan(&input).as_bytes()).ok();
-        let others = [flowing, crossing, direct_twice, there_and_back].map(|make| make(&mut random, known));
+        let others = [flowing, formerly, crossing, direct_twice, there_and_back].map(|make| make(&mut random, known));
         for mut sheet in others.into_iter().chain([ours]).flatten() {
             let mut texts = vec![sheet.text().into_bytes()];
             for (_, change) in STILL.iter().chain(&CHANGES) {
@@ -136,8 +135,8 @@ fn two_ways_read_sheets() {
                 text
             }));
             for text in texts {
-                let outcome = verify(net.n, &net.lows, &net.highs, &text).map(|faults| faults.is_empty());
-                assert_eq!(swift_sheet::verify(net.n, &net.lows, &net.highs, &text), outcome);
+                let outcome = verify(&net, &text).map(|faults| faults.is_empty());
+                assert_eq!(swift_sheet::verify(&net, &text), outcome);
                 said[outcome.map_or_else(|refusal| refusal.number as usize - 12, usize::from)] += 1;
             }
         }

@@ -1,11 +1,12 @@
 //! Seeded sheets for a network: such as hold though the planner would not print them, such as nearly hold, and changes of a sheet.
 
 use crate::flow::{self, greatest};
-use crate::generate::Network;
+use crate::forests::keeps;
 use crate::over::over;
 use crate::random::Random;
 use crate::sheet::{Route, Sheet};
 use crate::sweep::Wish;
+use crate::table::Network;
 use std::collections::VecDeque;
 
 /// An accepted network with the forest of each link.
@@ -18,44 +19,59 @@ pub struct Known<'a> {
 impl Known<'_> {
     /// How many links a cut to k keeps.
     fn kept(&self, k: u16) -> u16 {
-        self.numbers.iter().filter(|&&number| number <= k).count() as u16
+        self.numbers.iter().filter(|&&number| keeps(k, number)).count() as u16
     }
 
     /// The sheet of these routes, with their links.
     fn sheet(&self, routes: Vec<Vec<u16>>) -> Sheet {
         let (from, to, k) = (routes[0][0], *routes[0].last().expect("a route has an end"), routes.len() as u16);
-        let with_links = |relays: Vec<u16>| Route { over: over(&self.net.lows, &self.net.highs, &relays), relays };
+        let with_links = |relays: Vec<u16>| Route { over: over(self.net, &relays), relays };
         Sheet { from, to, k, routes: routes.into_iter().map(with_links).collect(), kept: self.kept(k) }
-    }
-
-    /// Two different relays, if there are.
-    fn two(&self, random: &mut Random) -> Option<(u16, u16)> {
-        let n = usize::from(self.net.n);
-        let from = random.below(n);
-        let to = (from + random.within(1, n.max(2) - 1)) % n;
-        if n < 2 { None } else { Some((from as u16, to as u16)) }
     }
 }
 
-/// The routes of the flow program between two relays, all that there are up to 32 or some of them: a sheet that holds.
-pub fn flowing(random: &mut Random, known: Known) -> Option<Sheet> {
-    let Network { n, lows, highs } = known.net;
-    let (from, to) = known.two(random)?;
-    let most = greatest(*n, lows, highs, from, to, 32);
+/// Two different relays in service, if there are.
+fn two(random: &mut Random, net: &Network) -> Option<(u16, u16)> {
+    let relays = net.in_service();
+    let count = relays.len();
+    if count < 2 {
+        return None;
+    }
+    let from = random.below(count);
+    let to = (from + random.within(1, count - 1)) % count;
+    Some((relays[from], relays[to]))
+}
+
+/// The routes of the flow program between two relays of a network, all that there are up to 32 or some of them.
+fn flowing_routes(random: &mut Random, net: &Network) -> Option<Vec<Vec<u16>>> {
+    let (from, to) = two(random, net)?;
+    let most = greatest(net, from, to, 32);
     if most == 0 {
         return None;
     }
     let k = if random.once_in(2) { most } else { random.within(1, most) };
-    let (mut counts, mut relays) = (vec![0; k], vec![0; usize::from(*n) + 2 * k]);
-    flow::route(*n, lows, highs, Wish { k: k as u16, from, to }, &mut counts, &mut relays)?;
+    let (mut counts, mut relays) = (vec![0; k], vec![0; usize::from(net.n) + 2 * k]);
+    flow::route(net, Wish { k: k as u16, from, to }, &mut counts, &mut relays)?;
     let mut rest = &relays[..];
     let routes = counts.iter().map(|&count| rest.split_off(..usize::from(count)).expect("a route was written").to_vec());
-    Some(known.sheet(routes.collect()))
+    Some(routes.collect())
 }
 
-/// A shortest route that avoids some links.
+/// The routes of the flow program between two relays: a sheet that holds.
+pub fn flowing(random: &mut Random, known: Known) -> Option<Sheet> {
+    Some(known.sheet(flowing_routes(random, known.net)?))
+}
+
+/// Such routes as there were with all relays in service, with the count of today: a sheet that holds unless it touches a withdrawn
+/// relay.
+pub fn formerly(random: &mut Random, known: Known) -> Option<Sheet> {
+    let Network { n, lows, highs, .. } = known.net.clone();
+    Some(known.sheet(flowing_routes(random, &Network::serving(n, lows, highs))?))
+}
+
+/// A shortest route that avoids some links; withdrawn relays are not avoided.
 fn shortest(net: &Network, (from, to): (u16, u16), avoided: &[u16]) -> Option<Vec<u16>> {
-    let mut links: Vec<(u16, u16)> = net.lows.iter().copied().zip(net.highs.iter().copied()).collect();
+    let mut links: Vec<(u16, u16)> = net.links().collect();
     avoided.iter().for_each(|&link| links[usize::from(link)] = (to, to));
     let mut before = vec![None; usize::from(net.n)];
     let mut queue = VecDeque::from([to]);
@@ -78,15 +94,14 @@ fn shortest(net: &Network, (from, to): (u16, u16), avoided: &[u16]) -> Option<Ve
 
 /// Two routes without a link in common, half of the time through one relay; whether they share others is left open.
 pub fn crossing(random: &mut Random, known: Known) -> Option<Sheet> {
-    let Network { n, lows, highs } = known.net;
-    let (from, to) = known.two(random)?;
-    let through = if random.once_in(2) { random.below(usize::from(*n)) as u16 } else { to };
+    let (from, to) = two(random, known.net)?;
+    let through = if random.once_in(2) { random.below(usize::from(known.net.n)) as u16 } else { to };
     let (mut used, mut routes) = (vec![], vec![]);
     for _ in 0..2 {
         let mut route = vec![from];
         for ends in [(from, through), (through, to)] {
             let part = shortest(known.net, ends, &used)?;
-            used.extend(over(lows, highs, &part));
+            used.extend(over(known.net, &part));
             route.extend(&part[1..]);
         }
         routes.push(route);

@@ -1,7 +1,7 @@
 //! Route: the sweep over whole paths, as the paper tells it.
 
 use crate::forests::{earlier, ordering, places};
-use crate::table::{Refusal, check, known, plain, room};
+use crate::table::{Network, Refusal, check, known, plain, room};
 
 type Path = Vec<u16>;
 
@@ -72,17 +72,19 @@ fn root(parent: &mut [u16], mut place: u16) -> u16 {
     place
 }
 
-/// The k routes of an accepted network between two relays, in relay numbers from `from`; none if the two are not in one tree of forest k.
-pub fn routes(n: u16, lows: &[u16], highs: &[u16], k: u16, from: u16, to: u16) -> Option<Vec<Vec<u16>>> {
-    let order = ordering(n, lows, highs);
-    let places = places(&order);
-    let earlier = earlier(n, lows, highs, &places);
+/// The k routes of an accepted network between two relays in service, in relay numbers from `from`; none if the two are not in one tree
+/// of forest k.
+pub fn routes(net: &Network, wish: Wish) -> Option<Vec<Vec<u16>>> {
+    let Wish { k, from, to } = wish;
+    let order = ordering(net);
+    let places = places(net.n, &order);
+    let earlier = earlier(net, &places);
     let left = |i: usize, v: u16| earlier[usize::from(v)].get(i - 1).map(|&(place, _)| place);
     let (p, q) = (places[usize::from(from)], places[usize::from(to)]);
     let (s, t) = (p.max(q), p.min(q));
     let k = usize::from(k);
-    let mut parent: Vec<u16> = (0..=n).collect();
-    for v in 1..=n {
+    let mut parent: Vec<u16> = (0..=net.n).collect();
+    for v in 1..=net.n {
         if let Some(u) = left(k, v) {
             let (x, y) = (root(&mut parent, u), root(&mut parent, v));
             parent[usize::from(x)] = y;
@@ -111,35 +113,29 @@ pub struct Wish {
     pub to: u16,
 }
 
-/// The refusals that come before a look at the lent lists: the table check, 9, 10 and 11.
-pub fn asked(n: u16, lows: &[u16], highs: &[u16], wish: Wish) -> Result<(), Refusal> {
+/// The refusals that come before a look at the lent lists: the table check, 9, 10, 11 and 17.
+pub fn asked(net: &Network, wish: Wish) -> Result<(), Refusal> {
     let Wish { k, from, to } = wish;
-    check(n, lows, highs)?;
+    check(net)?;
     known(k)?;
-    if from >= n || to >= n {
+    if from >= net.n || to >= net.n {
         return plain(10);
     }
-    if from == to { plain(11) } else { Ok(()) }
+    if from == to {
+        return plain(11);
+    }
+    if net.serves(from) && net.serves(to) { Ok(()) } else { plain(17) }
 }
 
 /// Route: the count of relays written.
-pub fn route(
-    n: u16,
-    lows: &[u16],
-    highs: &[u16],
-    wish: Wish,
-    counts: &mut [u16],
-    relays: &mut [u16],
-    scratch: &mut [u16],
-) -> Result<u16, Refusal> {
-    let Wish { k, from, to } = wish;
-    asked(n, lows, highs, wish)?;
-    let (count, size) = (usize::from(k), usize::from(n));
+pub fn route(net: &Network, wish: Wish, counts: &mut [u16], relays: &mut [u16], scratch: &mut [u16]) -> Result<u16, Refusal> {
+    asked(net, wish)?;
+    let (count, size) = (usize::from(wish.k), usize::from(net.n));
     room(counts, count)?;
     room(relays, size - 2 + 2 * count)?;
     room(scratch, count * size)?;
     scratch.fill(0);
-    let Some(routes) = routes(n, lows, highs, k, from, to) else { return plain(13) };
+    let Some(routes) = routes(net, wish) else { return plain(13) };
     let all = routes.concat();
     for (count, route) in counts.iter_mut().zip(&routes) {
         *count = route.len() as u16;

@@ -1,7 +1,7 @@
 //! The same results by the methods of an ordinary program that is to be fast: what the proved code is timed against.
 
 use crate::sweep::{Wish, sweep};
-use crate::table::{Refusal, known, plain, refuse, room};
+use crate::table::{Network, Refusal, known, plain, refuse, room};
 
 /// No pair of n relays is marked yet: a bit for each pair number.
 pub fn no_pairs(n: u16) -> Vec<u64> {
@@ -9,18 +9,20 @@ pub fn no_pairs(n: u16) -> Vec<u64> {
 }
 
 /// The table check with a bitmap of pair numbers.
-pub fn check(n: u16, lows: &[u16], highs: &[u16]) -> Result<(), Refusal> {
-    if n == 0 || n > 1000 {
+pub fn check(net: &Network) -> Result<(), Refusal> {
+    let Network { n, lows, highs, states } = net;
+    if *n == 0 || *n > 1000 {
         return plain(3);
     }
     if lows.len() != highs.len() || lows.len() > 3000 {
         return plain(4);
     }
-    let mut seen = no_pairs(n);
+    let mut seen = no_pairs(*n);
     for (index, (&a, &b)) in lows.iter().zip(highs).enumerate() {
-        link(n, &mut seen, index, a, b)?;
+        link(*n, &mut seen, index, a, b)?;
     }
-    Ok(())
+    let highest = states.iter().copied().fold(0, u16::max);
+    if states.len() != usize::from(*n) || highest > 1 { plain(16) } else { Ok(()) }
 }
 
 #[inline]
@@ -44,25 +46,28 @@ pub fn link(n: u16, seen: &mut [u64], index: usize, a: u16, b: u16) -> Result<()
 /// Who is placed next: the waiting relay with the greatest key, which is its count of placed neighbours first and then the lower
 /// relay number.
 pub trait Keys {
-    /// All relays wait but the one that is placed first.
-    fn new(n: usize, first: usize) -> Self;
+    /// All relays in service wait but the one that is placed first.
+    fn new(states: &[u16], first: usize) -> Self;
     /// Takes the relay with the greatest key out.
     fn take(&mut self) -> usize;
     /// One more placed neighbour: the count so far, or 0 for a placed relay.
     fn raise(&mut self, relay: usize) -> u16;
 }
 
-/// One array of keys, 0 once placed, gone through for each place.
+/// One array of keys, 0 once placed and where withdrawn, gone through for each place.
 pub struct Plain {
     keys: [u32; 1024],
     n: usize,
 }
 
 impl Keys for Plain {
-    fn new(n: usize, first: usize) -> Plain {
-        let mut keys = std::array::from_fn(|relay| if relay < n { 1024 + (1023 - relay as u32) } else { 0 });
+    fn new(states: &[u16], first: usize) -> Plain {
+        let mut keys = [0; 1024];
+        for (relay, (key, &state)) in keys.iter_mut().zip(states).enumerate() {
+            *key = u32::from(state) * (1024 + (1023 - relay as u32));
+        }
         keys[first] = 0;
-        Plain { keys, n }
+        Plain { keys, n: states.len() }
     }
 
     fn take(&mut self) -> usize {
@@ -92,10 +97,10 @@ pub struct Buckets {
 }
 
 impl Keys for Buckets {
-    fn new(n: usize, first: usize) -> Buckets {
-        let mut columns = vec![[0; 80]; n.div_ceil(64)];
-        for (index, column) in columns.iter_mut().enumerate() {
-            column[0] = u64::MAX >> (64 - (n - 64 * index).min(64));
+    fn new(states: &[u16], first: usize) -> Buckets {
+        let mut columns = vec![[0; 80]; states.len().div_ceil(64)];
+        for (column, states) in columns.iter_mut().zip(states.chunks(64)) {
+            column[0] = states.iter().rev().fold(0, |word, &state| word << 1 | u64::from(state));
         }
         columns[first / 64][0] ^= 1 << (first % 64);
         Buckets { columns, counts: [0; 1000], most: 0 }
@@ -127,23 +132,31 @@ impl Keys for Buckets {
     }
 }
 
-/// Order, places and forest numbers in one pass over chains of links, from the relay with the longest chain on.
-pub fn scan_by<K: Keys>(n: u16, lows: &[u16], highs: &[u16], relays: &mut [u16], places: &mut [u16], forests: &mut [u16]) {
+/// Order, places and forest numbers in one pass over chains of links with both ends in service, from the relay with the longest chain
+/// on. Gives how many relays are in service.
+pub fn scan_by<K: Keys>(net: &Network, relays: &mut [u16], places: &mut [u16], forests: &mut [u16]) -> usize {
     const NONE: u16 = u16::MAX;
-    let size = usize::from(n);
+    let Network { lows, highs, states, .. } = net;
     let mut first = [NONE; 1000];
     let mut next = [[NONE; 2]; 3000];
     let mut links = [0u16; 1000];
     for link in (0..lows.len()).rev() {
+        if states[usize::from(lows[link])] & states[usize::from(highs[link])] == 0 {
+            forests[link] = 0;
+            continue;
+        }
         for (side, relay) in [lows[link], highs[link]].into_iter().enumerate() {
             next[link][side] = first[usize::from(relay)];
             first[usize::from(relay)] = link as u16;
             links[usize::from(relay)] += 1;
         }
     }
-    let most = links[..size].iter().copied().fold(0, u16::max);
-    let start = links.iter().position(|&count| count == most).expect("a relay has the most links");
-    let mut keys = K::new(size, start);
+    places[..states.len()].fill(0);
+    let size = states.iter().filter(|&&state| state == 1).count();
+    let most = links[..states.len()].iter().copied().fold(0, u16::max);
+    let busiest = states.iter().zip(&links).position(|(&state, &count)| state == 1 && count == most);
+    let Some(start) = busiest else { return 0 };
+    let mut keys = K::new(states, start);
     for (step, at_step) in relays[..size].iter_mut().enumerate() {
         let relay = if step == 0 { start } else { keys.take() };
         *at_step = relay as u16;
@@ -160,39 +173,40 @@ pub fn scan_by<K: Keys>(n: u16, lows: &[u16], highs: &[u16], relays: &mut [u16],
             at = next[link][side];
         }
     }
+    size
 }
 
 /// The scan that the proved code makes, too.
-pub fn scan(n: u16, lows: &[u16], highs: &[u16], relays: &mut [u16], places: &mut [u16], forests: &mut [u16]) {
-    scan_by::<Plain>(n, lows, highs, relays, places, forests);
+pub fn scan(net: &Network, relays: &mut [u16], places: &mut [u16], forests: &mut [u16]) -> usize {
+    scan_by::<Plain>(net, relays, places, forests)
 }
 
 /// Order, over keys of one kind.
-pub fn order_by<K: Keys>(n: u16, lows: &[u16], highs: &[u16], relays: &mut [u16], places: &mut [u16]) -> Result<(), Refusal> {
-    check(n, lows, highs)?;
-    room(relays, usize::from(n))?;
-    room(places, usize::from(n))?;
-    scan_by::<K>(n, lows, highs, relays, places, &mut [0; 3000]);
+pub fn order_by<K: Keys>(net: &Network, relays: &mut [u16], places: &mut [u16]) -> Result<(), Refusal> {
+    check(net)?;
+    room(relays, usize::from(net.n))?;
+    room(places, usize::from(net.n))?;
+    scan_by::<K>(net, relays, places, &mut [0; 3000]);
     Ok(())
 }
 
 /// Split.
-pub fn split(n: u16, lows: &[u16], highs: &[u16], forests: &mut [u16]) -> Result<u16, Refusal> {
-    check(n, lows, highs)?;
-    room(forests, lows.len())?;
-    scan(n, lows, highs, &mut [0; 1000], &mut [0; 1000], forests);
-    Ok(forests[..lows.len()].iter().copied().max().unwrap_or(0))
+pub fn split(net: &Network, forests: &mut [u16]) -> Result<u16, Refusal> {
+    check(net)?;
+    room(forests, net.lows.len())?;
+    scan(net, &mut [0; 1000], &mut [0; 1000], forests);
+    Ok(forests[..net.lows.len()].iter().copied().max().unwrap_or(0))
 }
 
 /// Cut.
-pub fn cut(n: u16, lows: &[u16], highs: &[u16], k: u16, marks: &mut [u16]) -> Result<u16, Refusal> {
-    check(n, lows, highs)?;
+pub fn cut(net: &Network, k: u16, marks: &mut [u16]) -> Result<u16, Refusal> {
+    check(net)?;
     known(k)?;
-    room(marks, lows.len())?;
-    scan(n, lows, highs, &mut [0; 1000], &mut [0; 1000], marks);
+    room(marks, net.lows.len())?;
+    scan(net, &mut [0; 1000], &mut [0; 1000], marks);
     let mut kept = 0;
-    for mark in &mut marks[..lows.len()] {
-        *mark = u16::from(*mark <= k);
+    for mark in &mut marks[..net.lows.len()] {
+        *mark = u16::from(mark.wrapping_sub(1) < k);
         kept += *mark;
     }
     Ok(kept)
@@ -200,28 +214,26 @@ pub fn cut(n: u16, lows: &[u16], highs: &[u16], k: u16, marks: &mut [u16]) -> Re
 
 /// An accepted network with its order and the forest of each link.
 struct Scanned<'a> {
-    n: u16,
-    lows: &'a [u16],
-    highs: &'a [u16],
+    net: &'a Network,
     relays: [u16; 1000],
     places: [u16; 1000],
     forests: [u16; 3000],
 }
 
 impl Scanned<'_> {
-    fn new<'a>(n: u16, lows: &'a [u16], highs: &'a [u16]) -> Scanned<'a> {
+    fn new(net: &Network) -> Scanned<'_> {
         let (mut relays, mut places, mut forests) = ([0; 1000], [0; 1000], [0; 3000]);
-        scan(n, lows, highs, &mut relays, &mut places, &mut forests);
-        Scanned { n, lows, highs, relays, places, forests }
+        scan(net, &mut relays, &mut places, &mut forests);
+        Scanned { net, relays, places, forests }
     }
 
     /// A row of n entries for each of the forests up to k: at the later place of a link what is given of its index and its earlier
     /// place, 0 elsewhere.
     fn rows(&self, k: u16, entry: impl Fn(usize, u16) -> u16) -> Vec<u16> {
-        let size = usize::from(self.n);
+        let size = usize::from(self.net.n);
         let mut rows = vec![0; usize::from(k) * size];
-        for (link, ((&a, &b), &forest)) in self.lows.iter().zip(self.highs).zip(&self.forests).enumerate() {
-            if forest <= k {
+        for (link, ((a, b), &forest)) in self.net.links().zip(&self.forests).enumerate() {
+            if forest.wrapping_sub(1) < k {
                 let (a, b) = (self.places[usize::from(a)], self.places[usize::from(b)]);
                 rows[(usize::from(forest) - 1) * size + usize::from(a.max(b)) - 1] = entry(link, a.min(b));
             }
@@ -231,7 +243,7 @@ impl Scanned<'_> {
 
     /// The routes in places, one after another, over the rows of earlier places: the sweep over whole paths.
     fn routes(&self, rows: &[u16], wish: Wish) -> Option<Vec<Vec<u16>>> {
-        let (size, most) = (usize::from(self.n), usize::from(wish.k));
+        let (size, most) = (usize::from(self.net.n), usize::from(wish.k));
         let left = |i: usize, v: u16| Some(rows[(i - 1) * size + usize::from(v) - 1]).filter(|&place| place > 0);
         let (p, q) = (self.places[usize::from(wish.from)], self.places[usize::from(wish.to)]);
         let (s, t) = (p.max(q), p.min(q));
@@ -258,21 +270,21 @@ impl Scanned<'_> {
 }
 
 /// The routes of an accepted network, one after another.
-pub fn routes(n: u16, lows: &[u16], highs: &[u16], wish: Wish) -> Option<Vec<Vec<u16>>> {
-    let scanned = Scanned::new(n, lows, highs);
+pub fn routes(net: &Network, wish: Wish) -> Option<Vec<Vec<u16>>> {
+    let scanned = Scanned::new(net);
     let mut routes = scanned.routes(&scanned.rows(wish.k, |_, earlier| earlier), wish)?;
     routes.iter_mut().for_each(|route| scanned.name(route));
     Some(routes)
 }
 
 /// The same with the links of each route: at each step the one that stands where the later place has the earlier one.
-pub fn routes_with_links(n: u16, lows: &[u16], highs: &[u16], wish: Wish) -> Option<Vec<(Vec<u16>, Vec<u16>)>> {
-    let scanned = Scanned::new(n, lows, highs);
+pub fn routes_with_links(net: &Network, wish: Wish) -> Option<Vec<(Vec<u16>, Vec<u16>)>> {
+    let scanned = Scanned::new(net);
     let rows = scanned.rows(wish.k, |_, earlier| earlier);
     let links = scanned.rows(wish.k, |link, _| link as u16);
     let link = |two: &[u16]| {
         let (earlier, later) = (two[0].min(two[1]), usize::from(two[0].max(two[1])));
-        let mut column = (later - 1..rows.len()).step_by(usize::from(n));
+        let mut column = (later - 1..rows.len()).step_by(usize::from(net.n));
         links[column.find(|&at| rows[at] == earlier).expect("a route runs along kept links")]
     };
     let with_links = |mut route: Vec<u16>| {

@@ -3,7 +3,7 @@
 
 use crate::swift::{check, scan};
 use crate::swift_text::{number, word};
-use crate::table::{Refusal, plain, refuse};
+use crate::table::{Network, Refusal, plain, refuse};
 
 /// The numbers of a sheet: those of its head, all relays and all links, and behind each route how many there are of either by then.
 struct Flat {
@@ -44,11 +44,12 @@ fn read(text: &[u8]) -> Result<Flat, Refusal> {
     if at < text.len() { refuse(2, at) } else { Ok(Flat { head, relays, links, behind, kept }) }
 }
 
-fn holds(n: u16, lows: &[u16], highs: &[u16], sheet: &Flat) -> bool {
+fn holds(net: &Network, sheet: &Flat) -> bool {
+    let Network { n, lows, highs, .. } = net;
     let [from, to, k] = sheet.head;
     let mut met = [false; 1000];
     let (mut relay, mut link, mut direct) = (0, 0, false);
-    if sheet.behind.len() != usize::from(k) || from >= n || to >= n || from == to {
+    if sheet.behind.len() != usize::from(k) || from >= *n || to >= *n || from == to {
         return false;
     }
     for &(relays, links) in &sheet.behind {
@@ -60,7 +61,7 @@ fn holds(n: u16, lows: &[u16], highs: &[u16], sheet: &Flat) -> bool {
         direct |= last == 1;
         for (step, &link) in over.iter().enumerate() {
             let (a, b, link) = (route[step], route[step + 1], usize::from(link));
-            if link >= lows.len() || lows[link] != a.min(b) || highs[link] != a.max(b) {
+            if link >= lows.len() || lows[link] != a.min(b) || highs[link] != a.max(b) || !net.whole(link) {
                 return false;
             }
             let inner = step + 1 < last;
@@ -71,13 +72,13 @@ fn holds(n: u16, lows: &[u16], highs: &[u16], sheet: &Flat) -> bool {
         (relay, link) = (relays, links);
     }
     let (mut relays, mut places, mut forests) = ([0; 1000], [0; 1000], [0; 3000]);
-    scan(n, lows, highs, &mut relays, &mut places, &mut forests);
-    forests[..lows.len()].iter().filter(|&&forest| forest <= k).count() == usize::from(sheet.kept)
+    scan(net, &mut relays, &mut places, &mut forests);
+    forests[..lows.len()].iter().filter(|&&forest| forest.wrapping_sub(1) < k).count() == usize::from(sheet.kept)
 }
 
 /// A sheet read back: whether it holds.
-pub fn verify(n: u16, lows: &[u16], highs: &[u16], text: &[u8]) -> Result<bool, Refusal> {
-    check(n, lows, highs)?;
+pub fn verify(net: &Network, text: &[u8]) -> Result<bool, Refusal> {
+    check(net)?;
     let sheet = read(text).map_err(|refusal| Refusal { number: 14, ..refusal })?;
-    if sheet.head[2] == 0 || sheet.head[2] > 32 { plain(15) } else { Ok(holds(n, lows, highs, &sheet)) }
+    if sheet.head[2] == 0 || sheet.head[2] > 32 { plain(15) } else { Ok(holds(net, &sheet)) }
 }

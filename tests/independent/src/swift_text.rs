@@ -2,7 +2,7 @@
 
 use crate::sweep::Wish;
 use crate::swift::{check, cut, link, no_pairs, routes_with_links};
-use crate::table::{Refusal, plain, refuse, room};
+use crate::table::{Network, Refusal, plain, refuse, room};
 
 #[inline]
 pub fn number(text: &[u8], at: &mut usize) -> Result<u16, Refusal> {
@@ -31,7 +31,23 @@ pub fn word(text: &[u8], at: &mut usize, word: &[u8]) -> Result<(), Refusal> {
     Ok(())
 }
 
-fn read_links(text: &[u8], lows: &mut [u16], highs: &mut [u16]) -> Result<(u16, u16), Refusal> {
+/// The out lines and the end.
+fn read_outs(text: &[u8], at: &mut usize, states: &mut [u16]) -> Result<(), Refusal> {
+    let mut least = 0;
+    while text.get(*at + 1) == Some(&b'o') {
+        word(text, at, b"(out ")?;
+        let relay = number(text, at)?;
+        word(text, at, b")\n")?;
+        if usize::from(relay) >= states.len() || relay < least {
+            return plain(16);
+        }
+        states[usize::from(relay)] = 0;
+        least = relay + 1;
+    }
+    word(text, at, b"(end)\n")
+}
+
+fn read_lines(text: &[u8], lows: &mut [u16], highs: &mut [u16], states: &mut [u16]) -> Result<(u16, u16), Refusal> {
     let mut at = 0;
     word(text, &mut at, b"(net (relays ")?;
     let n = number(text, &mut at)?;
@@ -44,7 +60,7 @@ fn read_links(text: &[u8], lows: &mut [u16], highs: &mut [u16]) -> Result<(u16, 
     if m > 3000 {
         return plain(4);
     }
-    if lows.len().min(highs.len()) < usize::from(m) {
+    if lows.len().min(highs.len()) < usize::from(m) || states.len() < usize::from(n) {
         return plain(8);
     }
     let mut seen = no_pairs(n);
@@ -58,16 +74,19 @@ fn read_links(text: &[u8], lows: &mut [u16], highs: &mut [u16]) -> Result<(u16, 
         lows[index] = a;
         highs[index] = b;
     }
-    word(text, &mut at, b"(end)\n")?;
+    let states = &mut states[..usize::from(n)];
+    states.fill(1);
+    read_outs(text, &mut at, states)?;
     if at < text.len() { refuse(2, at) } else { Ok((n, m)) }
 }
 
 /// Read.
-pub fn read(text: &[u8], lows: &mut [u16], highs: &mut [u16]) -> Result<(u16, u16), Refusal> {
-    let answer = read_links(text, lows, highs);
-    let kept = answer.map_or(0, |(_, m)| usize::from(m));
-    lows[kept..].fill(0);
-    highs[kept..].fill(0);
+pub fn read(text: &[u8], lows: &mut [u16], highs: &mut [u16], states: &mut [u16]) -> Result<(u16, u16), Refusal> {
+    let answer = read_lines(text, lows, highs, states);
+    let (n, m) = answer.map_or((0, 0), |(n, m)| (usize::from(n), usize::from(m)));
+    lows[m..].fill(0);
+    highs[m..].fill(0);
+    states[n..].fill(0);
     answer
 }
 
@@ -100,11 +119,12 @@ fn digits(value: u16) -> usize {
 }
 
 /// Write.
-pub fn write(n: u16, lows: &[u16], highs: &[u16], buffer: &mut [u8]) -> Result<usize, Refusal> {
-    check(n, lows, highs)?;
-    let m = lows.len() as u16;
-    let links: usize = lows.iter().zip(highs).map(|(&a, &b)| 9 + digits(a) + digits(b)).sum();
-    let length = 25 + digits(n) + digits(m) + links + 6;
+pub fn write(net: &Network, buffer: &mut [u8]) -> Result<usize, Refusal> {
+    check(net)?;
+    let (n, m) = (net.n, net.lows.len() as u16);
+    let links: usize = net.links().map(|(a, b)| 9 + digits(a) + digits(b)).sum();
+    let outs = || (0..n).zip(&net.states).filter(|two| *two.1 == 0).map(|two| two.0);
+    let length = 25 + digits(n) + digits(m) + links + outs().map(|relay| 7 + digits(relay)).sum::<usize>() + 6;
     room(buffer, length)?;
     let mut at = 0;
     put(buffer, &mut at, b"(net (relays ");
@@ -112,12 +132,15 @@ pub fn write(n: u16, lows: &[u16], highs: &[u16], buffer: &mut [u8]) -> Result<u
     put(buffer, &mut at, b") (links ");
     put_number(buffer, &mut at, m);
     put(buffer, &mut at, b"))\n");
-    for (&a, &b) in lows.iter().zip(highs) {
+    for (a, b) in net.links() {
         put(buffer, &mut at, b"(link ");
         put_number(buffer, &mut at, a);
         put(buffer, &mut at, b" ");
         put_number(buffer, &mut at, b);
         put(buffer, &mut at, b")\n");
+    }
+    for relay in outs() {
+        put_line(buffer, &mut at, b"(out", &[relay]);
     }
     put(buffer, &mut at, b"(end)\n");
     Ok(at)
@@ -136,17 +159,23 @@ fn sheet(input: &[u8]) -> Result<Vec<u8>, Refusal> {
     };
     let mut at = 0;
     let wish = wish(&mut at).map_err(|refusal| Refusal { number: 1, ..refusal })?;
-    let (mut lows, mut highs) = ([0; 3000], [0; 3000]);
-    let (n, m) = read(&input[at..], &mut lows, &mut highs)?;
-    let (lows, highs) = (&lows[..usize::from(m)], &highs[..usize::from(m)]);
-    let kept = cut(n, lows, highs, wish.k, &mut [0; 3000])?;
+    let (mut lows, mut highs, mut states) = (vec![0; 3000], vec![0; 3000], vec![0; 1000]);
+    let (n, m) = read(&input[at..], &mut lows, &mut highs, &mut states)?;
+    lows.truncate(usize::from(m));
+    highs.truncate(usize::from(m));
+    states.truncate(usize::from(n));
+    let net = Network { n, lows, highs, states };
+    let kept = cut(&net, wish.k, &mut [0; 3000])?;
     if wish.from >= n || wish.to >= n {
         return plain(10);
     }
     if wish.from == wish.to {
         return plain(11);
     }
-    let Some(routes) = routes_with_links(n, lows, highs, wish) else { return plain(13) };
+    if !net.serves(wish.from) || !net.serves(wish.to) {
+        return plain(17);
+    }
+    let Some(routes) = routes_with_links(&net, wish) else { return plain(13) };
     let mut sheet = vec![0; 9935];
     let mut at = 0;
     for (front, value) in [(&b"(sheet (from "[..], wish.from), (b") (to ", wish.to), (b") (k ", wish.k)] {

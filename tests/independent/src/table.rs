@@ -1,6 +1,42 @@
-//! Refusals, the pair number and the table check.
+//! Networks, refusals, the pair number and the table check.
 
 use std::collections::HashSet;
+
+/// A table with its number of relays and the state of each: 1 in service, 0 withdrawn (document 02, #105).
+#[derive(Clone, Debug, PartialEq, Eq)]
+pub struct Network {
+    pub n: u16,
+    pub lows: Vec<u16>,
+    pub highs: Vec<u16>,
+    pub states: Vec<u16>,
+}
+
+impl Network {
+    /// A table with all its relays in service.
+    pub fn serving(n: u16, lows: Vec<u16>, highs: Vec<u16>) -> Network {
+        Network { n, lows, highs, states: vec![1; usize::from(n)] }
+    }
+
+    /// The two ends of each link.
+    pub fn links(&self) -> impl Iterator<Item = (u16, u16)> {
+        self.lows.iter().copied().zip(self.highs.iter().copied())
+    }
+
+    /// Whether a relay of an accepted network is in service.
+    pub fn serves(&self, relay: u16) -> bool {
+        self.states[usize::from(relay)] == 1
+    }
+
+    /// Whether both ends of a link of an accepted network are in service.
+    pub fn whole(&self, link: usize) -> bool {
+        self.serves(self.lows[link]) && self.serves(self.highs[link])
+    }
+
+    /// The relays in service of an accepted network.
+    pub fn in_service(&self) -> Vec<u16> {
+        (0..self.n).filter(|&relay| self.serves(relay)).collect()
+    }
+}
 
 /// A refusal's number and its place in the input.
 #[derive(Clone, Copy, Debug, PartialEq, Eq)]
@@ -76,16 +112,20 @@ impl Seen {
 }
 
 /// The table check.
-pub fn check(n: u16, lows: &[u16], highs: &[u16]) -> Result<(), Refusal> {
-    if n == 0 || n > 1000 {
+pub fn check(net: &Network) -> Result<(), Refusal> {
+    let Network { n, lows, highs, states } = net;
+    if *n == 0 || *n > 1000 {
         return plain(3);
     }
     if lows.len() != highs.len() || lows.len() > 3000 {
         return plain(4);
     }
-    let mut seen = Seen::new(n);
-    for (index, (&a, &b)) in lows.iter().zip(highs).enumerate() {
+    let mut seen = Seen::new(*n);
+    for (index, (a, b)) in net.links().enumerate() {
         seen.take(index, a, b)?;
+    }
+    if states.len() != usize::from(*n) || states.iter().any(|&state| state != 0 && state != 1) {
+        return plain(16);
     }
     Ok(())
 }

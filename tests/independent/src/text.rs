@@ -1,6 +1,6 @@
 //! The network's text: Read and Write.
 
-use crate::table::{Refusal, Seen, check, plain, refuse, room};
+use crate::table::{Network, Refusal, Seen, check, plain, refuse, room};
 
 /// Reads one form from `start`: `#` in the pattern stands for a number, every other byte for itself.
 /// Gives the numbers and the next offset, or the offset of the first byte that departs.
@@ -28,9 +28,32 @@ pub fn form(text: &[u8], start: usize, pattern: &str) -> Result<(Vec<u16>, usize
     Ok((numbers, at))
 }
 
-fn links(text: &[u8], entries: usize) -> Result<(u16, Vec<(u16, u16)>), Refusal> {
+/// The first line.
+pub const HEADER: &str = "(net (relays #) (links #))\n";
+
+/// Reads the out lines and the end: the relays withdrawn. An out line and the end are due at once: where a text follows neither of
+/// them, it departs at the later of the two offsets.
+fn outs(text: &[u8], start: usize, n: u16) -> Result<Vec<u16>, Refusal> {
+    let (mut outs, mut at) = (vec![], start);
+    loop {
+        match (form(text, at, "(out #)\n"), form(text, at, "(end)\n")) {
+            (Ok((out, next)), _) => {
+                if out[0] >= n || outs.last().is_some_and(|&before| out[0] <= before) {
+                    return plain(16);
+                }
+                outs.push(out[0]);
+                at = next;
+            }
+            (_, Ok((_, end))) => return if end < text.len() { refuse(2, end) } else { Ok(outs) },
+            (Err(of_out), Err(of_end)) => return refuse(2, of_out.max(of_end)),
+        }
+    }
+}
+
+/// The network of a text, with room for so many links and states.
+fn network(text: &[u8], entries: usize, relays: usize) -> Result<Network, Refusal> {
     let departs = |place| Refusal { number: 2, place };
-    let (header, mut at) = form(text, 0, "(net (relays #) (links #))\n").map_err(departs)?;
+    let (header, mut at) = form(text, 0, HEADER).map_err(departs)?;
     let (n, m) = (header[0], header[1]);
     if n == 0 || n > 1000 {
         return plain(3);
@@ -38,46 +61,62 @@ fn links(text: &[u8], entries: usize) -> Result<(u16, Vec<(u16, u16)>), Refusal>
     if m > 3000 {
         return plain(4);
     }
-    if entries < usize::from(m) {
+    if entries < usize::from(m) || relays < usize::from(n) {
         return plain(8);
     }
     let mut seen = Seen::new(n);
-    let mut links = Vec::new();
+    let mut net = Network::serving(n, vec![], vec![]);
     for index in 0..usize::from(m) {
         let (link, next) = form(text, at, "(link # #)\n").map_err(departs)?;
         seen.take(index, link[0], link[1])?;
-        links.push((link[0], link[1]));
+        net.lows.push(link[0]);
+        net.highs.push(link[1]);
         at = next;
     }
-    let (_, at) = form(text, at, "(end)\n").map_err(departs)?;
-    if at < text.len() { refuse(2, at) } else { Ok((n, links)) }
+    for relay in outs(text, at, n)? {
+        net.states[usize::from(relay)] = 0;
+    }
+    Ok(net)
 }
 
 /// Read: n and m.
-pub fn read(text: &[u8], lows: &mut [u16], highs: &mut [u16]) -> Result<(u16, u16), Refusal> {
+pub fn read(text: &[u8], lows: &mut [u16], highs: &mut [u16], states: &mut [u16]) -> Result<(u16, u16), Refusal> {
     lows.fill(0);
     highs.fill(0);
-    let (n, links) = links(text, lows.len().min(highs.len()))?;
-    for (index, &(a, b)) in links.iter().enumerate() {
-        lows[index] = a;
-        highs[index] = b;
-    }
-    Ok((n, links.len() as u16))
+    states.fill(0);
+    let net = network(text, lows.len().min(highs.len()), states.len())?;
+    lows[..net.lows.len()].copy_from_slice(&net.lows);
+    highs[..net.highs.len()].copy_from_slice(&net.highs);
+    states[..net.states.len()].copy_from_slice(&net.states);
+    Ok((net.n, net.lows.len() as u16))
+}
+
+/// The network that a program reads, into lists that are long enough for any.
+pub fn read_whole(text: &[u8]) -> Result<Network, Refusal> {
+    let (mut lows, mut highs, mut states) = (vec![0; 3000], vec![0; 3000], vec![0; 1000]);
+    let (n, m) = read(text, &mut lows, &mut highs, &mut states)?;
+    lows.truncate(usize::from(m));
+    highs.truncate(usize::from(m));
+    states.truncate(usize::from(n));
+    Ok(Network { n, lows, highs, states })
 }
 
 /// The text of a table, accepted or not.
-pub fn text(n: u16, lows: &[u16], highs: &[u16]) -> String {
-    let mut text = format!("(net (relays {n}) (links {}))\n", lows.len());
-    for (a, b) in lows.iter().zip(highs) {
+pub fn text(net: &Network) -> String {
+    let mut text = format!("(net (relays {}) (links {}))\n", net.n, net.lows.len());
+    for (a, b) in net.links() {
         text += &format!("(link {a} {b})\n");
+    }
+    for (relay, _) in net.states.iter().enumerate().filter(|state| *state.1 == 0) {
+        text += &format!("(out {relay})\n");
     }
     text + "(end)\n"
 }
 
 /// Write: the length.
-pub fn write(n: u16, lows: &[u16], highs: &[u16], buffer: &mut [u8]) -> Result<usize, Refusal> {
-    check(n, lows, highs)?;
-    let text = text(n, lows, highs);
+pub fn write(net: &Network, buffer: &mut [u8]) -> Result<usize, Refusal> {
+    check(net)?;
+    let text = text(net);
     room(buffer, text.len())?;
     buffer[..text.len()].copy_from_slice(text.as_bytes());
     Ok(text.len())

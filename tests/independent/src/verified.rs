@@ -1,24 +1,24 @@
 //! Sheets read back by the library, against the second version: the planner's own, others that hold or nearly hold, changed and
 //! damaged ones, and sheets behind a table that is refused.
 
-use crate::generate::{Network, alter, any, scratch};
+use crate::generate::{alter, any, scratch};
 use crate::library::{self, Report};
 use crate::random::Random;
 use crate::sheet::Sheet;
-use crate::sheets::{CHANGES, Known, STILL, crossing, direct_twice, flowing, there_and_back};
+use crate::sheets::{CHANGES, Known, STILL, crossing, direct_twice, flowing, formerly, there_and_back};
+use crate::table::Network;
 use crate::tally::Tally;
 use crate::variants::at_every_byte;
 use crate::verify::{self, verify};
 
 /// Compares what is said of a sheet that was made so, and gives whether it is a yes.
 pub fn verified(tally: &mut Tally, made: &'static str, net: &Network, text: &[u8]) -> bool {
-    let Network { n, lows, highs } = net;
-    let outcome = verify(*n, lows, highs, text);
+    let outcome = verify(net, text);
     let alone = outcome.as_ref().ok().filter(|faults| faults.len() == 1).map(|faults| faults[0]);
     let reference = Report::one(outcome.map(|faults| faults.is_empty()));
     let held = reference == Report::of(Ok([1, 0]));
     let code = if held { 1 } else { reference.code };
-    tally.same("verify", code, library::verify(*n, lows, highs, text), reference, &(net, String::from_utf8_lossy(text)));
+    tally.same("verify", code, library::verify(net, text), reference, &(net, String::from_utf8_lossy(text)));
     tally.sheet(made, alone);
     held
 }
@@ -90,6 +90,9 @@ pub fn other_sheets(random: &mut Random, tally: &mut Tally, known: Known) {
         holding(tally, "of the flow program", known.net, &sheet);
         changed(random, tally, known, &sheet);
         damaged(random, tally, known.net, sheet.text().as_bytes());
+    }
+    if let Some(sheet) = formerly(random, known) {
+        verified(tally, "of the time when all were in service", known.net, sheet.text().as_bytes());
     }
     if let Some(sheet) = crossing(random, known) {
         verified(tally, "two routes, no link in common", known.net, sheet.text().as_bytes());

@@ -1,8 +1,8 @@
 //! Document 02, #103: a sheet's text read by its form, and whether the sheet holds for a network.
 
-use crate::forests::numbers;
+use crate::forests::{keeps, numbers};
 use crate::sheet::{Route, Sheet};
-use crate::table::{Refusal, check, plain};
+use crate::table::{Network, Refusal, check, plain};
 use crate::text::form;
 
 /// What makes a sheet a no.
@@ -14,6 +14,8 @@ pub enum Fault {
     SameEnds,
     /// A relay is not below n.
     NoRelay,
+    /// A relay is withdrawn (#105).
+    Withdrawn,
     /// A route starts or ends elsewhere.
     Ends,
     /// A relay stands twice in a route.
@@ -83,15 +85,16 @@ fn those<const N: usize>(faults: [(Fault, bool); N]) -> Vec<Fault> {
 }
 
 /// The faults of one route.
-fn alone(n: u16, lows: &[u16], highs: &[u16], sheet: &Sheet, route: &Route) -> Vec<Fault> {
+fn alone(net: &Network, sheet: &Sheet, route: &Route) -> Vec<Fault> {
     let Route { relays, over } = route;
     let last = relays.len() - 1;
     let joined = |two: &[u16], link: u16| {
-        let ends = (lows.get(usize::from(link)), highs.get(usize::from(link)));
+        let ends = (net.lows.get(usize::from(link)), net.highs.get(usize::from(link)));
         ends == (Some(&two[0]), Some(&two[1])) || ends == (Some(&two[1]), Some(&two[0]))
     };
     those([
-        (Fault::NoRelay, relays.iter().any(|&relay| relay >= n)),
+        (Fault::NoRelay, relays.iter().any(|&relay| relay >= net.n)),
+        (Fault::Withdrawn, relays.iter().any(|&relay| relay < net.n && !net.serves(relay))),
         (Fault::Ends, (relays[0], relays[last]) != (sheet.from, sheet.to)),
         (Fault::Twice, (0..last).any(|at| relays[at + 1..].contains(&relays[at]))),
         (Fault::Count, over.len() != last),
@@ -111,11 +114,11 @@ fn beside(one: &Route, other: &Route) -> Vec<Fault> {
 }
 
 /// Every kind of fault that a sheet has, once; but `kept` is looked at only where there is no other.
-pub fn faults(n: u16, lows: &[u16], highs: &[u16], sheet: &Sheet) -> Vec<Fault> {
+pub fn faults(net: &Network, sheet: &Sheet) -> Vec<Fault> {
     let Sheet { from, to, k, routes, kept } = sheet;
     let mut faults = those([(Fault::Routes, routes.len() != usize::from(*k)), (Fault::SameEnds, from == to)]);
     for (at, route) in routes.iter().enumerate() {
-        let mut more = alone(n, lows, highs, sheet, route);
+        let mut more = alone(net, sheet, route);
         more.extend(routes[..at].iter().flat_map(|other| beside(route, other)));
         more.into_iter().for_each(|fault| {
             if !faults.contains(&fault) {
@@ -124,18 +127,18 @@ pub fn faults(n: u16, lows: &[u16], highs: &[u16], sheet: &Sheet) -> Vec<Fault> 
         });
     }
     if faults.is_empty() {
-        let count = numbers(n, lows, highs).into_iter().filter(|forest| forest <= k).count();
+        let count = numbers(net).into_iter().filter(|&forest| keeps(*k, forest)).count();
         faults = those([(Fault::Kept, count != usize::from(*kept))]);
     }
     faults
 }
 
 /// A sheet read back: its faults, and none is a yes.
-pub fn verify(n: u16, lows: &[u16], highs: &[u16], text: &[u8]) -> Result<Vec<Fault>, Refusal> {
-    check(n, lows, highs)?;
+pub fn verify(net: &Network, text: &[u8]) -> Result<Vec<Fault>, Refusal> {
+    check(net)?;
     let sheet = read(text).map_err(|place| Refusal { number: 14, place })?;
     if sheet.k < 1 || sheet.k > 32 {
         return plain(15);
     }
-    Ok(faults(n, lows, highs, &sheet))
+    Ok(faults(net, &sheet))
 }

@@ -1,19 +1,21 @@
 //! Seeded wishes, and the lines that ask for them.
 
-use crate::generate::Network;
 use crate::random::Random;
 use crate::sweep::Wish;
+use crate::table::Network;
 
-/// A wish that a network with these forest numbers may well meet: k within its forests, and often the ends of one link.
+/// A wish that a network with these forest numbers may well meet: k within its forests, relays in service, and often the ends of one
+/// link.
 pub fn wish(random: &mut Random, net: &Network, numbers: &[u16]) -> Wish {
-    let n = usize::from(net.n);
-    let (mut from, mut to) = (random.below(n) as u16, random.below(n) as u16);
+    let (relays, n) = (net.in_service(), usize::from(net.n));
+    let mut relay = || if relays.is_empty() || random.once_in(24) { random.below(n) as u16 } else { *random.pick(&relays) };
+    let (mut from, mut to) = (relay(), relay());
     let highest = numbers.iter().copied().max().unwrap_or(0);
     let mut k = random.within(1, usize::from(highest.clamp(1, 32))) as u16;
     if !numbers.is_empty() && random.once_in(2) {
         let link = random.below(numbers.len());
         (from, to) = (net.lows[link], net.highs[link]);
-        k = random.within(1, usize::from(numbers[link].min(32))) as u16;
+        k = random.within(1, usize::from(numbers[link].clamp(1, 32))) as u16;
     }
     if random.once_in(2) {
         (from, to) = (to, from);

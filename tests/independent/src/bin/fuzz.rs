@@ -3,18 +3,21 @@
 //! back with their tables.
 //! fuzz [SECONDS [SEED]]: 60 seconds and seed 1 if not given. The same seed tries the same inputs in the same order.
 
-use independent::against::{input, operations, read};
-use independent::forests;
-use independent::generate::{Network, alter, any, damage, mend, scratch};
+use independent::against::operations;
+use independent::forests::numbers;
+use independent::generate::{alter, any, damage, mend, scratch};
 use independent::lengths::{any_length, mostly_enough};
 use independent::manner::{self, Lefts, Manner};
+use independent::outs::{OUTS, with_outs};
 use independent::printed::{KEEP, PLAN, keep_input, printed};
 use independent::random::Random;
-use independent::sheets::{CHANGES, Known, STILL, crossing, direct_twice, flowing, there_and_back};
+use independent::sheets::{CHANGES, Known, STILL, crossing, direct_twice, flowing, formerly, there_and_back};
+use independent::table::Network;
 use independent::tally::Tally;
+use independent::texts::{input, read};
 use independent::verified::verified;
 use independent::verify;
-use independent::wishes::{any_wish, wish};
+use independent::wishes::{any_wish, line, wish};
 use std::collections::{BTreeMap, HashSet};
 use std::time::{Duration, Instant};
 
@@ -56,14 +59,9 @@ struct Fuzz {
     tried: [u64; 3],
 }
 
-/// The forest of each link of a network.
-fn numbers(net: &Network) -> Vec<u16> {
-    forests::numbers(net.n, &net.lows, &net.highs)
-}
-
 /// A sheet of a network to begin with, without a route where none is found.
 fn first_sheet(random: &mut Random, net: &Network) -> Vec<u8> {
-    let make = *random.pick(&[flowing, crossing, direct_twice, there_and_back]);
+    let make = *random.pick(&[flowing, formerly, crossing, direct_twice, there_and_back]);
     let sheet = make(random, Known { net, numbers: &numbers(net) });
     sheet.map_or("(sheet (from 0) (to 1) (k 1))\n(kept 0)\n(end)\n".into(), |sheet| sheet.text()).into_bytes()
 }
@@ -82,13 +80,21 @@ impl Fuzz {
         Fuzz { random, tally: Tally::default(), texts, nets, sheets, known: HashSet::new(), tried: [0; 3] }
     }
 
-    /// A kept text with some damage, at times a large network's.
+    /// A network's text behind a wish, with its out lines changed.
+    fn fresh(&mut self, most: usize) -> Vec<u8> {
+        let random = &mut self.random;
+        let net = any(random, most);
+        let wish = line(any_wish(random, &net));
+        let (_, change) = *random.pick(&OUTS);
+        [wish, with_outs(random, &net, change).into_bytes()].concat()
+    }
+
+    /// A kept text with some damage, at times a new one or a large network's.
     fn changed(&mut self) -> Vec<u8> {
         let mut text = self.texts.pick(&mut self.random).clone();
-        if self.random.once_in(500) {
-            let net = any(&mut self.random, 1000);
-            let wish = any_wish(&mut self.random, &net);
-            text = input(&net, wish).0;
+        if self.random.once_in(50) {
+            let most = if self.random.once_in(10) { 1000 } else { 60 };
+            text = self.fresh(most);
         }
         let changes = if self.random.once_in(2) { 1 } else { self.random.within(2, 4) };
         (0..changes).for_each(|_| scratch(&mut self.random, &mut text));
@@ -107,10 +113,8 @@ impl Fuzz {
     fn text(&mut self) {
         let text = self.changed();
         let sheet = printed(&mut self.random, &mut self.tally, &PLAN, &text, mostly_enough);
-        let lines = text.iter().filter(|&&byte| byte == b'\n').count();
-        let links = if self.random.once_in(3) { lines.saturating_sub(3) } else { 3000 };
         let behind = text.iter().position(|&byte| byte == b'\n').map_or(0, |at| at + 1);
-        read(&mut self.random, &mut self.tally, &text[behind..], links, any_length);
+        read(&mut self.random, &mut self.tally, &text[behind..], any_length);
         let asked = keep_input(&mut self.random, &text[behind..]).0;
         printed(&mut self.random, &mut self.tally, &KEEP, &asked, mostly_enough);
         self.tried[0] += 1;

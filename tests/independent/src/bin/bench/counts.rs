@@ -1,7 +1,7 @@
 //! The instructions that each work takes, counted by callgrind in a run of this program of its own.
 
 use super::works::Measure;
-use independent::generate::Network;
+use independent::table::Network;
 use std::hint::black_box;
 use std::io::ErrorKind;
 use std::process::{Command, Stdio};

@@ -7,7 +7,7 @@ mod page;
 mod plot;
 mod works;
 
-use independent::generate::Network;
+use independent::table::Network;
 use std::time::Instant;
 use std::vec::IntoIter;
 use works::Measure;

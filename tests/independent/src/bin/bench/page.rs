@@ -92,7 +92,8 @@ pub fn page(bench: &Bench, machine: &str) -> String {
          one tree of forest k, and `route with links` gives the indices of its links, too. `order, by count` sets the library's order beside\n\
          a plain scan that keeps the waiting relays by their count, as bits, as the library does. `plan` is the whole planner, from the bytes\n\
          of a wish and a network to the bytes of the sheet, and `verify` reads that sheet back with the table.\n\
-         Networks: `random` has three links a relay, `band` links each relay to the next three, `core` is a full network of 70 with a tree on it.\n\n\
+         Networks: `random` has three links a relay, `band` links each relay to the next three, `core` is a full network of 70 with a tree on it,\n\
+         and `thinned` is `random` with each tenth relay withdrawn; in the others all are in service.\n\n\
          ![Time by size of the network](speed.svg)\n",
     );
     goals(&mut page, rows);

@@ -2,15 +2,16 @@
 
 use independent::flow;
 use independent::forests::{earlier, places};
-use independent::generate::Network;
 use independent::library;
 use independent::random::Random;
 use independent::sweep::Wish;
-use independent::{against, swift, swift_sheet, swift_text, text};
+use independent::table::Network;
+use independent::texts::input;
+use independent::{swift, swift_sheet, swift_text, text};
 use std::collections::HashSet;
 use std::hint::black_box;
 
-pub const KINDS: [&str; 3] = ["random", "band", "core"];
+pub const KINDS: [&str; 4] = ["random", "band", "core", "thinned"];
 pub const LARGEST: usize = 1000;
 pub const SIZES: [usize; 6] = [10, 30, 100, 300, 600, LARGEST];
 
@@ -43,15 +44,16 @@ fn table(n: usize, links: impl IntoIterator<Item = (usize, usize)>, random: &mut
     links.truncate(3000);
     let lows = links.iter().map(|link| link.0.min(link.1) as u16).collect();
     let highs = links.iter().map(|link| link.0.max(link.1) as u16).collect();
-    Network { n: n as u16, lows, highs }
+    Network::serving(n as u16, lows, highs)
 }
 
-/// The networks timed: random ones with three links a relay, bands of width 3, and a tree that hangs on a full core of 70.
+/// The networks timed: random ones with three links a relay, bands of width 3, a tree that hangs on a full core of 70, and the random
+/// ones with each tenth relay withdrawn.
 fn network(kind: &str, n: usize) -> Network {
     let random = &mut Random::new(n as u64);
     let mut links = vec![];
     match kind {
-        "random" => {
+        "random" | "thinned" => {
             let most = (3 * n).min(n * (n - 1) / 2);
             let mut seen = HashSet::new();
             while seen.len() < most {
@@ -75,37 +77,38 @@ fn network(kind: &str, n: usize) -> Network {
             }
         }
     }
-    table(n, links, random)
+    let mut net = table(n, links, random);
+    if kind == "thinned" {
+        net.states.iter_mut().step_by(10).for_each(|state| *state = 0);
+    }
+    net
 }
 
 fn operations(measure: &mut dyn Measure, kind: &'static str, net: &Network) {
-    let Network { n, lows, highs } = net;
-    let written = text::text(*n, lows, highs).into_bytes();
-    let (mut a, mut b) = (vec![0u16; 3000], vec![0u16; 3000]);
-    let (mut c, mut d) = (vec![0u16; 3000], vec![0u16; 3000]);
+    let written = text::text(net).into_bytes();
+    let [mut a, mut b, mut c, mut d] = [(); 4].map(|()| vec![0u16; 3000]);
+    let (mut e, mut f) = (vec![0u16; 1000], vec![0u16; 1000]);
     let (mut one, mut two) = (vec![0u8; written.len()], vec![0u8; written.len()]);
     let mut row = |what: &str, library: &mut dyn FnMut(), plain: &mut dyn FnMut()| {
         measure.row(kind, net, what, &mut [library, plain]);
     };
-    row("check", &mut || run(library::check(*n, lows, highs)), &mut || run(swift::check(*n, lows, highs)));
-    row("read", &mut || run(library::read(&written, &mut a, &mut b)), &mut || {
-        run(swift_text::read(&written, &mut c, &mut d));
+    row("check", &mut || run(library::check(net)), &mut || run(swift::check(net)));
+    row("read", &mut || run(library::read(&written, &mut a, &mut b, &mut e)), &mut || {
+        run(swift_text::read(&written, &mut c, &mut d, &mut f));
     });
-    row("write", &mut || run(library::write(*n, lows, highs, &mut one)), &mut || {
-        run(swift_text::write(*n, lows, highs, &mut two));
+    row("write", &mut || run(library::write(net, &mut one)), &mut || run(swift_text::write(net, &mut two)));
+    row("order", &mut || run(library::order(net, &mut a, &mut b)), &mut || {
+        run(swift::order_by::<swift::Plain>(net, &mut c, &mut d));
     });
-    row("order", &mut || run(library::order(*n, lows, highs, &mut a, &mut b)), &mut || {
-        run(swift::order_by::<swift::Plain>(*n, lows, highs, &mut c, &mut d));
+    row("order, by count", &mut || run(library::order(net, &mut a, &mut b)), &mut || {
+        run(swift::order_by::<swift::Buckets>(net, &mut c, &mut d));
     });
-    row("order, by count", &mut || run(library::order(*n, lows, highs, &mut a, &mut b)), &mut || {
-        run(swift::order_by::<swift::Buckets>(*n, lows, highs, &mut c, &mut d));
-    });
-    row("split", &mut || run(library::split(*n, lows, highs, &mut a)), &mut || run(swift::split(*n, lows, highs, &mut c)));
-    row("cut, k 2", &mut || run(library::cut(*n, lows, highs, 2, &mut a)), &mut || run(swift::cut(*n, lows, highs, 2, &mut c)));
+    row("split", &mut || run(library::split(net, &mut a)), &mut || run(swift::split(net, &mut c)));
+    row("cut, k 2", &mut || run(library::cut(net, 2, &mut a)), &mut || run(swift::cut(net, 2, &mut c)));
 }
 
 fn planned(measure: &mut dyn Measure, kind: &'static str, net: &Network, wish: Wish) {
-    let (input, _) = against::input(net, wish);
+    let (input, _) = input(net, wish);
     let mut output = [0; 9935];
     let length = library::plan(&input, &mut output).answer[0] as usize;
     assert_eq!(&output[..length], swift_text::plan(&input));
@@ -119,55 +122,50 @@ fn planned(measure: &mut dyn Measure, kind: &'static str, net: &Network, wish: W
 
 /// The planner's sheet for a wish, read back.
 fn read_back(measure: &mut dyn Measure, kind: &'static str, net: &Network, wish: Wish) {
-    let Network { n, lows, highs } = net;
-    let sheet = swift_text::plan(&against::input(net, wish).0);
-    assert_eq!(library::verify(*n, lows, highs, &sheet).answer[0], 1);
-    assert_eq!(swift_sheet::verify(*n, lows, highs, &sheet), Ok(true));
+    let sheet = swift_text::plan(&input(net, wish).0);
+    assert_eq!(library::verify(net, &sheet).answer[0], 1);
+    assert_eq!(swift_sheet::verify(net, &sheet), Ok(true));
     measure.row(
         kind,
         net,
         &format!("verify, k {}", wish.k),
-        &mut [&mut || run(library::verify(*n, lows, highs, &sheet)), &mut || run(swift_sheet::verify(*n, lows, highs, &sheet))],
+        &mut [&mut || run(library::verify(net, &sheet)), &mut || run(swift_sheet::verify(net, &sheet))],
     );
 }
 
 fn linked(measure: &mut dyn Measure, kind: &'static str, net: &Network, wish: Wish) {
-    let Network { n, lows, highs } = net;
     let Wish { k, from, to } = wish;
-    let (most, size) = (usize::from(k), usize::from(*n));
+    let (most, size) = (usize::from(k), usize::from(net.n));
     let (mut counts, mut relays) = (vec![0; most], vec![0; size - 2 + 2 * most]);
     let (mut links, mut scratch) = (vec![0; size - 2 + most], vec![0; most * size]);
-    let mut library = || library::route_links(*n, lows, highs, k, from, to, &mut counts, &mut relays, &mut links, &mut scratch);
+    let mut library = || library::route_links(net, k, from, to, &mut counts, &mut relays, &mut links, &mut scratch);
     assert_eq!(library().code, 0);
     measure.row(
         kind,
         net,
         &format!("route with links, k {k}"),
-        &mut [&mut || run(library()), &mut || {
-            run((swift::check(*n, lows, highs), swift::routes_with_links(*n, lows, highs, wish)))
-        }],
+        &mut [&mut || run(library()), &mut || run((swift::check(net), swift::routes_with_links(net, wish)))],
     );
 }
 
 fn routes(measure: &mut dyn Measure, kind: &'static str, net: &Network) {
-    let Network { n, lows, highs } = net;
-    let size = usize::from(*n);
+    let size = usize::from(net.n);
     for k in [1, 2, 3, 4, 8, 16, 32] {
         let Some((from, to)) = ends(net, k) else { continue };
         let wish = Wish { k, from, to };
         let room = || (vec![0; usize::from(k)], vec![0; size - 2 + 2 * usize::from(k)]);
         let ((mut counts, mut relays), (mut others, mut other_relays)) = (room(), room());
         let mut scratch = vec![0; usize::from(k) * size];
-        assert_eq!(library::route(*n, lows, highs, k, from, to, &mut counts, &mut relays, &mut scratch).code, 0);
-        assert!(flow::route(*n, lows, highs, wish, &mut others, &mut other_relays).is_some());
+        assert_eq!(library::route(net, k, from, to, &mut counts, &mut relays, &mut scratch).code, 0);
+        assert!(flow::route(net, wish, &mut others, &mut other_relays).is_some());
         measure.row(
             kind,
             net,
             &format!("route, k {k}"),
             &mut [
-                &mut || run(library::route(*n, lows, highs, k, from, to, &mut counts, &mut relays, &mut scratch)),
-                &mut || run((swift::check(*n, lows, highs), swift::routes(*n, lows, highs, wish))),
-                &mut || run(flow::route(*n, lows, highs, wish, &mut others, &mut other_relays)),
+                &mut || run(library::route(net, k, from, to, &mut counts, &mut relays, &mut scratch)),
+                &mut || run((swift::check(net), swift::routes(net, wish))),
+                &mut || run(flow::route(net, wish, &mut others, &mut other_relays)),
             ],
         );
         if k == 2 {
@@ -182,13 +180,12 @@ fn routes(measure: &mut dyn Measure, kind: &'static str, net: &Network) {
 
 /// The widest stretch of places in one tree of forest k, as its later and its earlier relay.
 fn ends(net: &Network, k: u16) -> Option<(u16, u16)> {
-    let Network { n, lows, highs } = net;
     let (mut relays, mut unused, mut forests) = ([0; 1000], [0; 1000], [0; 3000]);
-    swift::scan(*n, lows, highs, &mut relays, &mut unused, &mut forests);
-    let relays = &relays[..usize::from(*n)];
-    let earlier = earlier(*n, lows, highs, &places(relays));
+    let count = swift::scan(net, &mut relays, &mut unused, &mut forests);
+    let relays = &relays[..count];
+    let earlier = earlier(net, &places(net.n, relays));
     let (mut widest, mut low) = ((0, 0), 1);
-    for (v, neighbours) in earlier.iter().enumerate().skip(2) {
+    for (v, neighbours) in earlier.iter().enumerate().take(count + 1).skip(2) {
         if neighbours.len() < usize::from(k) {
             low = v;
         } else if v - low > widest.1 - widest.0 {

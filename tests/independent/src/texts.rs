@@ -1,0 +1,93 @@
+//! The library's Read and its two programs on texts, against the second version: as written, with other out lines, and damaged.
+
+use crate::generate::scratch;
+use crate::lengths::{Lengths, mostly_enough};
+use crate::library::{self, Report};
+use crate::outs::{OUTS, with_outs};
+use crate::printed::{KEEP, PLAN, Program, keep_input, printed};
+use crate::random::Random;
+use crate::states;
+use crate::sweep::Wish;
+use crate::table::{Network, check};
+use crate::tally::Tally;
+use crate::text::{self, HEADER, form};
+use crate::variants::at_every_byte;
+use crate::wishes::line;
+
+/// How many links and relays a text announces; a few where its first line is bad.
+fn announced(text: &[u8]) -> (usize, usize) {
+    form(text, 0, HEADER).map_or((7, 5), |(header, _)| (header[1].min(3000).into(), header[0].min(1000).into()))
+}
+
+/// A text through Read, with every entry of the three lists.
+pub fn read(random: &mut Random, tally: &mut Tally, input: &[u8], lengths: Lengths) {
+    let (links, relays) = announced(input);
+    let mut ours = [links, links, relays].map(|exact| {
+        let length = lengths(random, exact);
+        random.numbers(length)
+    });
+    let mut theirs = ours.clone();
+    let [lows, highs, states] = &mut ours;
+    states::lent(input, lows.len().min(highs.len()), states.len()).into_iter().for_each(|kind| tally.states(kind));
+    let reference = Report::of(text::read(input, lows, highs, states).map(|(n, m)| [n.into(), m.into()]));
+    let [lows, highs, states] = &mut theirs;
+    let report = library::read(input, lows, highs, states);
+    tally.same("read", reference.code, (report, theirs), (reference, ours), &String::from_utf8_lossy(input));
+}
+
+/// The planner's input: the line of a wish, and where it ends the network's text.
+pub fn input(net: &Network, wish: Wish) -> (Vec<u8>, usize) {
+    let mut input = line(wish);
+    let end = input.len();
+    input.extend(text::text(net).bytes());
+    (input, end)
+}
+
+/// An input through its program and, behind the line that asks, through Read.
+fn through(random: &mut Random, tally: &mut Tally, program: &Program, input: &[u8], line: usize) {
+    printed(random, tally, program, input, mostly_enough);
+    read(random, tally, input.get(line..).unwrap_or_default(), mostly_enough);
+}
+
+/// Inputs of a program: as written, damaged, and small ones damaged at every byte.
+fn inputs(random: &mut Random, tally: &mut Tally, program: &Program, (input, line): (Vec<u8>, usize)) {
+    through(random, tally, program, &input, line);
+    for _ in 0..3 {
+        let mut bad = input.clone();
+        for _ in 0..random.within(1, 2) {
+            scratch(random, &mut bad);
+        }
+        through(random, tally, program, &bad, line);
+    }
+    if input.len() <= 165 {
+        for variant in at_every_byte(random, &input) {
+            through(random, tally, program, &variant, line);
+        }
+    }
+}
+
+/// The text of an accepted network with its out lines changed in some ways, through Read and one of the programs.
+fn out_lines(random: &mut Random, tally: &mut Tally, net: &Network, wish: Wish) {
+    for _ in 0..3 {
+        let (made, change) = *random.pick(&OUTS);
+        let text = with_outs(random, net, change).into_bytes();
+        tally.outs(made);
+        let (program, (input, line)) = if random.once_in(2) {
+            (KEEP, keep_input(random, &text))
+        } else {
+            (PLAN, ([line(wish), text].concat(), line(wish).len()))
+        };
+        through(random, tally, &program, &input, line);
+    }
+}
+
+/// The inputs of both programs for a network.
+pub fn texts(random: &mut Random, tally: &mut Tally, net: &Network, wish: Wish) {
+    let planned = input(net, wish);
+    let kept = keep_input(random, &planned.0[planned.1..]);
+    inputs(random, tally, &PLAN, planned);
+    inputs(random, tally, &KEEP, kept);
+    if check(net).is_ok() {
+        out_lines(random, tally, net, wish);
+    }
+}
