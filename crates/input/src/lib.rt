@@ -8,8 +8,8 @@ ghost use Rattle.io.specs.Counts.{Counts};
 use libc::STDIN_FILENO;
 
 // Room for every byte that can matter: the longest line in front of a network text has 22, and behind it no reading goes past
-// byte 45,040. So an endless input is answered too, from its first 45,062 bytes.
-const ROOM: usize = 45062;
+// byte 54,934. So an endless input is answered too, from its first 54,956 bytes.
+const ROOM: usize = 54956;
 
 pub fn room() -> [u8; ROOM]
     ensures { λ r. ⌜ length r ≡ inputRoom ⌝ }

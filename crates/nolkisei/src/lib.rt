@@ -2,7 +2,7 @@
 // code and the two entries of `answer` mean is said in specs/Reported.antt, and for C programs in include/nolkisei.h.
 ghost use mathlib.Core.Path.{_≡_};
 ghost use Rattle.definitions.specs.Network.{pairAnswer, tableCheck};
-ghost use Rattle.definitions.specs.Text.{readAnswer, lowsAfter, highsAfter, writeAnswer, bufferAfter};
+ghost use Rattle.definitions.specs.Text.{readAnswer, lowsAfter, highsAfter, statesAfter, writeAnswer, bufferAfter};
 ghost use Rattle.definitions.specs.Order.{orderAnswer, relaysAfter, placesAfter};
 ghost use Rattle.definitions.specs.Forests.{splitAnswer, forestsAfter, cutAnswer, marksAfter};
 ghost use Rattle.definitions.specs.Over.{routeLinksAnswer, routeLinksCounts, routeLinksRelays, routeLinksLinks, routeLinksScratch};
@@ -28,10 +28,16 @@ use text::WriteAnswer;
 
 // The table check.
 #[no_mangle]
-pub extern "C" fn nolkisei_check(n: u16, lows: &[u16], highs: &[u16], answer: &mut [u64; 2]) -> u32
-    ensures { λ r. ⌜ reported (tableCheck n (now (lows .entry)) (now (highs .entry))) ≡ (r, now (answer .exit)) ⌝ }
+pub extern "C" fn nolkisei_check(
+    n: u16,
+    lows: &[u16],
+    highs: &[u16],
+    states: &[u16],
+    answer: &mut [u64; 2],
+) -> u32
+    ensures { λ r. ⌜ reported (tableCheck n (now (lows .entry)) (now (highs .entry)) (now (states .entry))) ≡ (r, now (answer .exit)) ⌝ }
 {
-    match network::table_check(n, lows, highs) {
+    match network::table_check(n, lows, highs, states) {
         Check::Accepted => report::give(0, 0, answer),
         Check::Refused(refusal) => report::refuse(refusal, answer),
     }
@@ -48,19 +54,21 @@ pub extern "C" fn nolkisei_pair(a: u16, b: u16, answer: &mut [u64; 2]) -> u32
     }
 }
 
-// Read: a text into a table.
+// Read: a text into a table and the states of its relays.
 #[no_mangle]
 pub extern "C" fn nolkisei_read(
     text: &[u8],
     lows: &mut [u16],
     highs: &mut [u16],
+    states: &mut [u16],
     answer: &mut [u64; 2],
 ) -> u32
-    ensures answer { λ r. ⌜ reported (readAnswer (now (text .entry)) (now (lows .entry)) (now (highs .entry))) ≡ (r, now (answer .exit)) ⌝ }
-    ensures lowList { λ _. ⌜ now (lows .exit) ≡ lowsAfter (now (text .entry)) (now (lows .entry)) (now (highs .entry)) ⌝ }
-    ensures highList { λ _. ⌜ now (highs .exit) ≡ highsAfter (now (text .entry)) (now (lows .entry)) (now (highs .entry)) ⌝ }
+    ensures answer { λ r. ⌜ reported (readAnswer (now (text .entry)) (now (lows .entry)) (now (highs .entry)) (now (states .entry))) ≡ (r, now (answer .exit)) ⌝ }
+    ensures lowList { λ _. ⌜ now (lows .exit) ≡ lowsAfter (now (text .entry)) (now (lows .entry)) (now (highs .entry)) (now (states .entry)) ⌝ }
+    ensures highList { λ _. ⌜ now (highs .exit) ≡ highsAfter (now (text .entry)) (now (lows .entry)) (now (highs .entry)) (now (states .entry)) ⌝ }
+    ensures stateList { λ _. ⌜ now (states .exit) ≡ statesAfter (now (text .entry)) (now (lows .entry)) (now (highs .entry)) (now (states .entry)) ⌝ }
 {
-    match text::read(text, lows, highs) {
+    match text::read(text, lows, highs, states) {
         ReadAnswer::Table(n, m) => report::give(n as u64, m as u64, answer),
         ReadAnswer::Refused(refusal) => report::refuse(refusal, answer),
     }
@@ -72,14 +80,15 @@ pub extern "C" fn nolkisei_write(
     n: u16,
     lows: &[u16],
     highs: &[u16],
+    states: &[u16],
     buffer: &mut [u8],
     answer: &mut [u64; 2],
 ) -> u32
-    ensures answer { λ r. ⌜ reported (writeAnswer n (now (lows .entry)) (now (highs .entry)) (now (buffer .entry)))
+    ensures answer { λ r. ⌜ reported (writeAnswer n (now (lows .entry)) (now (highs .entry)) (now (states .entry)) (now (buffer .entry)))
         ≡ (r, now (answer .exit)) ⌝ }
-    ensures bytes { λ _. ⌜ now (buffer .exit) ≡ bufferAfter n (now (lows .entry)) (now (highs .entry)) (now (buffer .entry)) ⌝ }
+    ensures bytes { λ _. ⌜ now (buffer .exit) ≡ bufferAfter n (now (lows .entry)) (now (highs .entry)) (now (states .entry)) (now (buffer .entry)) ⌝ }
 {
-    match text::write(n, lows, highs, buffer) {
+    match text::write(n, lows, highs, states, buffer) {
         WriteAnswer::Length(size) => report::give(size as u64, 0, answer),
         WriteAnswer::Refused(refusal) => report::refuse(refusal, answer),
     }
@@ -91,18 +100,19 @@ pub extern "C" fn nolkisei_order(
     n: u16,
     lows: &[u16],
     highs: &[u16],
+    states: &[u16],
     relays: &mut [u16],
     places: &mut [u16],
     answer: &mut [u64; 2],
 ) -> u32
-    ensures answer { λ r. ⌜ reported (orderAnswer n (now (lows .entry)) (now (highs .entry)) (now (relays .entry)) (now (places .entry)))
+    ensures answer { λ r. ⌜ reported (orderAnswer n (now (lows .entry)) (now (highs .entry)) (now (states .entry)) (now (relays .entry)) (now (places .entry)))
         ≡ (r, now (answer .exit)) ⌝ }
     ensures relays { λ _. ⌜ now (relays .exit)
-        ≡ relaysAfter n (now (lows .entry)) (now (highs .entry)) (now (relays .entry)) (now (places .entry)) ⌝ }
+        ≡ relaysAfter n (now (lows .entry)) (now (highs .entry)) (now (states .entry)) (now (relays .entry)) (now (places .entry)) ⌝ }
     ensures places { λ _. ⌜ now (places .exit)
-        ≡ placesAfter n (now (lows .entry)) (now (highs .entry)) (now (relays .entry)) (now (places .entry)) ⌝ }
+        ≡ placesAfter n (now (lows .entry)) (now (highs .entry)) (now (states .entry)) (now (relays .entry)) (now (places .entry)) ⌝ }
 {
-    match forests::order(n, lows, highs, relays, places) {
+    match forests::order(n, lows, highs, states, relays, places) {
         OrderAnswer::Done => report::give(0, 0, answer),
         OrderAnswer::Refused(refusal) => report::refuse(refusal, answer),
     }
@@ -114,14 +124,15 @@ pub extern "C" fn nolkisei_split(
     n: u16,
     lows: &[u16],
     highs: &[u16],
+    states: &[u16],
     forests: &mut [u16],
     answer: &mut [u64; 2],
 ) -> u32
-    ensures answer { λ r. ⌜ reported (splitAnswer n (now (lows .entry)) (now (highs .entry)) (now (forests .entry)))
+    ensures answer { λ r. ⌜ reported (splitAnswer n (now (lows .entry)) (now (highs .entry)) (now (states .entry)) (now (forests .entry)))
         ≡ (r, now (answer .exit)) ⌝ }
-    ensures forests { λ _. ⌜ now (forests .exit) ≡ forestsAfter n (now (lows .entry)) (now (highs .entry)) (now (forests .entry)) ⌝ }
+    ensures forests { λ _. ⌜ now (forests .exit) ≡ forestsAfter n (now (lows .entry)) (now (highs .entry)) (now (states .entry)) (now (forests .entry)) ⌝ }
 {
-    match forests::split(n, lows, highs, forests) {
+    match forests::split(n, lows, highs, states, forests) {
         SplitAnswer::Highest(forest) => report::give(forest as u64, 0, answer),
         SplitAnswer::Refused(refusal) => report::refuse(refusal, answer),
     }
@@ -133,15 +144,16 @@ pub extern "C" fn nolkisei_cut(
     n: u16,
     lows: &[u16],
     highs: &[u16],
+    states: &[u16],
     k: u16,
     marks: &mut [u16],
     answer: &mut [u64; 2],
 ) -> u32
-    ensures answer { λ r. ⌜ reported (cutAnswer n (now (lows .entry)) (now (highs .entry)) k (now (marks .entry)))
+    ensures answer { λ r. ⌜ reported (cutAnswer n (now (lows .entry)) (now (highs .entry)) (now (states .entry)) k (now (marks .entry)))
         ≡ (r, now (answer .exit)) ⌝ }
-    ensures marks { λ _. ⌜ now (marks .exit) ≡ marksAfter n (now (lows .entry)) (now (highs .entry)) k (now (marks .entry)) ⌝ }
+    ensures marks { λ _. ⌜ now (marks .exit) ≡ marksAfter n (now (lows .entry)) (now (highs .entry)) (now (states .entry)) k (now (marks .entry)) ⌝ }
 {
-    match forests::cut(n, lows, highs, k, marks) {
+    match forests::cut(n, lows, highs, states, k, marks) {
         CutAnswer::Kept(count) => report::give(count as u64, 0, answer),
         CutAnswer::Refused(refusal) => report::refuse(refusal, answer),
     }
@@ -153,6 +165,7 @@ pub extern "C" fn nolkisei_route(
     n: u16,
     lows: &[u16],
     highs: &[u16],
+    states: &[u16],
     k: u16,
     from: u16,
     to: u16,
@@ -162,19 +175,19 @@ pub extern "C" fn nolkisei_route(
     answer: &mut [u64; 2],
 ) -> u32
     ensures answer { λ r. ⌜ reported
-        (routeAnswer n (now (lows .entry)) (now (highs .entry)) k from to (now (counts .entry)) (now (relays .entry)) (now (scratch .entry)))
+        (routeAnswer n (now (lows .entry)) (now (highs .entry)) (now (states .entry)) k from to (now (counts .entry)) (now (relays .entry)) (now (scratch .entry)))
         ≡ (r, now (answer .exit)) ⌝ }
     ensures counts { λ _. ⌜ now (counts .exit)
-        ≡ countsAfter n (now (lows .entry)) (now (highs .entry)) k from to (now (counts .entry)) (now (relays .entry))
+        ≡ countsAfter n (now (lows .entry)) (now (highs .entry)) (now (states .entry)) k from to (now (counts .entry)) (now (relays .entry))
         (now (scratch .entry)) ⌝ }
     ensures relays { λ _. ⌜ now (relays .exit)
-        ≡ routeRelaysAfter n (now (lows .entry)) (now (highs .entry)) k from to (now (counts .entry)) (now (relays .entry))
+        ≡ routeRelaysAfter n (now (lows .entry)) (now (highs .entry)) (now (states .entry)) k from to (now (counts .entry)) (now (relays .entry))
         (now (scratch .entry)) ⌝ }
     ensures scratch { λ _. ⌜ now (scratch .exit)
-        ≡ scratchAfter n (now (lows .entry)) (now (highs .entry)) k from to (now (counts .entry)) (now (relays .entry))
+        ≡ scratchAfter n (now (lows .entry)) (now (highs .entry)) (now (states .entry)) k from to (now (counts .entry)) (now (relays .entry))
         (now (scratch .entry)) ⌝ }
 {
-    match routes::route(n, lows, highs, k, from, to, counts, relays, scratch) {
+    match routes::route(n, lows, highs, states, k, from, to, counts, relays, scratch) {
         RouteAnswer::Written(total) => report::give(total as u64, 0, answer),
         RouteAnswer::Refused(refusal) => report::refuse(refusal, answer),
     }
@@ -186,6 +199,7 @@ pub extern "C" fn nolkisei_route_links(
     n: u16,
     lows: &[u16],
     highs: &[u16],
+    states: &[u16],
     k: u16,
     from: u16,
     to: u16,
@@ -196,23 +210,35 @@ pub extern "C" fn nolkisei_route_links(
     answer: &mut [u64; 2],
 ) -> u32
     ensures answer { λ r. ⌜ reported
-        (routeLinksAnswer n (now (lows .entry)) (now (highs .entry)) k from to (now (counts .entry)) (now (relays .entry))
+        (routeLinksAnswer n (now (lows .entry)) (now (highs .entry)) (now (states .entry)) k from to (now (counts .entry)) (now (relays .entry))
         (now (links .entry)) (now (scratch .entry)))
         ≡ (r, now (answer .exit)) ⌝ }
     ensures counts { λ _. ⌜ now (counts .exit)
-        ≡ routeLinksCounts n (now (lows .entry)) (now (highs .entry)) k from to (now (counts .entry)) (now (relays .entry))
+        ≡ routeLinksCounts n (now (lows .entry)) (now (highs .entry)) (now (states .entry)) k from to (now (counts .entry)) (now (relays .entry))
         (now (links .entry)) (now (scratch .entry)) ⌝ }
     ensures relays { λ _. ⌜ now (relays .exit)
-        ≡ routeLinksRelays n (now (lows .entry)) (now (highs .entry)) k from to (now (counts .entry)) (now (relays .entry))
+        ≡ routeLinksRelays n (now (lows .entry)) (now (highs .entry)) (now (states .entry)) k from to (now (counts .entry)) (now (relays .entry))
         (now (links .entry)) (now (scratch .entry)) ⌝ }
     ensures links { λ _. ⌜ now (links .exit)
-        ≡ routeLinksLinks n (now (lows .entry)) (now (highs .entry)) k from to (now (counts .entry)) (now (relays .entry))
+        ≡ routeLinksLinks n (now (lows .entry)) (now (highs .entry)) (now (states .entry)) k from to (now (counts .entry)) (now (relays .entry))
         (now (links .entry)) (now (scratch .entry)) ⌝ }
     ensures scratch { λ _. ⌜ now (scratch .exit)
-        ≡ routeLinksScratch n (now (lows .entry)) (now (highs .entry)) k from to (now (counts .entry)) (now (relays .entry))
+        ≡ routeLinksScratch n (now (lows .entry)) (now (highs .entry)) (now (states .entry)) k from to (now (counts .entry)) (now (relays .entry))
         (now (links .entry)) (now (scratch .entry)) ⌝ }
 {
-    match routes::route_links(n, lows, highs, k, from, to, counts, relays, links, scratch) {
+    match routes::route_links(
+        n,
+        lows,
+        highs,
+        states,
+        k,
+        from,
+        to,
+        counts,
+        relays,
+        links,
+        scratch,
+    ) {
         RouteAnswer::Written(total) => report::give(total as u64, 0, answer),
         RouteAnswer::Refused(refusal) => report::refuse(refusal, answer),
     }
@@ -248,12 +274,13 @@ pub extern "C" fn nolkisei_verify(
     n: u16,
     lows: &[u16],
     highs: &[u16],
+    states: &[u16],
     text: &[u8],
     answer: &mut [u64; 2],
 ) -> u32
-    ensures { λ r. ⌜ reported (sheetAnswer n (now (lows .entry)) (now (highs .entry)) (now (text .entry))) ≡ (r, now (answer .exit)) ⌝ }
+    ensures { λ r. ⌜ reported (sheetAnswer n (now (lows .entry)) (now (highs .entry)) (now (states .entry)) (now (text .entry))) ≡ (r, now (answer .exit)) ⌝ }
 {
-    match sheet_check::check_sheet(n, lows, highs, text) {
+    match sheet_check::check_sheet(n, lows, highs, states, text) {
         SheetAnswer::Holds => report::give(1, 0, answer),
         SheetAnswer::Fails => report::give(0, 0, answer),
         SheetAnswer::Refused(refusal) => report::refuse(refusal, answer),

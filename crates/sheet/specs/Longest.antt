@@ -84,12 +84,12 @@ kept-few : (k : ℕ) (network : Network) → keptOf k network ≤ length (networ
 unfolding marksOf
 kept-few k network =
     let n = network .relays in
-    let forests = forestsOf n (network .lows) (network .highs) in
+    let forests = forestsOf n (network .lows) (network .highs) (network .states) in
     omega (
       arith,
       count-length (eqb 1) (map (markOf k) forests),
       length-map forests (markOf k),
-      forests-length n (network .lows) (network .highs),
+      forests-length n (network .lows) (network .highs) (network .states),
     )
 
 -- A sheet: its line has at most 39 bytes, the two lines of each route 15 and 4 for each relay and 5 for each link, the two last lines
@@ -101,12 +101,13 @@ sheet-length from to k network sheet smallFrom smallTo given =
     let n = network .relays in
     let lows = network .lows in
     let highs = network .highs in
-    let routes = routesOf n lows highs k from to in
-    let overs = oversOf n lows highs k from to in
+    let states = network .states in
+    let routes = routesOf n lows highs states k from to in
+    let overs = oversOf n lows highs states k from to in
     let kept = keptOf k network in
-    let passed = route-passed n lows highs k from to (room 32) (room 1062) (room 32000) (given .answer) (given .routed) in
-    let table = accepted n lows highs (passed .accepted) in
-    let written = routes-of n lows highs k from to passed .written in
+    let passed = route-passed n lows highs states k from to (room 32) (room 1062) (room 32000) (given .answer) (given .routed) in
+    let table = accepted n lows highs states (passed .accepted) in
+    let written = routes-of n lows highs states k from to passed .written in
     let first = writeForm sheetForm (from ∷ to ∷ k ∷ []) in
     let third = writeForm keptForm (kept ∷ []) in
     let last = writeForm endForm [] in
@@ -122,11 +123,11 @@ sheet-length from to k network sheet smallFrom smallTo given =
       written-span 3 sheetForm (from ∷ to ∷ k ∷ []) (smallFrom, (smallTo, (omega (arith, passed .few), tt))),
       written-span 3 keptForm (kept ∷ []) (omega (arith, table .short, kept-few k network), tt),
       written-span 3 endForm [] tt,
-      lines-length routes overs (length-overs n lows highs k from to passed ∙ sym (length-routes n lows highs k from to))
-          (routes-below 1000 n lows highs k from to (table .some) (table .few))
-          (overs-below n lows highs k from to passed 10000 (omega (arith, table .short))),
-      length-routes n lows highs k from to,
-      overs-written n lows highs k from to passed,
+      lines-length routes overs (length-overs n lows highs states k from to passed ∙ sym (length-routes n lows highs states k from to))
+          (routes-below 1000 n lows highs states k from to (table .some) (table .few))
+          (overs-below n lows highs states k from to passed 10000 (omega (arith, table .short))),
+      length-routes n lows highs states k from to,
+      overs-written n lows highs states k from to passed,
     ))
 
 -- The line of a refusal has at most 22 bytes.

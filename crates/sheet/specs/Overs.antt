@@ -32,44 +32,44 @@ below-steps bound f h [] = tt
 below-steps bound f h (a ∷ []) = tt
 below-steps bound f h (a ∷ b ∷ rest) = (h a b, below-steps bound f h (b ∷ rest))
 
-module _ (n : ℕ) (lows highs : List ℕ) (k from to : ℕ) (passed : RoutePassed n lows highs k from to) where
-  overs-are : oversOf n lows highs k from to ≡ map (stepsOf (pairLink lows highs)) (routesOf n lows highs k from to)
+module _ (n : ℕ) (lows highs states : List ℕ) (k from to : ℕ) (passed : RoutePassed n lows highs states k from to) where
+  overs-are : oversOf n lows highs states k from to ≡ map (stepsOf (pairLink lows highs)) (routesOf n lows highs states k from to)
   overs-are =
       let good = passed .accepted in
       let starts = passed .starts in
       let ends = passed .ends in
-      overs-found n lows highs good k from to starts ends (passed .differ)
-      (tree-between n lows highs good k from to starts ends (passed .differ) (passed .oneTree))
+      overs-found n lows highs states good k from to starts ends (passed .differ)
+      (tree-between n lows highs states good k (passed .some) from to starts ends (passed .differ) (passed .oneTree))
 
-  pub length-overs : length (oversOf n lows highs k from to) ≡ k
+  pub length-overs : length (oversOf n lows highs states k from to) ≡ k
   length-overs =
       ap length overs-are
-      ∙ length-map (routesOf n lows highs k from to) (stepsOf (pairLink lows highs))
-      ∙ length-routes n lows highs k from to
+      ∙ length-map (routesOf n lows highs states k from to) (stepsOf (pairLink lows highs))
+      ∙ length-routes n lows highs states k from to
 
-  pub over-lengths : map length (oversOf n lows highs k from to) ≡ map pred (map length (routesOf n lows highs k from to))
-  over-lengths = ap (map length) overs-are ∙ lengths-stepsOf (pairLink lows highs) (routesOf n lows highs k from to)
+  pub over-lengths : map length (oversOf n lows highs states k from to) ≡ map pred (map length (routesOf n lows highs states k from to))
+  over-lengths = ap (map length) overs-are ∙ lengths-stepsOf (pairLink lows highs) (routesOf n lows highs states k from to)
 
-  pub overs-written : length (joinAll (oversOf n lows highs k from to)) ≤ n - 2 + k
+  pub overs-written : length (joinAll (oversOf n lows highs states k from to)) ≤ n - 2 + k
   overs-written =
-      overs-fit n lows highs (passed .accepted) k from to (passed .starts) (passed .ends) (passed .differ) (passed .oneTree) (passed .some)
+      overs-fit n lows highs states (passed .accepted) k (passed .some) from to (passed .starts) (passed .ends) (passed .differ) (passed .oneTree)
 
-  pub overs-below : (bound : ℕ) → length lows < bound → AllBelow bound (joinAll (oversOf n lows highs k from to))
+  pub overs-below : (bound : ℕ) → length lows < bound → AllBelow bound (joinAll (oversOf n lows highs states k from to))
   overs-below bound few =
       subst (λ (overs : List (List ℕ)). AllBelow bound (joinAll overs)) (sym overs-are)
       (below-joined bound (stepsOf (pairLink lows highs))
       (below-steps bound (pairLink lows highs) (λ a b. omega (arith, pair-within lows highs a b)))
-      (routesOf n lows highs k from to))
+      (routesOf n lows highs states k from to))
 
   -- At each step of a route the index is that of the one link there.
   pub overs-hold : (i : ℕ) → i < k
-      → OverHolds lows highs (getD (routesOf n lows highs k from to) i []) (getD (oversOf n lows highs k from to) i [])
+      → OverHolds lows highs (getD (routesOf n lows highs states k from to) i []) (getD (oversOf n lows highs states k from to) i [])
   overs-hold i h =
-      let routes = routesOf n lows highs k from to in
-      let holds = routes-of n lows highs k from to passed .each i h in
-      let over : getD (oversOf n lows highs k from to) i [] ≡ stepsOf (pairLink lows highs) (getD routes i []) =
+      let routes = routesOf n lows highs states k from to in
+      let holds = routes-of n lows highs states k from to passed .each i h in
+      let over : getD (oversOf n lows highs states k from to) i [] ≡ stepsOf (pairLink lows highs) (getD routes i []) =
       ap (λ (overs : List (List ℕ)). getD overs i []) overs-are
-      ∙ getD-map (stepsOf (pairLink lows highs)) routes i [] [] (omega (arith, length-routes n lows highs k from to)) in
+      ∙ getD-map (stepsOf (pairLink lows highs)) routes i [] [] (omega (arith, length-routes n lows highs states k from to)) in
       subst (OverHolds lows highs (getD routes i [])) (sym over)
-      (over-holds lows highs (one-link n lows highs (accepted n lows highs (passed .accepted))) (Kept (marksOf n lows highs k))
+      (over-holds lows highs (one-link n lows highs (accepted n lows highs states (passed .accepted))) (Kept (marksOf n lows highs states k))
       (getD routes i []) (omega (arith, holds .long)) (holds .along))

@@ -26,11 +26,11 @@ use Rattle.text_theory.specs.NetworkLines.{read-line}
 use Rattle.text_theory.specs.RoundTrip.{on-scan-done, written-read}
 
 -- What Route passed before it answered.
-pub route-passed : (n : ℕ) (lows highs : List ℕ) (k from to : ℕ) (counts relays scratch values : List ℕ)
-    → routeAnswer n lows highs k from to counts relays scratch ≡ done values → RoutePassed n lows highs k from to
+pub route-passed : (n : ℕ) (lows highs states : List ℕ) (k from to : ℕ) (counts relays scratch values : List ℕ)
+    → routeAnswer n lows highs states k from to counts relays scratch ≡ done values → RoutePassed n lows highs states k from to
 unfolding routeAnswer
-route-passed n lows highs k from to counts relays scratch values e =
-    unless-passed (tooShort n k counts relays scratch) n lows highs k from to values e .1
+route-passed n lows highs states k from to counts relays scratch values e =
+    unless-passed (tooShort n k counts relays scratch) n lows highs states k from to values e .1
 
 -- Cut's answer is the count of ones.
 marks-ones : (k : ℕ) (forests : List ℕ) → total (map (markOf k) forests) ≡ count (eqb 1) (map (markOf k) forests)
@@ -44,23 +44,23 @@ marks-ones k (f ∷ forests) = go (outside 1 k f) (marks-ones k forests)
     go false same = omega arith
 
 -- What Cut passed, and its answer.
-pub record CutPassed (n : ℕ) (lows highs : List ℕ) (k : ℕ) (values : List ℕ) : Type 0 where
+pub record CutPassed (n : ℕ) (lows highs states : List ℕ) (k : ℕ) (values : List ℕ) : Type 0 where
   pub some : 1 ≤ k
   pub few : k ≤ 32
-  pub counted : values ≡ count (eqb 1) (marksOf n lows highs k) ∷ []
+  pub counted : values ≡ count (eqb 1) (marksOf n lows highs states k) ∷ []
 
-pub cut-passed : (n : ℕ) (lows highs : List ℕ) (k : ℕ) (marks values : List ℕ) → Accepted n lows highs
-    → cutAnswer n lows highs k marks ≡ done values → CutPassed n lows highs k values
+pub cut-passed : (n : ℕ) (lows highs states : List ℕ) (k : ℕ) (marks values : List ℕ) → Accepted n lows highs states
+    → cutAnswer n lows highs states k marks ≡ done values → CutPassed n lows highs states k values
 unfolding cutAnswer marksOf
-cut-passed n lows highs k marks values table e =
-    let last = done (total (marksOf n lows highs k) ∷ []) in
+cut-passed n lows highs states k marks values table e =
+    let last = done (total (marksOf n lows highs states k) ∷ []) in
     let fitting = refuseIf (ltb (length marks) (length lows)) 12 0 last in
     let first : refuseIf (outside 1 32 k) 9 0 fitting ≡ done values =
-    sym (then-done (tableCheck n lows highs) (λ _. refuseIf (outside 1 32 k) 9 0 fitting) [] table) ∙ e in
+    sym (then-done (tableCheck n lows highs states) (λ _. refuseIf (outside 1 32 k) 9 0 fitting) [] table) ∙ e in
     let nine = not-refused (outside 1 32 k) 9 0 fitting values first in
     let twelve = not-refused (ltb (length marks) (length lows)) 12 0 last values (nine .1) in
     let same = twelve .1 in
-    let ones : total (marksOf n lows highs k) ≡ count (eqb 1) (marksOf n lows highs k) = marks-ones k (forestsOf n lows highs) in
+    let ones : total (marksOf n lows highs states k) ≡ count (eqb 1) (marksOf n lows highs states k) = marks-ones k (forestsOf n lows highs states) in
     let range = inside-range 1 32 k (nine .0) in
     record { some = range .0; few = range .1; counted = cc }
 
@@ -71,33 +71,34 @@ sheetOf from to k network kept =
       from = from;
       to = to;
       k = k;
-      routes = routesOf (network .relays) (network .lows) (network .highs) k from to;
-      overs = oversOf (network .relays) (network .lows) (network .highs) k from to;
+      routes = routesOf (network .relays) (network .lows) (network .highs) (network .states) k from to;
+      overs = oversOf (network .relays) (network .lows) (network .highs) (network .states) k from to;
       kept = kept;
     }
 
 -- How many links Cut keeps of a network.
 abbrev pub keptOf : ℕ → Network → ℕ
-keptOf k network = count (eqb 1) (marksOf (network .relays) (network .lows) (network .highs) k)
+keptOf k network = count (eqb 1) (marksOf (network .relays) (network .lows) (network .highs) (network .states) k)
 
 -- A sheet for a network that was read.
 pub record SheetFor (from to k : ℕ) (network : Network) (sheet : Sheet) : Type 0 where
   pub answer : List ℕ
-  pub routed : routeAnswer (network .relays) (network .lows) (network .highs) k from to (room 32) (room 1062) (room 32000) ≡ done answer
+  pub routed : routeAnswer (network .relays) (network .lows) (network .highs) (network .states) k from to (room 32) (room 1062) (room 32000) ≡ done answer
   pub sheetIs : sheet ≡ sheetOf from to k network (keptOf k network)
 
 sheet-for : (from to k : ℕ) (network : Network) (sheet : Sheet)
-    → Accepted (network .relays) (network .lows) (network .highs) → sheetFor from to k network ≡ done sheet
+    → Accepted (network .relays) (network .lows) (network .highs) (network .states) → sheetFor from to k network ≡ done sheet
     → SheetFor from to k network sheet
 unfolding sheetFor
 sheet-for from to k network sheet table e =
     let n = network .relays in
     let lows = network .lows in
     let highs = network .highs in
-    let (kept, cut, after) = done-then (cutAnswer n lows highs k (room 3000)) _ sheet e in
+    let states = network .states in
+    let (kept, cut, after) = done-then (cutAnswer n lows highs states k (room 3000)) _ sheet e in
     let (values, routed, last) =
-    done-then (routeAnswer n lows highs k from to (room 32) (room 1062) (room 32000)) _ sheet after in
-    let counted = cut-passed n lows highs k (room 3000) kept table cut .counted in
+    done-then (routeAnswer n lows highs states k from to (room 32) (room 1062) (room 32000)) _ sheet after in
+    let counted = cut-passed n lows highs states k (room 3000) kept table cut .counted in
     record {
       answer = values;
       routed = routed;
@@ -132,13 +133,13 @@ wish-read input wish behind e =
 
 -- What was asked, once the network is read too.
 pub wish-asked : (input wish : List ℕ) (behind : ℕ) (network : Network) → scanForm input wishForm 0 ≡ reads wish behind
-    → readNetwork (drop behind input) 3000 3000 ≡ done network → Asked input (getD wish 0 0) (getD wish 1 0) (getD wish 2 0) network
+    → readNetwork (drop behind input) 3000 3000 1000 ≡ done network → Asked input (getD wish 0 0) (getD wish 1 0) (getD wish 2 0) network
 wish-asked input wish behind network e read =
     record {
       behind = behind;
       wish = wish-read input wish behind e .reading;
       read = read;
-      accepted = written-read (drop behind input) 3000 3000 network read .1;
+      accepted = written-read (drop behind input) 3000 3000 1000 network read .1;
     }
 
 -- A sheet that the planner prints: its wish, and the network that was read behind the wish line.
@@ -156,7 +157,7 @@ pub planned-sheet : (input : List ℕ) (sheet : Sheet) → planned input ≡ don
 unfolding planned
 planned-sheet input sheet e =
     let (wish, p, wished, after) = on-scan-done 1 (scanForm input wishForm 0) _ sheet e in
-    let (network, read, last) = done-then (readNetwork (drop p input) 3000 3000) _ sheet after in
+    let (network, read, last) = done-then (readNetwork (drop p input) 3000 3000 1000) _ sheet after in
     let line = wish-read input wish p wished in
     let asked = wish-asked input wish p network wished read in
     record {

@@ -35,16 +35,17 @@ use Rattle.sheet.specs.Overs.{length-overs, overs-hold}
 
 -- A sheet for a network holds.
 sheet-holds : (from to k : ℕ) (network : Network) (sheet : Sheet) → SheetFor from to k network sheet
-    → SheetHolds (network .relays) (network .lows) (network .highs)
-    (Kept (marksOf (network .relays) (network .lows) (network .highs) k))
+    → SheetHolds (network .relays) (network .lows) (network .highs) (network .states)
+    (Kept (marksOf (network .relays) (network .lows) (network .highs) (network .states) k))
     (sheetOf from to k network (keptOf k network))
 sheet-holds from to k network sheet given =
     let n = network .relays in
     let lows = network .lows in
     let highs = network .highs in
-    let passed = route-passed n lows highs k from to (room 32) (room 1062) (room 32000) (given .answer) (given .routed) in
-    let routes = routes-of n lows highs k from to passed in
-    let all : List (List ℕ) = routesOf n lows highs k from to in
+    let states = network .states in
+    let passed = route-passed n lows highs states k from to (room 32) (room 1062) (room 32000) (given .answer) (given .routed) in
+    let routes = routes-of n lows highs states k from to passed in
+    let all : List (List ℕ) = routesOf n lows highs states k from to in
     record {
       some = passed .some;
       few = passed .few;
@@ -52,20 +53,20 @@ sheet-holds from to k network sheet given =
       differ = passed .differ;
       each = routes .each;
       below = λ i h r member. below-has n (getD all i []) r
-          (below-at n all i (routes-below n n lows highs k from to (omega (arith, passed .starts)) (omega arith))) member;
+          (below-at n all i (routes-below n n lows highs states k from to (omega (arith, passed .starts .0)) (omega arith))) member;
       apart = routes .apart;
-      manyOvers = length-overs n lows highs k from to passed;
-      over = overs-hold n lows highs k from to passed;
+      manyOvers = length-overs n lows highs states k from to passed;
+      over = overs-hold n lows highs states k from to passed;
       kept = refl;
     }
 
 -- The answers of Cut and Route for a network, with the planner's own lists.
 abbrev cutOf : ℕ → Network → Outcome (List ℕ)
-cutOf k network = cutAnswer (network .relays) (network .lows) (network .highs) k (room 3000)
+cutOf k network = cutAnswer (network .relays) (network .lows) (network .highs) (network .states) k (room 3000)
 
 abbrev routeOf : ℕ → ℕ → ℕ → Network → Outcome (List ℕ)
 routeOf from to k network =
-    routeAnswer (network .relays) (network .lows) (network .highs) k from to (room 32) (room 1062) (room 32000)
+    routeAnswer (network .relays) (network .lows) (network .highs) (network .states) k from to (room 32) (room 1062) (room 32000)
 
 -- The first refusal, stage by stage from the last: Route, Cut, Read, the wish.
 module _ (input : List ℕ) (number place : ℕ) where
@@ -95,12 +96,12 @@ module _ (input : List ℕ) (number place : ℕ) where
         go (inr found) = route-first (found .0) (sheetOf from to k network (getD (found .0) 0 0)) (found .1) (found .2)
 
   read-first : (wish : List ℕ) (p : ℕ) → scanForm input wishForm 0 ≡ reads wish p
-      → andThen (readNetwork (drop p input) 3000 3000) (sheetFor (getD wish 0 0) (getD wish 1 0) (getD wish 2 0)) ≡ refused number place
+      → andThen (readNetwork (drop p input) 3000 3000 1000) (sheetFor (getD wish 0 0) (getD wish 1 0) (getD wish 2 0)) ≡ refused number place
       → FirstRefusal input number place
-  read-first wish p wished e = go (refused-then (readNetwork (drop p input) 3000 3000) _ number place e)
+  read-first wish p wished e = go (refused-then (readNetwork (drop p input) 3000 3000 1000) _ number place e)
     where
-      go : (readNetwork (drop p input) 3000 3000 ≡ refused number place)
-          ⊎ ((network : Network) × (readNetwork (drop p input) 3000 3000 ≡ done network)
+      go : (readNetwork (drop p input) 3000 3000 1000 ≡ refused number place)
+          ⊎ ((network : Network) × (readNetwork (drop p input) 3000 3000 1000 ≡ done network)
           × (sheetFor (getD wish 0 0) (getD wish 1 0) (getD wish 2 0) network ≡ refused number place))
           → FirstRefusal input number place
       go (inl read) = inRead (wish-read input wish p wished .reading) read
@@ -113,7 +114,7 @@ module _ (input : List ℕ) (number place : ℕ) where
     where
       go : ((scanForm input wishForm 0 ≡ departs place) × (number ≡ 1))
           ⊎ ((wish : List ℕ) × (p : ℕ) × (scanForm input wishForm 0 ≡ reads wish p)
-          × (andThen (readNetwork (drop p input) 3000 3000) (sheetFor (getD wish 0 0) (getD wish 1 0) (getD wish 2 0)) ≡ refused number place))
+          × (andThen (readNetwork (drop p input) 3000 3000 1000) (sheetFor (getD wish 0 0) (getD wish 1 0) (getD wish 2 0)) ≡ refused number place))
           → FirstRefusal input number place
       go (inl departed) = rw (departed .1) (inWish (departed .0))
       go (inr found) = read-first (found .0) (found .1) (found .2) (found .3)

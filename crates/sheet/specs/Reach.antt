@@ -13,7 +13,7 @@ planned-reach : (n : ℕ) (input : List ℕ) → inputRoom ≤ n → planned (ta
 unfolding planned span wishForm inputRoom
 planned-reach n input h = front-reach wishForm (λ wish. sheetFor (getD wish 0 0) (getD wish 1 0) (getD wish 2 0)) n input (omega arith)
 
--- The wish line has at most 22 bytes, and behind it the reader needs at most 45,040.
+-- The wish line has at most 22 bytes, and behind it the reader looks at 54,934 at most.
 pub plan-reach : (n : ℕ) (input : List ℕ) → inputRoom ≤ n → planText (take n input) ≡ planText input
 unfolding planText
 plan-reach n input h = rw (planned-reach n input h)

@@ -1,18 +1,18 @@
 -- What the stages of the sheet and of the list of links share: what is printed of equal outcomes, a refusal that stands, and
--- the table that Read leaves in the front of its two lists. Assumes nothing.
+-- the network that Read leaves in the front of its three lists. Assumes nothing.
 use Prim.Native.Nat.{ℕ, _≤_}
 use mathlib.Core.List.{List, [], _∷_}
-use mathlib.Core.Path.{_≡_, sym, _∙_, ap, ap₂, subst}
+use mathlib.Core.Path.{_≡_, sym, _∙_, ap, subst}
 use native.Mathlib.Omega.{arith}
 use lib.ListN.{length, take, drop, length-append}
 use lib.Seq.{take-append-seam}
 use Rattle.definitions.specs.Outcome.{Outcome, refused, done, andThen}
 use Rattle.definitions.specs.Lists.{overwrite, zeroed}
 use Rattle.definitions.specs.Forests.{cutAnswer}
-use Rattle.definitions.specs.Text.{Network, readNetwork, readAnswer, filled, lowsAfter, highsAfter}
+use Rattle.definitions.specs.Text.{Network, readNetwork, readAnswer, filled, lowsAfter, highsAfter, statesAfter}
 use Rattle.definitions.specs.Plan.{room, printed}
 use Rattle.lists.specs.SameOutcomes.{done-then}
-use Rattle.theory.specs.Accepted.{accepted}
+use Rattle.theory.specs.Accepted.{accepted, accepted-states}
 use Rattle.text_theory.specs.RoundTrip.{written-read}
 use Rattle.text.specs.Put.{Put}
 use Rattle.lists.specs.Stores.{sets-overwrite}
@@ -37,8 +37,8 @@ pub whole-put : (text before after : List ℕ) (next : ℕ) → length text ≤ 
 whole-put text before after next fits put = (omega (arith, put .ends), put .bytes ∙ sets-overwrite text before fits)
 
 -- A network by its parts.
-abbrev pub networkOf : ℕ → List ℕ → List ℕ → Network
-networkOf n lows highs = record { relays = n; lows = lows; highs = highs }
+abbrev pub networkOf : (n : ℕ) (lows highs states : List ℕ) → Network
+networkOf n lows highs states = record { relays = n; lows = lows; highs = highs; states = states }
 
 -- A refusal of one stage is the refusal of all that follows.
 pub stage-refused : {A B : Type 0} (outcome : Outcome A) (next : A → Outcome B) (refusal : Refusal)
@@ -46,9 +46,9 @@ pub stage-refused : {A B : Type 0} (outcome : Outcome A) (next : A → Outcome B
 stage-refused outcome next refusal e = ap (λ (o : Outcome _). andThen o next) e ∙ refusal-then refusal next
 
 -- Cut with the program's own list.
-pub cut-rooms : (n : ℕ) (lows highs : List ℕ) (k : ℕ) (marks : List ℕ) → marks ≡ room 3000 → (outcome : Outcome (List ℕ))
-    → cutAnswer n lows highs k marks ≡ outcome → cutAnswer n lows highs k (room 3000) ≡ outcome
-cut-rooms n lows highs k marks marksAre outcome e = rw (← marksAre) e
+pub cut-rooms : (n : ℕ) (lows highs states : List ℕ) (k : ℕ) (marks : List ℕ) → marks ≡ room 3000 → (outcome : Outcome (List ℕ))
+    → cutAnswer n lows highs states k marks ≡ outcome → cutAnswer n lows highs states k (room 3000) ≡ outcome
+cut-rooms n lows highs states k marks marksAre outcome e = rw (← marksAre) e
 
 -- What Read answers is refused where the reading of the network is.
 answer-refused : {A B : Type 0} (outcome : Outcome A) (f : A → B) (refusal : Refusal)
@@ -67,17 +67,23 @@ answer-refused {A} {B} (done x) f refusal e =
 room-length : (size : ℕ) (list : List ℕ) → list ≡ room size → length list ≡ size
 room-length size list e = ap length e ∙ length-room size
 
-pub network-refused : (text lows highs : List ℕ) (refusal : Refusal) → lows ≡ room 3000 → highs ≡ room 3000
-    → readAnswer text lows highs ≡ refusalOf refusal → readNetwork text 3000 3000 ≡ refusalOf refusal
-unfolding readAnswer
-network-refused text lows highs refusal low high e =
-    ap₂ (readNetwork text) (sym (room-length 3000 lows low)) (sym (room-length 3000 highs high)) ∙ answer-refused _ _ refusal e
+same-rooms : (text lows highs states : List ℕ) → length lows ≡ 3000 → length highs ≡ 3000 → length states ≡ 1000
+    → readNetwork text 3000 3000 1000 ≡ readNetwork text (length lows) (length highs) (length states)
+same-rooms text lows highs states low high state = rw (low, high, state)
 
--- The table that Read leaves in the front of its two lists.
-pub record ReadTable (text : List ℕ) (n m : ℕ) (lows highs : List ℕ) : Type 0 where
+pub network-refused : (text lows highs states : List ℕ) (refusal : Refusal) → lows ≡ room 3000 → highs ≡ room 3000 → states ≡ room 1000
+    → readAnswer text lows highs states ≡ refusalOf refusal → readNetwork text 3000 3000 1000 ≡ refusalOf refusal
+unfolding readAnswer
+network-refused text lows highs states refusal low high state e =
+    same-rooms text lows highs states (room-length 3000 lows low) (room-length 3000 highs high) (room-length 1000 states state)
+    ∙ answer-refused _ _ refusal e
+
+-- The network that Read leaves in the front of its three lists.
+pub record ReadTable (text : List ℕ) (n m : ℕ) (lows highs states : List ℕ) : Type 0 where
   pub inLows : m ≤ length lows
   pub inHighs : m ≤ length highs
-  pub read : readNetwork text 3000 3000 ≡ done (networkOf n (take m lows) (take m highs))
+  pub inStates : n ≤ length states
+  pub read : readNetwork text 3000 3000 1000 ≡ done (networkOf n (take m lows) (take m highs) (take n states))
 
 front-filled : (column : Network → List ℕ) (outcome : Outcome Network) (network : Network) (old : List ℕ) (m : ℕ)
     → outcome ≡ done network → length (column network) ≡ m
@@ -87,34 +93,40 @@ front-filled column outcome network old m e size =
     let rest = zeroed (drop (length (column network)) old) in
     rw (e, ← size) (omega (arith, length-append (column network) rest), take-append-seam (column network) rest)
 
-same-network : (network : Network) (n : ℕ) (lows highs : List ℕ) → network .relays ≡ n → lows ≡ network .lows
-    → highs ≡ network .highs → network ≡ networkOf n lows highs
-same-network network n lows highs relays low high = rw (← relays, low, high)
+same-network : (network : Network) (n : ℕ) (lows highs states : List ℕ) → network .relays ≡ n → lows ≡ network .lows
+    → highs ≡ network .highs → states ≡ network .states → network ≡ networkOf n lows highs states
+same-network network n lows highs states relays low high state = rw (← relays, low, high, state)
 
-table-read : (text lows highs : List ℕ) (n m : ℕ) → length lows ≡ 3000 → length highs ≡ 3000
-    → readAnswer text lows highs ≡ done (n ∷ m ∷ []) → ReadTable text n m (lowsAfter text lows highs) (highsAfter text lows highs)
-unfolding readAnswer lowsAfter highsAfter
-table-read text lows highs n m low high e =
-    let (network, read, last) = done-then (readNetwork text (length lows) (length highs)) _ (n ∷ m ∷ []) e in
-    let relays : network .relays ≡ n = cc in
-    let size : length (network .lows) ≡ m = cc in
-    let table = accepted (network .relays) (network .lows) (network .highs)
-    (written-read text (length lows) (length highs) network read .1) in
-    let first = front-filled (λ network. network .lows) (readNetwork text (length lows) (length highs)) network lows m read size in
-    let second = front-filled (λ network. network .highs) (readNetwork text (length lows) (length highs)) network highs m read
-    (sym (table .even) ∙ size) in
-    record {
-      inLows = first .0;
-      inHighs = second .0;
-      read =
-          ap₂ (readNetwork text) (sym low) (sym high)
-          ∙ read
-          ∙ ap done (same-network network n _ _ relays (first .1) (second .1));
-    }
+module _ (text lows highs states : List ℕ) (n m : ℕ) (low : length lows ≡ 3000) (high : length highs ≡ 3000) (state : length states ≡ 1000)
+    (e : readAnswer text lows highs states ≡ done (n ∷ m ∷ [])) where
+  table-read : ReadTable text n m (lowsAfter text lows highs states) (highsAfter text lows highs states) (statesAfter text lows highs states)
+  unfolding readAnswer lowsAfter highsAfter statesAfter
+  table-read =
+      let whole = readNetwork text (length lows) (length highs) (length states) in
+      let (network, read, last) = done-then whole _ (n ∷ m ∷ []) e in
+      let relays : network .relays ≡ n = cc in
+      let size : length (network .lows) ≡ m = cc in
+      let passes = written-read text (length lows) (length highs) (length states) network read .1 in
+      let table = accepted (network .relays) (network .lows) (network .highs) (network .states) passes in
+      let known = accepted-states (network .relays) (network .lows) (network .highs) (network .states) passes in
+      let first = front-filled (λ network. network .lows) whole network lows m read size in
+      let second = front-filled (λ network. network .highs) whole network highs m read (sym (table .even) ∙ size) in
+      let third = front-filled (λ network. network .states) whole network states n read (known .long ∙ relays) in
+      record {
+        inLows = first .0;
+        inHighs = second .0;
+        inStates = third .0;
+        read =
+            same-rooms text lows highs states low high state
+            ∙ read
+            ∙ ap done (same-network network n _ _ _ relays (first .1) (second .1) (third .1));
+      }
 
-pub read-done : (text lows highs : List ℕ) (n m : ℕ) (lowsNow highsNow : List ℕ) → lows ≡ room 3000 → highs ≡ room 3000
-    → readAnswer text lows highs ≡ done (n ∷ m ∷ []) → lowsNow ≡ lowsAfter text lows highs → highsNow ≡ highsAfter text lows highs
-    → ReadTable text n m lowsNow highsNow
-read-done text lows highs n m lowsNow highsNow low high e lowsAre highsAre =
-    rw (lowsAre, highsAre)
-    (table-read text lows highs n m (room-length 3000 lows low) (room-length 3000 highs high) e)
+pub read-done : (text lows highs states : List ℕ) (n m : ℕ) (lowsNow highsNow statesNow : List ℕ)
+    → lows ≡ room 3000 → highs ≡ room 3000 → states ≡ room 1000
+    → readAnswer text lows highs states ≡ done (n ∷ m ∷ []) → lowsNow ≡ lowsAfter text lows highs states
+    → highsNow ≡ highsAfter text lows highs states → statesNow ≡ statesAfter text lows highs states
+    → ReadTable text n m lowsNow highsNow statesNow
+read-done text lows highs states n m lowsNow highsNow statesNow low high state e lowsAre highsAre statesAre =
+    rw (lowsAre, highsAre, statesAre)
+    (table-read text lows highs states n m (room-length 3000 lows low) (room-length 3000 highs high) (room-length 1000 states state) e)

@@ -16,7 +16,7 @@ use Rattle.definitions.specs.Sweep.{slotRoute, sweepRoutes}
 use Rattle.definitions.specs.Route.{leftOf, routesBetween, routesOf}
 use Rattle.lists.specs.Cases.{has-cases}
 use Rattle.theory.specs.PlaceSweep.{sweep}
-use Rattle.theory.specs.Ordering.{order-length, order-at}
+use Rattle.theory.specs.Ordering.{order-at}
 use Rattle.theory.specs.Columns.{mark-entry}
 use Rattle.theory.specs.SweepRoutes.{sweep-length}
 use Rattle.theory.specs.RelayRoutes.{RelayRoutes, routes-hold}
@@ -36,12 +36,12 @@ length-between left k p q = go (ltb q p)
     go true = length-sweepRoutes left k p q
     go false = length-map (sweepRoutes left k q p) reverse ∙ length-sweepRoutes left k q p
 
-pub length-routes : (n : ℕ) (lows highs : List ℕ) (k from to : ℕ) → length (routesOf n lows highs k from to) ≡ k
+pub length-routes : (n : ℕ) (lows highs states : List ℕ) (k from to : ℕ) → length (routesOf n lows highs states k from to) ≡ k
 unfolding routesOf
-length-routes n lows highs k from to =
-    let order = orderOf n lows highs in
-    length-map (routesBetween (leftOf n lows highs) k (placeOf order from) (placeOf order to)) (map (relayAt order))
-    ∙ length-between (leftOf n lows highs) k (placeOf order from) (placeOf order to)
+length-routes n lows highs states k from to =
+    let order = orderOf n lows highs states in
+    length-map (routesBetween (leftOf n lows highs states) k (placeOf order from) (placeOf order to)) (map (relayAt order))
+    ∙ length-between (leftOf n lows highs states) k (placeOf order from) (placeOf order to)
 
 -- A number below the bound for each.
 below-append : (bound : ℕ) (l k : List ℕ) → AllBelow bound l → AllBelow bound k → AllBelow bound (l ++ k)
@@ -80,30 +80,30 @@ below-has bound (y ∷ l) x h member = go (has-cases y l x member) (below-has bo
     go (inl same) later = omega (arith, h .0)
     go (inr there) later = later there
 
-relay-below : (n : ℕ) (lows highs : List ℕ) → 1 ≤ n → (v : ℕ) → relayAt (orderOf n lows highs) v < n
+relay-below : (n : ℕ) (lows highs states : List ℕ) → 1 ≤ n → (v : ℕ) → relayAt (orderOf n lows highs states) v < n
 unfolding relayAt
-relay-below n lows highs some v = go (ltb (pred v) n) refl
+relay-below n lows highs states some v = go (ltb (pred v) (length (orderOf n lows highs states))) refl
   where
-    go : (b : Bool) → ltb (pred v) n ≡ b → getD (orderOf n lows highs) (pred v) 0 < n
-    go true e = order-at n lows highs (pred v) (ltb-true (pred v) n e)
+    go : (b : Bool) → ltb (pred v) (length (orderOf n lows highs states)) ≡ b → getD (orderOf n lows highs states) (pred v) 0 < n
+    go true e = order-at n lows highs states (pred v) (ltb-true (pred v) (length (orderOf n lows highs states)) e)
     go false e =
-        let past : length (orderOf n lows highs) ≤ pred v = omega (arith, order-length n lows highs, ltb-false (pred v) n e) in
-        rw (List·getD-eq-default (orderOf n lows highs) 0 past) some
+        let past : length (orderOf n lows highs states) ≤ pred v = ltb-false (pred v) (length (orderOf n lows highs states)) e in
+        rw (List·getD-eq-default (orderOf n lows highs states) 0 past) some
 
-pub routes-below : (bound n : ℕ) (lows highs : List ℕ) (k from to : ℕ) → 1 ≤ n → n ≤ bound
-    → AllBelow bound (joinAll (routesOf n lows highs k from to))
+pub routes-below : (bound n : ℕ) (lows highs states : List ℕ) (k from to : ℕ) → 1 ≤ n → n ≤ bound
+    → AllBelow bound (joinAll (routesOf n lows highs states k from to))
 unfolding routesOf
-routes-below bound n lows highs k from to some few =
-    let order = orderOf n lows highs in
-    below-joined bound (map (relayAt order)) (below-map bound (relayAt order) (λ v. omega (arith, relay-below n lows highs some v)))
-    (routesBetween (leftOf n lows highs) k (placeOf order from) (placeOf order to))
+routes-below bound n lows highs states k from to some few =
+    let order = orderOf n lows highs states in
+    below-joined bound (map (relayAt order)) (below-map bound (relayAt order) (λ v. omega (arith, relay-below n lows highs states some v)))
+    (routesBetween (leftOf n lows highs states) k (placeOf order from) (placeOf order to))
 
 -- What holds of them, where Route answers: k routes along kept links that share only their ends, with at most n − 2 + 2k relays.
-pub routes-of : (n : ℕ) (lows highs : List ℕ) (k from to : ℕ) → RoutePassed n lows highs k from to
-    → RelayRoutes n lows highs (marksOf n lows highs k) k from to (routesOf n lows highs k from to)
-routes-of n lows highs k from to passed =
+pub routes-of : (n : ℕ) (lows highs states : List ℕ) (k from to : ℕ) → RoutePassed n lows highs states k from to
+    → RelayRoutes n lows highs states (marksOf n lows highs states k) k from to (routesOf n lows highs states k from to)
+routes-of n lows highs states k from to passed =
     let good = passed .accepted in
     let starts = passed .starts in
     let ends = passed .ends in
-    routes-hold n lows highs good k (passed .some) (marksOf n lows highs k) (mark-entry n lows highs k) from to starts ends (passed .differ)
-    (tree-between n lows highs good k from to starts ends (passed .differ) (passed .oneTree))
+    routes-hold n lows highs states good k (passed .some) (marksOf n lows highs states k) (mark-entry n lows highs states k) from to starts ends (passed .differ)
+    (tree-between n lows highs states good k (passed .some) from to starts ends (passed .differ) (passed .oneTree))

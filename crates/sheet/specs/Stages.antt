@@ -35,122 +35,122 @@ use Rattle.sheet.specs.LinkRooms.{links-answer, links-passed}
 -- Route, behind Cut's count.
 unfoldable pub routeStage : (from to k : ℕ) (network : Network) (kept : ℕ) → Outcome Sheet
 routeStage from to k network kept =
-    andThen (routeAnswer (network .relays) (network .lows) (network .highs) k from to (room 32) (room 1062) (room 32000)) λ _.
+    andThen (routeAnswer (network .relays) (network .lows) (network .highs) (network .states) k from to (room 32) (room 1062) (room 32000)) λ _.
     done (sheetOf from to k network kept)
 
-module _ (n : ℕ) (lows highs : List ℕ) (from to k kept : ℕ) where
+module _ (n : ℕ) (lows highs states : List ℕ) (from to k kept : ℕ) where
   pub route-refused : (refusal : Refusal)
-      → routeAnswer n lows highs k from to (room 32) (room 1062) (room 32000) ≡ refusalOf refusal
-      → routeStage from to k (networkOf n lows highs) kept ≡ refusalOf refusal
+      → routeAnswer n lows highs states k from to (room 32) (room 1062) (room 32000) ≡ refusalOf refusal
+      → routeStage from to k (networkOf n lows highs states) kept ≡ refusalOf refusal
   unfolding routeStage
   route-refused refusal e = stage-refused _ _ refusal e
 
   pub route-done : (values : List ℕ)
-      → routeAnswer n lows highs k from to (room 32) (room 1062) (room 32000) ≡ done values
-      → routeStage from to k (networkOf n lows highs) kept ≡ done (sheetOf from to k (networkOf n lows highs) kept)
+      → routeAnswer n lows highs states k from to (room 32) (room 1062) (room 32000) ≡ done values
+      → routeStage from to k (networkOf n lows highs states) kept ≡ done (sheetOf from to k (networkOf n lows highs states) kept)
   unfolding routeStage
   route-done values e =
-      then-done (routeAnswer n lows highs k from to (room 32) (room 1062) (room 32000)) _ values e
+      then-done (routeAnswer n lows highs states k from to (room 32) (room 1062) (room 32000)) _ values e
 
-  pub cut-refused : (refusal : Refusal) → cutAnswer n lows highs k (room 3000) ≡ refusalOf refusal
-      → sheetFor from to k (networkOf n lows highs) ≡ refusalOf refusal
+  pub cut-refused : (refusal : Refusal) → cutAnswer n lows highs states k (room 3000) ≡ refusalOf refusal
+      → sheetFor from to k (networkOf n lows highs states) ≡ refusalOf refusal
   unfolding sheetFor
   cut-refused refusal e = stage-refused _ _ refusal e
 
-  pub cut-done : cutAnswer n lows highs k (room 3000) ≡ done (kept ∷ [])
-      → sheetFor from to k (networkOf n lows highs) ≡ routeStage from to k (networkOf n lows highs) kept
+  pub cut-done : cutAnswer n lows highs states k (room 3000) ≡ done (kept ∷ [])
+      → sheetFor from to k (networkOf n lows highs states) ≡ routeStage from to k (networkOf n lows highs states) kept
   unfolding sheetFor routeStage
-  cut-done e = then-done (cutAnswer n lows highs k (room 3000)) _ (kept ∷ []) e
+  cut-done e = then-done (cutAnswer n lows highs states k (room 3000)) _ (kept ∷ []) e
 
 -- The lists of Route with links after a success: as many counts as routes, the relays of all of them, from which the counts cut the
 -- routes again, and their links, from which one less each time cuts them.
 module _
     (n : ℕ)
-    (lows highs : List ℕ)
+    (lows highs states : List ℕ)
     (k from to : ℕ)
     (counts relays links scratch values : List ℕ)
-    (answer : routeLinksAnswer n lows highs k from to counts relays links scratch ≡ done values)
+    (answer : routeLinksAnswer n lows highs states k from to counts relays links scratch ≡ done values)
   where
-    counts-are : routeLinksCounts n lows highs k from to counts relays links scratch
-        ≡ overwrite (map length (routesOf n lows highs k from to)) counts
+    counts-are : routeLinksCounts n lows highs states k from to counts relays links scratch
+        ≡ overwrite (map length (routesOf n lows highs states k from to)) counts
     unfolding routeLinksCounts
-    counts-are = if-done (routeLinksAnswer n lows highs k from to counts relays links scratch) values _ _ answer
+    counts-are = if-done (routeLinksAnswer n lows highs states k from to counts relays links scratch) values _ _ answer
 
-    relays-are : routeLinksRelays n lows highs k from to counts relays links scratch
-        ≡ overwrite (joinAll (routesOf n lows highs k from to)) relays
+    relays-are : routeLinksRelays n lows highs states k from to counts relays links scratch
+        ≡ overwrite (joinAll (routesOf n lows highs states k from to)) relays
     unfolding routeLinksRelays
-    relays-are = if-done (routeLinksAnswer n lows highs k from to counts relays links scratch) values _ _ answer
+    relays-are = if-done (routeLinksAnswer n lows highs states k from to counts relays links scratch) values _ _ answer
 
-    links-are : routeLinksLinks n lows highs k from to counts relays links scratch
-        ≡ overwrite (joinAll (oversOf n lows highs k from to)) links
+    links-are : routeLinksLinks n lows highs states k from to counts relays links scratch
+        ≡ overwrite (joinAll (oversOf n lows highs states k from to)) links
     unfolding routeLinksLinks
-    links-are = if-done (routeLinksAnswer n lows highs k from to counts relays links scratch) values _ _ answer
+    links-are = if-done (routeLinksAnswer n lows highs states k from to counts relays links scratch) values _ _ answer
 
-    sizes-count : length (map length (routesOf n lows highs k from to)) ≡ k
-    sizes-count = length-map (routesOf n lows highs k from to) length ∙ length-routes n lows highs k from to
+    sizes-count : length (map length (routesOf n lows highs states k from to)) ≡ k
+    sizes-count = length-map (routesOf n lows highs states k from to) length ∙ length-routes n lows highs states k from to
 
-    first-counts : take k (routeLinksCounts n lows highs k from to counts relays links scratch)
-        ≡ map length (routesOf n lows highs k from to)
+    first-counts : take k (routeLinksCounts n lows highs states k from to counts relays links scratch)
+        ≡ map length (routesOf n lows highs states k from to)
     first-counts =
         ap (take k) counts-are
-        ∙ take-overwrite (map length (routesOf n lows highs k from to)) counts k (omega (arith, sizes-count))
-        ∙ take-all k (map length (routesOf n lows highs k from to)) (omega (arith, sizes-count))
+        ∙ take-overwrite (map length (routesOf n lows highs states k from to)) counts k (omega (arith, sizes-count))
+        ∙ take-all k (map length (routesOf n lows highs states k from to)) (omega (arith, sizes-count))
 
-    first-steps : map pred (take k (routeLinksCounts n lows highs k from to counts relays links scratch))
-        ≡ map length (oversOf n lows highs k from to)
+    first-steps : map pred (take k (routeLinksCounts n lows highs states k from to counts relays links scratch))
+        ≡ map length (oversOf n lows highs states k from to)
     first-steps =
         ap (map pred) first-counts
-        ∙ sym (over-lengths n lows highs k from to (links-passed n lows highs k from to counts relays links scratch values answer))
+        ∙ sym (over-lengths n lows highs states k from to (links-passed n lows highs states k from to counts relays links scratch values answer))
 
-    pub counts-room : k ≤ length (routeLinksCounts n lows highs k from to counts relays links scratch)
+    pub counts-room : k ≤ length (routeLinksCounts n lows highs states k from to counts relays links scratch)
     counts-room =
-        omega (arith, sizes-count, longer (map length (routesOf n lows highs k from to)) counts, ap length counts-are)
+        omega (arith, sizes-count, longer (map length (routesOf n lows highs states k from to)) counts, ap length counts-are)
 
-    pub relays-room : total (take k (routeLinksCounts n lows highs k from to counts relays links scratch))
-        ≤ length (routeLinksRelays n lows highs k from to counts relays links scratch)
+    pub relays-room : total (take k (routeLinksCounts n lows highs states k from to counts relays links scratch))
+        ≤ length (routeLinksRelays n lows highs states k from to counts relays links scratch)
     relays-room =
         omega (
           arith,
           ap total first-counts,
-          total-lengths (routesOf n lows highs k from to),
-          longer (joinAll (routesOf n lows highs k from to)) relays,
+          total-lengths (routesOf n lows highs states k from to),
+          longer (joinAll (routesOf n lows highs states k from to)) relays,
           ap length relays-are,
         )
 
-    pub links-room : total (map pred (take k (routeLinksCounts n lows highs k from to counts relays links scratch)))
-        ≤ length (routeLinksLinks n lows highs k from to counts relays links scratch)
+    pub links-room : total (map pred (take k (routeLinksCounts n lows highs states k from to counts relays links scratch)))
+        ≤ length (routeLinksLinks n lows highs states k from to counts relays links scratch)
     links-room =
         omega (
           arith,
           ap total first-steps,
-          total-lengths (oversOf n lows highs k from to),
-          longer (joinAll (oversOf n lows highs k from to)) links,
+          total-lengths (oversOf n lows highs states k from to),
+          longer (joinAll (oversOf n lows highs states k from to)) links,
           ap length links-are,
         )
 
-    pub routes-cut : cutUp (take k (routeLinksCounts n lows highs k from to counts relays links scratch))
-        (routeLinksRelays n lows highs k from to counts relays links scratch)
-        ≡ routesOf n lows highs k from to
+    pub routes-cut : cutUp (take k (routeLinksCounts n lows highs states k from to counts relays links scratch))
+        (routeLinksRelays n lows highs states k from to counts relays links scratch)
+        ≡ routesOf n lows highs states k from to
     unfolding overwrite
-    routes-cut = ap₂ cutUp first-counts relays-are ∙ cut-up (routesOf n lows highs k from to) _
+    routes-cut = ap₂ cutUp first-counts relays-are ∙ cut-up (routesOf n lows highs states k from to) _
 
-    pub overs-cut : cutUp (map pred (take k (routeLinksCounts n lows highs k from to counts relays links scratch)))
-        (routeLinksLinks n lows highs k from to counts relays links scratch)
-        ≡ oversOf n lows highs k from to
+    pub overs-cut : cutUp (map pred (take k (routeLinksCounts n lows highs states k from to counts relays links scratch)))
+        (routeLinksLinks n lows highs states k from to counts relays links scratch)
+        ≡ oversOf n lows highs states k from to
     unfolding overwrite
-    overs-cut = ap₂ cutUp first-steps links-are ∙ cut-up (oversOf n lows highs k from to) _
+    overs-cut = ap₂ cutUp first-steps links-are ∙ cut-up (oversOf n lows highs states k from to) _
 
 -- Route with links was called with the planner's own lists: it refused, or its three lists give the lines of the sheet.
-pub record Routed (from to k n : ℕ) (lows highs : List ℕ) (kept : ℕ) (counts relays links : List ℕ) : Type 0 where
+pub record Routed (from to k n : ℕ) (lows highs states : List ℕ) (kept : ℕ) (counts relays links : List ℕ) : Type 0 where
   pub sizes : k ≤ length counts
   pub within : total (take k counts) ≤ length relays
   pub linked : total (map pred (take k counts)) ≤ length links
-  pub lines : printed sheetText (routeStage from to k (networkOf n lows highs) kept)
+  pub lines : printed sheetText (routeStage from to k (networkOf n lows highs states) kept)
       ≡ sheetLines from to k (cutUp (take k counts) relays) (cutUp (map pred (take k counts)) links) kept
 
 module _
     (n : ℕ)
-    (lows highs : List ℕ)
+    (lows highs states : List ℕ)
     (from to k kept : ℕ)
     (counts relays links scratch : List ℕ)
     (countsAre : counts ≡ room 32)
@@ -158,52 +158,55 @@ module _
     (linksAre : links ≡ room 1030)
     (scratchIs : scratch ≡ room 32000)
   where
-    with-rooms : (outcome : Outcome (List ℕ)) → routeLinksAnswer n lows highs k from to counts relays links scratch ≡ outcome
-        → routeAnswer n lows highs k from to (room 32) (room 1062) (room 32000) ≡ outcome
+    with-rooms : (outcome : Outcome (List ℕ)) → routeLinksAnswer n lows highs states k from to counts relays links scratch ≡ outcome
+        → routeAnswer n lows highs states k from to (room 32) (room 1062) (room 32000) ≡ outcome
     with-rooms outcome e =
         let roomy : 1030 ≤ length links = omega (arith, ap length linksAre, length-room 1030) in
         rw (← countsAre, ← relaysAre, ← scratchIs)
-        (sym (links-answer n lows highs k from to counts relays links scratch roomy) ∙ e)
+        (sym (links-answer n lows highs states k from to counts relays links scratch roomy) ∙ e)
 
-    pub routes-refused : (refusal : Refusal) → routeLinksAnswer n lows highs k from to counts relays links scratch ≡ refusalOf refusal
-        → routeStage from to k (networkOf n lows highs) kept ≡ refusalOf refusal
-    routes-refused refusal e = route-refused n lows highs from to k kept refusal (with-rooms (refusalOf refusal) e)
+    pub routes-refused : (refusal : Refusal) → routeLinksAnswer n lows highs states k from to counts relays links scratch ≡ refusalOf refusal
+        → routeStage from to k (networkOf n lows highs states) kept ≡ refusalOf refusal
+    routes-refused refusal e = route-refused n lows highs states from to k kept refusal (with-rooms (refusalOf refusal) e)
 
     pub routes-written : (values countsNow relaysNow linksNow : List ℕ)
-        → routeLinksAnswer n lows highs k from to counts relays links scratch ≡ done values
-        → countsNow ≡ routeLinksCounts n lows highs k from to counts relays links scratch
-        → relaysNow ≡ routeLinksRelays n lows highs k from to counts relays links scratch
-        → linksNow ≡ routeLinksLinks n lows highs k from to counts relays links scratch
-        → Routed from to k n lows highs kept countsNow relaysNow linksNow
+        → routeLinksAnswer n lows highs states k from to counts relays links scratch ≡ done values
+        → countsNow ≡ routeLinksCounts n lows highs states k from to counts relays links scratch
+        → relaysNow ≡ routeLinksRelays n lows highs states k from to counts relays links scratch
+        → linksNow ≡ routeLinksLinks n lows highs states k from to counts relays links scratch
+        → Routed from to k n lows highs states kept countsNow relaysNow linksNow
     unfolding printed sheetText sheetLines
     routes-written values countsNow relaysNow linksNow e countsOf relaysOf linksOf =
         rw (countsOf, relaysOf, linksOf)
         (record {
-          sizes = counts-room n lows highs k from to counts relays links scratch values e;
-          within = relays-room n lows highs k from to counts relays links scratch values e;
-          linked = links-room n lows highs k from to counts relays links scratch values e;
+          sizes = counts-room n lows highs states k from to counts relays links scratch values e;
+          within = relays-room n lows highs states k from to counts relays links scratch values e;
+          linked = links-room n lows highs states k from to counts relays links scratch values e;
           lines =
-              ap (printed sheetText) (route-done n lows highs from to k kept values (with-rooms (done values) e))
+              ap (printed sheetText) (route-done n lows highs states from to k kept values (with-rooms (done values) e))
               ∙ ap₂ (λ (routes overs : List (List ℕ)). sheetLines from to k routes overs kept)
-              (sym (routes-cut n lows highs k from to counts relays links scratch values e))
-              (sym (overs-cut n lows highs k from to counts relays links scratch values e));
+              (sym (routes-cut n lows highs states k from to counts relays links scratch values e))
+              (sym (overs-cut n lows highs states k from to counts relays links scratch values e));
         })
 
 -- Read, and the stages behind it.
 unfoldable pub readStage : (text : List ℕ) (from to k : ℕ) → Outcome Sheet
-readStage text from to k = andThen (readNetwork text 3000 3000) (sheetFor from to k)
+readStage text from to k = andThen (readNetwork text 3000 3000 1000) (sheetFor from to k)
 
-pub read-refused : (text lows highs : List ℕ) (from to k : ℕ) (refusal : Refusal) → lows ≡ room 3000 → highs ≡ room 3000
-    → readAnswer text lows highs ≡ refusalOf refusal → readStage text from to k ≡ refusalOf refusal
+pub read-refused : (text lows highs states : List ℕ) (from to k : ℕ) (refusal : Refusal)
+    → lows ≡ room 3000 → highs ≡ room 3000 → states ≡ room 1000
+    → readAnswer text lows highs states ≡ refusalOf refusal → readStage text from to k ≡ refusalOf refusal
 unfolding readStage
-read-refused text lows highs from to k refusal low high e =
-    stage-refused (readNetwork text 3000 3000) (sheetFor from to k) refusal (network-refused text lows highs refusal low high e)
+read-refused text lows highs states from to k refusal low high state e =
+    stage-refused (readNetwork text 3000 3000 1000) (sheetFor from to k) refusal
+    (network-refused text lows highs states refusal low high state e)
 
-pub read-table : (text : List ℕ) (n m : ℕ) (lows highs : List ℕ) (from to k : ℕ) → ReadTable text n m lows highs
-    → readStage text from to k ≡ sheetFor from to k (networkOf n (take m lows) (take m highs))
+pub read-table : (text : List ℕ) (n m : ℕ) (lows highs states : List ℕ) (from to k : ℕ) → ReadTable text n m lows highs states
+    → readStage text from to k ≡ sheetFor from to k (networkOf n (take m lows) (take m highs) (take n states))
 unfolding readStage
-read-table text n m lows highs from to k table =
-    then-done (readNetwork text 3000 3000) (sheetFor from to k) (networkOf n (take m lows) (take m highs)) (table .read)
+read-table text n m lows highs states from to k table =
+    then-done (readNetwork text 3000 3000 1000) (sheetFor from to k)
+    (networkOf n (take m lows) (take m highs) (take n states)) (table .read)
 
 -- The wish, and all the rest.
 pub wish-departed : (input : List ℕ) (p : ℕ) → scanForm input wishForm 0 ≡ departs p → planned input ≡ refusalOf (Wish p)

@@ -9,6 +9,13 @@ pub fn links() -> [u16; 3000]
     [0u16; 3000]
 }
 
+// The state of each relay.
+pub fn states() -> [u16; 1000]
+    ensures { λ r. ⌜ r ≡ room 1000 ⌝ }
+{
+    [0u16; 1000]
+}
+
 // How many relays each route has.
 pub(crate) fn counts() -> [u16; 32]
     ensures { λ r. ⌜ r ≡ room 32 ⌝ }

@@ -21,14 +21,15 @@ fn plan_routes(
     n: u16,
     lows: &[u16],
     highs: &[u16],
+    states: &[u16],
     from: u16,
     to: u16,
     k: u16,
     kept: u16,
 ) -> usize
-    requires { ⌜ length (printed sheetText (routeStage from to k (networkOf n (now lows) (now highs)) kept)) ≤ length (now output) ⌝ }
+    requires { ⌜ length (printed sheetText (routeStage from to k (networkOf n (now lows) (now highs) (now states)) kept)) ≤ length (now output) ⌝ }
     ensures { λ r. ⌜ Put (now (output .entry)) 0
-        (printed sheetText (routeStage from to k (networkOf n (now (lows .entry)) (now (highs .entry))) kept)) (now (output .exit)) r ⌝ }
+        (printed sheetText (routeStage from to k (networkOf n (now (lows .entry)) (now (highs .entry)) (now (states .entry))) kept)) (now (output .exit)) r ⌝ }
 {
     let mut counts = rooms::counts();
     let mut relays = rooms::relays();
@@ -38,6 +39,7 @@ fn plan_routes(
         n,
         lows,
         highs,
+        states,
         k,
         from,
         to,
@@ -66,18 +68,19 @@ fn plan_cut(
     n: u16,
     lows: &[u16],
     highs: &[u16],
+    states: &[u16],
     from: u16,
     to: u16,
     k: u16,
 ) -> usize
-    requires { ⌜ length (printed sheetText (sheetFor from to k (networkOf n (now lows) (now highs)))) ≤ length (now output) ⌝ }
-    ensures { λ r. ⌜ Put (now (output .entry)) 0 (printed sheetText (sheetFor from to k (networkOf n (now (lows .entry)) (now (highs .entry)))))
+    requires { ⌜ length (printed sheetText (sheetFor from to k (networkOf n (now lows) (now highs) (now states)))) ≤ length (now output) ⌝ }
+    ensures { λ r. ⌜ Put (now (output .entry)) 0 (printed sheetText (sheetFor from to k (networkOf n (now (lows .entry)) (now (highs .entry)) (now (states .entry)))))
         (now (output .exit)) r ⌝ }
 {
     let mut marks = rooms::links();
-    match cut(n, lows, highs, k, &mut marks) {
+    match cut(n, lows, highs, states, k, &mut marks) {
         CutAnswer::Refused(refusal) => put_refusal(output, refusal),
-        CutAnswer::Kept(kept) => plan_routes(output, n, lows, highs, from, to, k, kept),
+        CutAnswer::Kept(kept) => plan_routes(output, n, lows, highs, states, from, to, k, kept),
     }
 }
 
@@ -88,11 +91,22 @@ pub(crate) fn plan_network(output: &mut [u8], text: &[u8], from: u16, to: u16, k
 {
     let mut lows = rooms::links();
     let mut highs = rooms::links();
-    match read(text, &mut lows, &mut highs) {
+    let mut states = rooms::states();
+    match read(text, &mut lows, &mut highs, &mut states) {
         ReadAnswer::Refused(refusal) => put_refusal(output, refusal),
         ReadAnswer::Table(n, m) => {
             let size = m as usize;
-            plan_cut(output, n, &lows[..size], &highs[..size], from, to, k)
+            let relays = n as usize;
+            plan_cut(
+                output,
+                n,
+                &lows[..size],
+                &highs[..size],
+                &states[..relays],
+                from,
+                to,
+                k,
+            )
         }
     }
 }

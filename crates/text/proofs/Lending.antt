@@ -69,14 +69,16 @@ module _ {M : Type 1} (𝓤 : URA M) (H : Heap 𝓤) (A : Atoms 𝓤) (mem : Mem
   abbrev pub Mover : Contract 𝓤
   Mover = tripleOf 𝓤 H A move-mark.signature (move-mark.spec 𝓤 H A mem run)
 
--- What is lent, and what goes with it: a buffer at (b, o), borrowed at κ when it held `start`, a number and two lists.
+-- What is lent, and what goes with it: a buffer at (b, o), borrowed at κ when it held `start`, a number and three lists.
 pub record Loan : Type 0 where
   pub κ : Lft
   pub κ₂ : Lft
   pub κ₃ : Lft
+  pub κ₄ : Lft
   pub q : Share
   pub q₂ : Share
   pub q₃ : Share
+  pub q₄ : Share
   pub b : ℕ
   pub o : ℕ
   pub γ : GName
@@ -84,10 +86,11 @@ pub record Loan : Type 0 where
   pub n : ℕ
   pub lo : RefT (List ℕ)
   pub hi : RefT (List ℕ)
+  pub st : RefT (List ℕ)
 
 -- l is the local that the mark lies in
 module _ (L : Loan) (l : ℕ) where
-  open Loan L using (κ, κ₂, κ₃, q, q₂, q₃, b, o, γ, start, n, lo, hi)
+  open Loan L using (κ, κ₂, κ₃, κ₄, q, q₂, q₃, q₄, b, o, γ, start, n, lo, hi, st)
 
   abbrev list : GName → List ℕ → RefT (List ℕ)
   list δ ys = record { ptr = (b, o); name = δ; now = ys }
@@ -123,18 +126,21 @@ module _ (L : Loan) (l : ℕ) where
   abbrev pub Highs : Fml
   Highs = ShrSlice (named 2) κ₃ u16 .own hi (sliceVal (hi .ptr) (length (hi .now)) ∷ [])
 
+  abbrev pub States : Fml
+  States = ShrSlice (named 3) κ₄ u16 .own st (sliceVal (st .ptr) (length (st .now)) ∷ [])
+
   abbrev Args : Type 0
-  Args = RefT (List ℕ) × (RefT WriteMark × (Due × (ℕ × (RefT (List ℕ) × (RefT (List ℕ) × Unit {0})))))
+  Args = RefT (List ℕ) × (RefT WriteMark × (Due × (ℕ × (RefT (List ℕ) × (RefT (List ℕ) × (RefT (List ℕ) × Unit {0}))))))
 
   abbrev Lasts : Type 0
-  Lasts = List ℕ × (WriteMark × (Unit {0} × (Unit {0} × (Unit {0} × (Unit {0} × Unit {0})))))
+  Lasts = List ℕ × (WriteMark × (Unit {0} × (Unit {0} × (Unit {0} × (Unit {0} × (Unit {0} × Unit {0}))))))
 
-  abbrev κs : Names → Lfts 4
-  κs N = (N .0 .0 ∷ [], (N .0 .1 ∷ [], (κ₂, (κ₃, tt))))
+  abbrev κs : Names → Lfts 5
+  κs N = (N .0 .0 ∷ [], (N .0 .1 ∷ [], (κ₂, (κ₃, (κ₄, tt)))))
 
   module _ (ys : List ℕ) (mk : WriteMark) (e : Due) where
     abbrev args : Names → Args
-    args N = (list (N .1 .0) ys, (record { ptr = (l, 0); name = N .1 .1; now = mk }, (e, (n, (lo, (hi, tt))))))
+    args N = (list (N .1 .0) ys, (record { ptr = (l, 0); name = N .1 .1; now = mk }, (e, (n, (lo, (hi, (st, tt)))))))
 
     abbrev vals : (N : Names) → Vals move-mark.signature (κs N)
     vals N = (
@@ -145,7 +151,10 @@ module _ (L : Loan) (l : ℕ) where
           EL.vals E.the-type E′.the-laws e,
           (
             vint w16 n ∷ [],
-            (sliceVal (lo .ptr) (length (lo .now)) ∷ [], (sliceVal (hi .ptr) (length (hi .now)) ∷ [], tt)),
+            (
+              sliceVal (lo .ptr) (length (lo .now)) ∷ [],
+              (sliceVal (hi .ptr) (length (hi .now)) ∷ [], (sliceVal (st .ptr) (length (st .now)) ∷ [], tt)),
+            ),
           ),
         ),
       ),
@@ -156,7 +165,7 @@ module _ (L : Loan) (l : ℕ) where
     Lent N = fsep (LentBuffer (N .0 .0) (N .1 .0) ys) (LentMark (N .0 .1) (N .1 .1))
 
     abbrev pub After : List ℕ × WriteMark → Type 0
-    After z = Moved ys mk e n (lo .now) (hi .now) (z .0) (z .1)
+    After z = Moved ys mk e n (lo .now) (hi .now) (st .now) (z .0) (z .1)
 
     -- what is known once both are back
     abbrev pub Ended : Val → List ℕ × WriteMark → Type 0
@@ -168,34 +177,34 @@ module _ (L : Loan) (l : ℕ) where
 
       -- what the call's triple binds outside
       abbrev pub to : Names → mover .Ghost
-      to N = ((κs N, (fullShare, (fullShare, (q₂, (q₃, tt)))), tt, args N, vals N), tt)
+      to N = ((κs N, (fullShare, (fullShare, (q₂, (q₃, (q₄, tt))))), tt, args N, vals N), tt)
 
       -- what goes out to the call, with what is kept; and what comes home
       abbrev Out : Names → Item 𝓤
-      Out N = raw (mover .pre (to N)) ⊛ ‵ (Lent N) ⊛ ‵ Lows ⊛ ‵ Highs
+      Out N = raw (mover .pre (to N)) ⊛ ‵ (Lent N) ⊛ ‵ Lows ⊛ ‵ Highs ⊛ ‵ States
 
       abbrev Home : Val → List ℕ × WriteMark → Item 𝓤
-      Home u z = given (Ended u z) (‵ (Buffer (z .0)) ⊛ ‵ (flft κ q) ⊛ ‵ (Cell (z .1)) ⊛ ‵ (flft κ₂ q₂) ⊛ ‵ (flft κ₃ q₃))
+      Home u z = given (Ended u z) (‵ (Buffer (z .0)) ⊛ ‵ (flft κ q) ⊛ ‵ (Cell (z .1)) ⊛ ‵ (flft κ₂ q₂) ⊛ ‵ (flft κ₃ q₃) ⊛ ‵ (flft κ₄ q₄))
 
       module _ (same : length ys ≡ length start) (n-fits : n < 2 ^ 16) (is-mk : IsMark mk) (is-e : IsDue e)
-          (ok : FormWritable ys mk e n (lo .now) (hi .now)) where
+          (ok : FormWritable ys mk e n (lo .now) (hi .now) (st .now)) where
         abbrev Asked : ℕ → ℕ → GName → GName → List (Item 𝓤)
         Asked ν ν′ δ δ′ =
-            ‵ (flft (ν ∷ []) fullShare) ∷ ‵ (flft (ν′ ∷ []) fullShare) ∷ ‵ (flft κ₂ q₂) ∷ ‵ (flft κ₃ q₃) ∷
-            ‵ (BufferAt ν δ ys s) ∷ ‵ (MarkAt ν′ δ′ mk) ∷ ‵ Lows ∷ ‵ Highs ∷ []
+            ‵ (flft (ν ∷ []) fullShare) ∷ ‵ (flft (ν′ ∷ []) fullShare) ∷ ‵ (flft κ₂ q₂) ∷ ‵ (flft κ₃ q₃) ∷ ‵ (flft κ₄ q₄) ∷
+            ‵ (BufferAt ν δ ys s) ∷ ‵ (MarkAt ν′ δ′ mk) ∷ ‵ Lows ∷ ‵ Highs ∷ ‵ States ∷ []
 
         asks : (ν ν′ : ℕ) (δ δ′ : GName) → ent 𝓤 (⋆ 𝓤 H A (Asked ν ν′ δ δ′)) (mover .pre (to ((ν, ν′), (δ, δ′))))
         asks ν ν′ δ δ′ =
             qed W (Asked ν ν′ δ δ′) ∵ says ! ok $
-            nothing ! $ move ! (4 ∷ 0 ∷ []) $ join ! $ move ! (3 ∷ 0 ∷ []) $ join ! $ move ! (2 ∷ 0 ∷ []) $ join ! $
+            nothing ! $ move ! (5 ∷ 0 ∷ []) $ join ! $ move ! (4 ∷ 0 ∷ []) $ join ! $ move ! (3 ∷ 0 ∷ []) $ join ! $ move ! (2 ∷ 0 ∷ []) $ join ! $
             move ! (1 ∷ 0 ∷ []) $ join ! $
-            frame ! $ nothing ! $ move ! (4 ∷ 0 ∷ []) $ fjoin ! $ move ! (3 ∷ 0 ∷ []) $ fjoin ! $
+            frame ! $ nothing ! $ move ! (5 ∷ 0 ∷ []) $ fjoin ! $ move ! (4 ∷ 0 ∷ []) $ fjoin ! $ move ! (3 ∷ 0 ∷ []) $ fjoin ! $
             owned ! u16 (Is u16) (uint-makes 𝓤 H A W w16) n _ (refl, n-fits) $ fjoin ! $
             owned ! E.the-row (Is E.the-row) (EL.makes E.the-type E′.the-plain 𝓤 H A) e _ is-e $ fjoin ! $ move ! (2 ∷ 0 ∷ []) $ fjoin ! $
             move ! (1 ∷ 0 ∷ []) $ fjoin ! $ done !
 
         abbrev Held : List (Item 𝓤)
-        Held = ‵ (Buffer ys) ∷ ‵ (flft κ q) ∷ ‵ (Cell mk) ∷ ‵ (flft κ₂ q₂) ∷ ‵ (flft κ₃ q₃) ∷ ‵ Lows ∷ ‵ Highs ∷ []
+        Held = ‵ (Buffer ys) ∷ ‵ (flft κ q) ∷ ‵ (Cell mk) ∷ ‵ (flft κ₂ q₂) ∷ ‵ (flft κ₃ q₃) ∷ ‵ (flft κ₄ q₄) ∷ ‵ Lows ∷ ‵ Highs ∷ ‵ States ∷ []
 
         out : ent 𝓤 (⋆ 𝓤 H A Held) (mean 𝓤 H A (later (some Out)))
         unfolding partOf
@@ -214,27 +223,30 @@ module _ (L : Loan) (l : ℕ) where
             fpack ! (List Val) (λ us. fsep (cellAt fullShare (R .mir) us l 0) (R .own mk us)) (LL.vals T.the-type T′.the-laws mk) $
             use1 W (later (some (λ (δ′ : GName). ‵ (MarkAt ν′ δ′ mk) ⊛ ‵ (LentMark ν′ δ′))))
             (lends-ref 𝓤 H A W R (named 1) (ν′ ∷ []) mk l 0) $ await ! tt $ pick ! (λ δ′.
-            split ! $ move ! (8 ∷ []) $ use1 W (‵ Lows ⊛ ‵ Lows) (shr-slice-copy 𝓤 H A W (named 1) κ₂ u16 .twice lo _) $
-            split ! $ move ! (10 ∷ []) $
-            use1 W (‵ Highs ⊛ ‵ Highs) (shr-slice-copy 𝓤 H A W (named 2) κ₃ u16 .twice hi _) $ split ! $
-            -- [highs; highs2; lows; lows2; mark; lent; buffer; again; t1; t0; t2; t3]
+            split ! $ move ! (9 ∷ []) $ use1 W (‵ Lows ⊛ ‵ Lows) (shr-slice-copy 𝓤 H A W (named 1) κ₂ u16 .twice lo _) $
+            split ! $ move ! (11 ∷ []) $
+            use1 W (‵ Highs ⊛ ‵ Highs) (shr-slice-copy 𝓤 H A W (named 2) κ₃ u16 .twice hi _) $ split ! $ move ! (13 ∷ []) $
+            use1 W (‵ States ⊛ ‵ States) (shr-slice-copy 𝓤 H A W (named 3) κ₄ u16 .twice st _) $ split ! $
+            -- [states; states2; highs; highs2; lows; lows2; mark; lent; buffer; again; t1; t0; t2; t3; t4]
             at-once ! $ show ! (λ (N : Names). mean 𝓤 H A (Out N)) ((ν, ν′), (δ, δ′)) $
-            move ! (9 ∷ 8 ∷ 10 ∷ 11 ∷ 6 ∷ 4 ∷ 3 ∷ 1 ∷ []) $ group ! 8 $
-            use1 W (raw (mover .pre (to ((ν, ν′), (δ, δ′))))) (asks ν ν′ δ δ′) $ frame ! $ move ! (3 ∷ 2 ∷ []) $ fjoin ! $ frame ! $
-            move ! (1 ∷ 0 ∷ []) $ done !))))
+            move ! (11 ∷ 10 ∷ 12 ∷ 13 ∷ 14 ∷ 8 ∷ 6 ∷ 5 ∷ 3 ∷ 1 ∷ []) $ group ! 10 $
+            use1 W (raw (mover .pre (to ((ν, ν′), (δ, δ′))))) (asks ν ν′ δ δ′) $ frame ! $ move ! (4 ∷ 3 ∷ []) $ fjoin ! $ frame ! $
+            move ! (2 ∷ 1 ∷ 0 ∷ []) $ done !))))
 
         -- Both are lent, and the call can be made.
         pub lends : {K : Type 0} {Γ : List (Item 𝓤)} {G : Goal 𝓤 H} → K → Soaks G
-            → ((N : Names) → Seq K W (raw (mover .pre (to N)) ∷ ‵ Lows ∷ ‵ Highs ∷ ‵ (Lent N) ∷ Γ) G)
-            → Seq K W (‵ (Buffer ys) ∷ ‵ (flft κ q) ∷ ‵ (Cell mk) ∷ ‵ (flft κ₂ q₂) ∷ ‵ (flft κ₃ q₃) ∷ ‵ Lows ∷ ‵ Highs ∷ Γ) G
+            → ((N : Names) → Seq K W (raw (mover .pre (to N)) ∷ ‵ Lows ∷ ‵ Highs ∷ ‵ States ∷ ‵ (Lent N) ∷ Γ) G)
+            → Seq K W (‵ (Buffer ys) ∷ ‵ (flft κ q) ∷ ‵ (Cell mk) ∷ ‵ (flft κ₂ q₂) ∷ ‵ (flft κ₃ q₃) ∷ ‵ (flft κ₄ q₄) ∷ ‵ Lows ∷ ‵ Highs ∷
+            ‵ States ∷ Γ) G
         lends t soaks k =
-            group t 7 $ use1 W (later (some Out)) out $ await t soaks $ pick t (λ N.
-            split t $ move t (1 ∷ []) $ split t $ move t (1 ∷ []) $ split t $ move t (3 ∷ []) $ k N)
+            group t 9 $ use1 W (later (some Out)) out $ await t soaks $ pick t (λ N.
+            split t $ move t (1 ∷ []) $ split t $ move t (1 ∷ []) $ split t $ move t (1 ∷ []) $ split t $
+            move t (4 ∷ 2 ∷ 0 ∷ 1 ∷ []) $ k N)
 
       module _ (same : length ys ≡ length start) (room : Room u8 (length start)) (N : Names) (u : Val) where
         -- what the call gives: the shares of its lifetimes, and what it ensures
         abbrev Shares : Item 𝓤
-        Shares = ‵ (flft (N .0 .0 ∷ []) fullShare) ⊛ ‵ (flft (N .0 .1 ∷ []) fullShare) ⊛ ‵ (flft κ₂ q₂) ⊛ ‵ (flft κ₃ q₃) ⊛ ‵ ftrue
+        Shares = ‵ (flft (N .0 .0 ∷ []) fullShare) ⊛ ‵ (flft (N .0 .1 ∷ []) fullShare) ⊛ ‵ (flft κ₂ q₂) ⊛ ‵ (flft κ₃ q₃) ⊛ ‵ (flft κ₄ q₄) ⊛ ‵ ftrue
 
         abbrev Ensured : Unit {0} → SProp 𝓤
         Ensured = ensured 𝓤 H A move-mark.ended (move-mark.clauses 𝓤 H A at-mem run) (κs N) (args N) tt
@@ -251,27 +263,29 @@ module _ (L : Loan) (l : ℕ) where
             fsplit ! $ fsplit ! $ move ! (1 ∷ []) $ feqL ! (λ k.
             move ! (1 ∷ []) $ fsplit ! $ move ! (3 ∷ []) $ split ! $ move ! (1 ∷ []) $ feqL ! (λ e₀.
             split ! $ lft-end ! tt $ move ! (1 ∷ []) $ split ! $ lft-end ! tt $ move ! (1 ∷ []) $ split ! $ move ! (1 ∷ []) $ split ! $
-            move ! (8 ∷ []) $ fsplit ! $ move ! (6 ∷ 0 ∷ 9 ∷ []) $
+            move ! (1 ∷ []) $ split ! $ move ! (9 ∷ []) $ fsplit ! $ move ! (7 ∷ 0 ∷ 10 ∷ []) $
             use3 W (later (‵ (BufferOf (ws .0) (sliceVal (b, o) (length ys))) ⊛ ‵ (flft κ q)))
             (comes-back u8 κ (N .0 .0 ∷ []) q γ b o 𝓤 H A W (named 0) (named 0) ys (N .1 .0) (ws .0) (subst (Room u8) (sym same) room) k) $
             await ! tt $ split ! $ rewrite ! 0 (λ (v : Val). ‵ (BufferOf (ws .0) v)) (ap (sliceVal (b, o)) same) refl $
-            move ! (6 ∷ 2 ∷ 7 ∷ []) $ use3 W (later (‵ (mem R .lies (ws .1 .0) l 0)))
+            move ! (7 ∷ 2 ∷ 8 ∷ []) $ use3 W (later (‵ (mem R .lies (ws .1 .0) l 0)))
             (ref-back 𝓤 H A W R (N .0 .1 ∷ []) (N .1 .1) (ws .1 .0) l 0) $
             await ! tt $ fpick ! (λ vs.
             fsplit ! $ spelt ! R (Is R) (shows 𝓤 H A R) (LL.vals T.the-type T′.the-laws) (LL.tells T.the-type T′.the-laws) fullShare
             (ws .1 .0) vs l 0 $
             use1 W (‵ (Cell (ws .1 .0))) (W .laws .raw-at fullShare T′.mir l 0 (mach (ws .1 .0))) $ move ! (1 ∷ []) $
             peeks ! R (Is R) (shows 𝓤 H A R) (ws .1 .0) (LL.vals T.the-type T′.the-laws (ws .1 .0)) (λ is.
-            -- [own; cell; buffer; tok; t3; true; t2; others]
+            -- [own; cell; buffer; tok; t4; true; t3; t2; others]
             at-once ! $ show ! (λ (z : List ℕ × WriteMark). mean 𝓤 H A (Home u z)) (ws .0, ws .1 .0) $
             check ! (ap only e₀, (claim, (k, is))) $
-            keep ! (2 ∷ 3 ∷ 1 ∷ 6 ∷ 4 ∷ []) $ done !)))))))
+            keep ! (2 ∷ 3 ∷ 1 ∷ 7 ∷ 6 ∷ 4 ∷ []) $ done !)))))))
 
         -- The call has returned, and both are back.
         pub takes-back : {K : Type 0} {Γ : List (Item 𝓤)} {G : Goal 𝓤 H} → K → Soaks G
             → ((z : List ℕ × WriteMark) → Ended u z
-            → Seq K W (‵ (flft κ₂ q₂) ∷ ‵ (flft κ₃ q₃) ∷ ‵ (Cell (z .1)) ∷ ‵ (flft κ q) ∷ ‵ (Buffer (z .0)) ∷ ‵ Lows ∷ ‵ Highs ∷ Γ) G)
-            → Seq K W (raw (mover .post (to N) u) ∷ ‵ Lows ∷ ‵ Highs ∷ ‵ (Lent N) ∷ Γ) G
+            → Seq K W (‵ (flft κ₂ q₂) ∷ ‵ (flft κ₃ q₃) ∷ ‵ (flft κ₄ q₄) ∷ ‵ (Cell (z .1)) ∷ ‵ (flft κ q) ∷ ‵ (Buffer (z .0)) ∷
+            ‵ Lows ∷ ‵ Highs ∷ ‵ States ∷ Γ) G)
+            → Seq K W (raw (mover .post (to N) u) ∷ ‵ Lows ∷ ‵ Highs ∷ ‵ States ∷ ‵ (Lent N) ∷ Γ) G
         takes-back t soaks k =
-            move t (0 ∷ 3 ∷ []) $ group t 2 $ use1 W (later (some (Home u))) home $ await t soaks $ pick t (λ z. learn t (λ f.
-            split t $ move t (1 ∷ []) $ split t $ move t (1 ∷ []) $ split t $ move t (1 ∷ []) $ split t $ k z f))
+            move t (0 ∷ 4 ∷ []) $ group t 2 $ use1 W (later (some (Home u))) home $ await t soaks $ pick t (λ z. learn t (λ f.
+            split t $ move t (1 ∷ []) $ split t $ move t (1 ∷ []) $ split t $ move t (1 ∷ []) $ split t $ move t (1 ∷ []) $ split t $
+            move t (2 ∷ 0 ∷ 1 ∷ []) $ k z f))

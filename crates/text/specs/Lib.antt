@@ -7,7 +7,10 @@ pub mod ItemByItem
 pub mod Put
 pub mod Answers
 pub mod Written
+pub mod WrittenOuts
 pub mod Marks
 pub mod Rows
 pub mod Read
+pub mod Outs
+pub mod ReadOuts
 pub mod Tables

@@ -10,7 +10,7 @@ use lib.Seq.{sets, drop-cons}
 use Rattle.definitions.specs.Form.{bytes, word, numeral, decimal, writeForm}
 use Rattle.lists.specs.Stores.{sets-append, sets-last}
 use Rattle.text_theory.specs.Decimal.{decimal-digit, decimal-tens}
-use Rattle.text.specs.Scans.{pairForm}
+use Rattle.text.specs.Scans.{pairForm, numberForm}
 
 -- The buffer before and after: `written` stands at `at`, the rest is as it was; `next` is the offset behind it.
 pub record Put (before : List ℕ) (at : ℕ) (written after : List ℕ) (next : ℕ) : Type 0 where
@@ -51,7 +51,7 @@ pub put-rest : (before written after rest : List ℕ) (at next : ℕ) → Put be
     → sets before at (written ++ rest) ≡ sets after next rest
 put-rest before written after rest at next put = rw (put .bytes, put .ends) (sets-append written rest before at)
 
--- A word with a number, and a line of two numbers, as they are written.
+-- A word with a number, and lines of one and of two numbers, as they are written.
 pub word-number-written : (w : List ℕ) (x : ℕ) → writeForm (word w ∷ numeral ∷ []) (x ∷ []) ≡ w ++ decimal x
 unfolding writeForm
 word-number-written w x = rw (append-nil (decimal x))
@@ -66,6 +66,11 @@ pub pair-written : (front middle back : List ℕ) (a b : ℕ)
 unfolding writeForm
 pair-written front middle back a b = simp (append-nil, append-assoc)
 
+pub number-written : (front back : List ℕ) (x : ℕ)
+    → writeForm (numberForm front back) (x ∷ []) ≡ writeForm (word front ∷ numeral ∷ []) (x ∷ []) ++ back
+unfolding writeForm
+number-written front back x = simp (append-nil, append-assoc)
+
 pub length-word-number : (w : List ℕ) (x : ℕ)
     → length (writeForm (word w ∷ numeral ∷ []) (x ∷ [])) ≡ length w + length (decimal x)
 length-word-number w x = ap length (word-number-written w x) ∙ length-append w (decimal x)
@@ -75,3 +80,8 @@ pub length-pair : (front middle back : List ℕ) (a b : ℕ)
     ≡ length (writeForm (word front ∷ numeral ∷ []) (a ∷ []))
     + (length (writeForm (word middle ∷ numeral ∷ []) (b ∷ [])) + length back)
 length-pair front middle back a b = ap length (pair-written front middle back a b) ∙ simp length-append
+
+pub length-number : (front back : List ℕ) (x : ℕ)
+    → length (writeForm (numberForm front back) (x ∷ []))
+    ≡ length (writeForm (word front ∷ numeral ∷ []) (x ∷ [])) + length back
+length-number front back x = ap length (number-written front back x) ∙ simp length-append

@@ -10,7 +10,7 @@ use borrow.Author.Tests.{lt-ltb, le-ltb}
 use Rattle.definitions.specs.Outcome.{Outcome, refused, done, refuseIf}
 use Rattle.definitions.specs.Network.{linkFault}
 use Rattle.definitions.specs.Form.{departs, reads, scanForm, onScan}
-use Rattle.definitions.specs.Text.{linkForm, endForm, Network, readEnd, readLinks}
+use Rattle.definitions.specs.Text.{linkForm, endForm, Network, allStates, readEnd, readOuts, readLinks}
 use Rattle.network.specs.Answers.{refusalOf}
 use Rattle.network.specs.Seen.{faultOf, LinkChecked, Seen, seen-fault, seen-snoc}
 use Rattle.network.specs.declared.LinkCheck.{LinkCheck}
@@ -40,17 +40,17 @@ module _ (text : List ℕ) (n : ℕ) (lows highs : List ℕ) (at count : ℕ) wh
   link-fine a b p e f = rw (e, f)
 
 -- An end line that departs, one with something after it, and one at the end of the text.
-module _ (text : List ℕ) (n : ℕ) (lows highs : List ℕ) (at p : ℕ) where
-  pub end-departs : scanForm text endForm at ≡ departs p → readEnd text n lows highs at ≡ refused 2 p
+module _ (text : List ℕ) (n : ℕ) (lows highs states : List ℕ) (at p : ℕ) where
+  pub end-departs : scanForm text endForm at ≡ departs p → readEnd text n lows highs states at ≡ refused 2 p
   unfolding readEnd onScan
   end-departs e = rw e
 
-  pub end-more : (values : List ℕ) → scanForm text endForm at ≡ reads values p → p < length text → readEnd text n lows highs at ≡ refused 2 p
+  pub end-more : (values : List ℕ) → scanForm text endForm at ≡ reads values p → p < length text → readEnd text n lows highs states at ≡ refused 2 p
   unfolding readEnd onScan refuseIf
   end-more values e h = rw (e, lt-ltb p (length text) h)
 
   pub end-done : (values : List ℕ) → scanForm text endForm at ≡ reads values p → length text ≤ p
-      → readEnd text n lows highs at ≡ done (record { relays = n; lows = lows; highs = highs })
+      → readEnd text n lows highs states at ≡ done (record { relays = n; lows = lows; highs = highs; states = allStates n states })
   unfolding readEnd onScan refuseIf
   end-done values e h = rw (e, le-ltb p (length text) h)
 
@@ -148,7 +148,7 @@ module _ (text : List ℕ) (n i at : ℕ) (lows highs lowsThen highsThen bits : 
 
 -- No link line is left.
 pub links-over : (text : List ℕ) (n i m p : ℕ) (lows highs : List ℕ) → i ≤ m → m ≤ i
-    → readLinks text n (take i lows) (take i highs) p (m - i) ≡ readEnd text n (take m lows) (take m highs) p
+    → readLinks text n (take i lows) (take i highs) p (m - i) ≡ readOuts text n (take m lows) (take m highs) [] p (suc n)
 unfolding readLinks
 links-over text n i m p lows highs h k =
     let e : i ≡ m = omega arith in

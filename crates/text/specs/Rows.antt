@@ -1,11 +1,11 @@
--- What reading a link line, all of them, and the end promise, in the terms of the definitions.
+-- What reading a link line, all of them, and the end promise, in the terms of the definitions, and lists with zeros behind.
 -- Assumes nothing.
 use Prim.Native.Nat.{ℕ, suc, _+_, _-_}
 use mathlib.Core.List.{List, [], _++_}
 use mathlib.Core.Path.{_≡_}
 use lib.ListN.{length, take, replicate}
 use Rattle.definitions.specs.Outcome.{Outcome, done}
-use Rattle.definitions.specs.Text.{readEnd, readLinks}
+use Rattle.definitions.specs.Text.{allStates, readEnd, readOuts, readLinks}
 use Rattle.network.specs.Answers.{refusalOf}
 use Rattle.network.specs.Seen.{Seen}
 use Rattle.text.specs.declared.rows.Step.{Step}
@@ -29,17 +29,24 @@ pub record LinkRead (text : List ℕ) (n i at : ℕ) (lows highs lowsThen highsT
   pub sameLows : length lowsThen ≡ length lows
   pub sameHighs : length highsThen ≡ length highs
 
--- All link lines: only the end is left.
+-- All link lines: only the states and the end are left.
 pub record LinksRead (text : List ℕ) (n m at : ℕ) (lows highs lowsThen highsThen : List ℕ) (r : Step) : Type 0 where
-  pub follows : readLinks text n [] [] at m ≡ onStep r (readEnd text n (take m lowsThen) (take m highsThen))
+  pub follows : readLinks text n [] [] at m
+      ≡ onStep r (λ p. readOuts text n (take m lowsThen) (take m highsThen) [] p (suc n))
   pub sameLows : length lowsThen ≡ length lows
   pub sameHighs : length highsThen ≡ length highs
 
 -- The end: the network stands.
 pub record EndRead (text : List ℕ) (at : ℕ) (r : Step) : Type 0 where
-  pub follows : (n : ℕ) (lows highs : List ℕ)
-      → readEnd text n lows highs at ≡ onStep r (λ _. done (record { relays = n; lows = lows; highs = highs }))
+  pub follows : (n : ℕ) (lows highs states : List ℕ) → readEnd text n lows highs states at
+      ≡ onStep r (λ _. done (record { relays = n; lows = lows; highs = highs; states = allStates n states }))
 
 -- The list with zeros from an index on.
 unfoldable pub clearedFrom : ℕ → List ℕ → List ℕ
 clearedFrom from list = take from list ++ replicate (length list - from) 0
+
+-- Three lists with zeros behind what stands of a table: the links in the first two, the states in the third.
+pub record Cleared (links relays : ℕ) (lows highs states lowsThen highsThen statesThen : List ℕ) : Type 0 where
+  pub lowList : lowsThen ≡ clearedFrom links lows
+  pub highList : highsThen ≡ clearedFrom links highs
+  pub stateList : statesThen ≡ clearedFrom relays states

@@ -14,6 +14,10 @@ use Rattle.text.specs.declared.scan.PairScan.the-variants as pairs
 abbrev pub pairForm : List ℕ → List ℕ → List ℕ → List Item
 pairForm front middle back = word front ∷ numeral ∷ word middle ∷ numeral ∷ word back ∷ []
 
+-- The form of a line of one number.
+abbrev pub numberForm : List ℕ → List ℕ → List Item
+numberForm front back = word front ∷ numeral ∷ word back ∷ []
+
 -- A word gives no number.
 abbrev pub wordGives : WordScan → Scan
 wordGives (words.Departs p) = departs p

@@ -35,17 +35,17 @@ pub length-links-step : (lows highs : List ℕ) (i m : ℕ) → i < m
 length-links-step lows highs i m h = ap length (links-step lows highs i m h) ∙ simp length-append
 
 -- Write's answer and its buffer afterwards.
-module _ (n : ℕ) (lows highs buffer : List ℕ) where
-  pub write-refused : (refusal : Refusal) → tableCheck n lows highs ≡ refusalOf refusal
-      → (writeAnswer n lows highs buffer ≡ refusalOf refusal) × (bufferAfter n lows highs buffer ≡ buffer)
+module _ (n : ℕ) (lows highs states buffer : List ℕ) where
+  pub write-refused : (refusal : Refusal) → tableCheck n lows highs states ≡ refusalOf refusal
+      → (writeAnswer n lows highs states buffer ≡ refusalOf refusal) × (bufferAfter n lows highs states buffer ≡ buffer)
   unfolding writeAnswer bufferAfter
   write-refused refusal e =
       (rw e (refusal-then refusal _), rw (e, refusal-then {A = List ℕ} {B = List ℕ} refusal _) (refusal-keeps (List ℕ) refusal _ _))
 
   -- A whole text, as the stores that write it.
-  pub write-stored : Accepted n lows highs → length (textOf n lows highs) ≤ length buffer
-      → (writeAnswer n lows highs buffer ≡ done (length (textOf n lows highs) ∷ []))
-      × (bufferAfter n lows highs buffer ≡ sets buffer 0 (textOf n lows highs))
+  pub write-stored : Accepted n lows highs states → length (textOf n lows highs states) ≤ length buffer
+      → (writeAnswer n lows highs states buffer ≡ done (length (textOf n lows highs states) ∷ []))
+      × (bufferAfter n lows highs states buffer ≡ sets buffer 0 (textOf n lows highs states))
   write-stored check room =
-      let (answer, bytes) = write-done n lows highs buffer check room in
-      (answer, bytes ∙ sym (sets-overwrite (textOf n lows highs) buffer room))
+      let (answer, bytes) = write-done n lows highs states buffer check room in
+      (answer, bytes ∙ sym (sets-overwrite (textOf n lows highs states) buffer room))

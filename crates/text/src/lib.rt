@@ -9,6 +9,7 @@ ghost use Rattle.definitions.specs.Text.{
   readAnswer,
   lowsAfter,
   highsAfter,
+  statesAfter,
   textOf,
   writeAnswer,
   bufferAfter,
@@ -16,9 +17,11 @@ ghost use Rattle.definitions.specs.Text.{
 ghost use Rattle.text.specs.Answers.{readOutcome, writeOutcome};
 ghost use Rattle.text.specs.Marks.{Writable};
 ghost use Rattle.text.specs.Put.{Put};
+ghost use Rattle.text.specs.Rows.{Cleared};
 ghost use Rattle.text.specs.Tables.{afterHeader, TableRead};
 
 mod mark;
+mod outs;
 pub mod put;
 mod rows;
 pub mod scan;
@@ -42,11 +45,11 @@ pub enum WriteAnswer {
 }
 
 // The length of a table's text: the words of a header line have 25 bytes, those of a link line 9, and the end line has 6.
-fn text_length(n: u16, lows: &[u16], highs: &[u16]) -> usize
-    requires { ⌜ (length (now lows) ≡ length (now highs)) × (length (now lows) ≤ 3000) ⌝ }
-    ensures { λ r. ⌜ r ≡ length (textOf n (now (lows .entry)) (now (highs .entry))) ⌝ }
+fn text_length(n: u16, lows: &[u16], highs: &[u16], states: &[u16]) -> usize
+    requires { ⌜ (length (now lows) ≡ length (now highs)) × (length (now lows) ≤ 3000) × (length (now states) ≤ 1000) ⌝ }
+    ensures { λ r. ⌜ r ≡ length (textOf n (now (lows .entry)) (now (highs .entry)) (now (states .entry))) ⌝ }
 {
-    let mut total = put::pair_length(25, n as usize, lows.len()) + 6;
+    let mut total = put::pair_length(25, n as usize, lows.len()) + 6 + put::outs_length(states);
     let mut i: usize = 0;
     while i < lows.len() {
         let low = lows[i] as usize;
@@ -58,37 +61,41 @@ fn text_length(n: u16, lows: &[u16], highs: &[u16]) -> usize
 }
 
 // The whole text of a table, from the buffer's first byte on: one write mark moves over it, form by form.
-fn put_text(buffer: &mut [u8], n: u16, lows: &[u16], highs: &[u16]) -> usize
-    requires { ⌜ Writable n (now lows) (now highs) (now buffer) ⌝ }
-    ensures { λ r. ⌜ Put (now (buffer .entry)) 0 (textOf n (now (lows .entry)) (now (highs .entry))) (now (buffer .exit)) r ⌝ }
+fn put_text(buffer: &mut [u8], n: u16, lows: &[u16], highs: &[u16], states: &[u16]) -> usize
+    requires { ⌜ Writable n (now lows) (now highs) (now states) (now buffer) ⌝ }
+    ensures { λ r. ⌜ Put (now (buffer .entry)) 0 (textOf n (now (lows .entry)) (now (highs .entry)) (now (states .entry)))
+        (now (buffer .exit)) r ⌝ }
 {
     let mut mark = WriteMark { next: 0, links: 0 };
-    put::move_mark(buffer, &mut mark, Due::Header, n, lows, highs);
+    put::move_mark(buffer, &mut mark, Due::Header, n, lows, highs, states);
     while mark.links < lows.len() {
-        put::move_mark(buffer, &mut mark, Due::Link, n, lows, highs);
+        put::move_mark(buffer, &mut mark, Due::Link, n, lows, highs, states);
     }
-    put::move_mark(buffer, &mut mark, Due::End, n, lows, highs);
+    put::move_mark(buffer, &mut mark, Due::Out, n, lows, highs, states);
+    put::move_mark(buffer, &mut mark, Due::End, n, lows, highs, states);
     mark.next
 }
 
 // Writes the text of a table into the buffer.
-pub fn write(n: u16, lows: &[u16], highs: &[u16], buffer: &mut [u8]) -> WriteAnswer
-    ensures answer { λ r. ⌜ writeOutcome r ≡ writeAnswer n (now (lows .entry)) (now (highs .entry)) (now (buffer .entry)) ⌝ }
-    ensures bytes { λ r. ⌜ now (buffer .exit) ≡ bufferAfter n (now (lows .entry)) (now (highs .entry)) (now (buffer .entry)) ⌝ }
+pub fn write(n: u16, lows: &[u16], highs: &[u16], states: &[u16], buffer: &mut [u8]) -> WriteAnswer
+    ensures answer { λ r. ⌜ writeOutcome r ≡ writeAnswer n (now (lows .entry)) (now (highs .entry)) (now (states .entry))
+        (now (buffer .entry)) ⌝ }
+    ensures bytes { λ r. ⌜ now (buffer .exit) ≡ bufferAfter n (now (lows .entry)) (now (highs .entry)) (now (states .entry))
+        (now (buffer .entry)) ⌝ }
 {
-    match network::table_check(n, lows, highs) {
+    match network::table_check(n, lows, highs, states) {
         network::Check::Refused(refusal) => WriteAnswer::Refused(refusal),
         network::Check::Accepted => {
-            let size = text_length(n, lows, highs);
+            let size = text_length(n, lows, highs, states);
             if buffer.len() < size {
                 return WriteAnswer::Refused(Refusal::Room);
             }
-            WriteAnswer::Length(put_text(buffer, n, lows, highs))
+            WriteAnswer::Length(put_text(buffer, n, lows, highs, states))
         }
     }
 }
 
-// The link lines and the end, for a header within the limits.
+// The link lines, the states and the end, for a header within the limits.
 fn read_lines(
     text: &[u8],
     n: u16,
@@ -96,14 +103,15 @@ fn read_lines(
     at: usize,
     lows: &mut [u16],
     highs: &mut [u16],
+    states: &mut [u16],
 ) -> ReadAnswer
-    requires { ⌜ (n ≤ 1000) × (m ≤ length (now lows)) × (m ≤ length (now highs)) ⌝ }
+    requires { ⌜ (n ≤ 1000) × (m ≤ length (now lows)) × (m ≤ length (now highs)) × (n ≤ length (now states)) ⌝ }
     ensures { λ r. ⌜ TableRead (readLinks (now (text .entry)) n [] [] at m) (now (lows .entry)) (now (highs .entry))
-        (now (lows .exit)) (now (highs .exit)) r ⌝ }
+        (now (states .entry)) (now (lows .exit)) (now (highs .exit)) (now (states .exit)) r ⌝ }
 {
     match rows::read_all_links(text, n, m as usize, at, lows, highs) {
         Step::Refused(refusal) => ReadAnswer::Refused(refusal),
-        Step::Next(p) => match rows::read_end(text, p) {
+        Step::Next(p) => match outs::read_states(text, n, p, states) {
             Step::Refused(refusal) => ReadAnswer::Refused(refusal),
             Step::Next(_) => ReadAnswer::Table(n, m),
         },
@@ -118,9 +126,11 @@ fn read_rows(
     at: usize,
     lows: &mut [u16],
     highs: &mut [u16],
+    states: &mut [u16],
 ) -> ReadAnswer
-    ensures { λ r. ⌜ TableRead (afterHeader (now (text .entry)) n m at (length (now (lows .entry))) (length (now (highs .entry))))
-        (now (lows .entry)) (now (highs .entry)) (now (lows .exit)) (now (highs .exit)) r ⌝ }
+    ensures { λ r. ⌜ TableRead (afterHeader (now (text .entry)) n m at (length (now (lows .entry))) (length (now (highs .entry)))
+        (length (now (states .entry)))) (now (lows .entry)) (now (highs .entry)) (now (states .entry)) (now (lows .exit))
+        (now (highs .exit)) (now (states .exit)) r ⌝ }
 {
     if n < 1 {
         return ReadAnswer::Refused(Refusal::RelayCount);
@@ -138,35 +148,58 @@ fn read_rows(
     if highs.len() < size {
         return ReadAnswer::Refused(Refusal::TableRoom);
     }
-    read_lines(text, n, m, at, lows, highs)
+    if states.len() < n as usize {
+        return ReadAnswer::Refused(Refusal::TableRoom);
+    }
+    read_lines(text, n, m, at, lows, highs, states)
 }
 
-// A text into the front of the two lists; what is behind the links read is left as it falls.
-fn read_table(text: &[u8], lows: &mut [u16], highs: &mut [u16]) -> ReadAnswer
-    ensures { λ r. ⌜ TableRead (readNetwork (now (text .entry)) (length (now (lows .entry))) (length (now (highs .entry))))
-        (now (lows .entry)) (now (highs .entry)) (now (lows .exit)) (now (highs .exit)) r ⌝ }
+// A text into the front of the three lists; what is behind the links and states read is left as it falls.
+fn read_table(text: &[u8], lows: &mut [u16], highs: &mut [u16], states: &mut [u16]) -> ReadAnswer
+    ensures { λ r. ⌜ TableRead (readNetwork (now (text .entry)) (length (now (lows .entry))) (length (now (highs .entry)))
+        (length (now (states .entry)))) (now (lows .entry)) (now (highs .entry)) (now (states .entry)) (now (lows .exit))
+        (now (highs .exit)) (now (states .exit)) r ⌝ }
 {
     match mark::form_at(text, 0, Due::Header) {
         PairScan::Departs(p) => ReadAnswer::Refused(Refusal::Form(p)),
-        PairScan::Reads(n, m, p) => read_rows(text, n, m, p, lows, highs),
+        PairScan::Reads(n, m, p) => read_rows(text, n, m, p, lows, highs, states),
     }
 }
 
-// Reads a text into a table.
-pub fn read(text: &[u8], lows: &mut [u16], highs: &mut [u16]) -> ReadAnswer
-    ensures answer { λ r. ⌜ readOutcome r ≡ readAnswer (now (text .entry)) (now (lows .entry)) (now (highs .entry)) ⌝ }
-    ensures lowList { λ r. ⌜ now (lows .exit) ≡ lowsAfter (now (text .entry)) (now (lows .entry)) (now (highs .entry)) ⌝ }
-    ensures highList { λ r. ⌜ now (highs .exit) ≡ highsAfter (now (text .entry)) (now (lows .entry)) (now (highs .entry)) ⌝ }
+// Zeros behind what stands of a table: the links in the first two lists, the states in the third.
+fn clear_behind(
+    links: usize,
+    relays: usize,
+    lows: &mut [u16],
+    highs: &mut [u16],
+    states: &mut [u16],
+)
+    ensures { λ _. ⌜ Cleared links relays (now (lows .entry)) (now (highs .entry)) (now (states .entry)) (now (lows .exit))
+        (now (highs .exit)) (now (states .exit)) ⌝ }
 {
-    match read_table(text, lows, highs) {
+    rows::clear_from(lows, links);
+    rows::clear_from(highs, links);
+    rows::clear_from(states, relays);
+}
+
+// Reads a text into a table.
+pub fn read(text: &[u8], lows: &mut [u16], highs: &mut [u16], states: &mut [u16]) -> ReadAnswer
+    ensures answer { λ r. ⌜ readOutcome r ≡ readAnswer (now (text .entry)) (now (lows .entry)) (now (highs .entry))
+        (now (states .entry)) ⌝ }
+    ensures lowList { λ r. ⌜ now (lows .exit) ≡ lowsAfter (now (text .entry)) (now (lows .entry)) (now (highs .entry))
+        (now (states .entry)) ⌝ }
+    ensures highList { λ r. ⌜ now (highs .exit) ≡ highsAfter (now (text .entry)) (now (lows .entry)) (now (highs .entry))
+        (now (states .entry)) ⌝ }
+    ensures stateList { λ r. ⌜ now (states .exit) ≡ statesAfter (now (text .entry)) (now (lows .entry)) (now (highs .entry))
+        (now (states .entry)) ⌝ }
+{
+    match read_table(text, lows, highs, states) {
         ReadAnswer::Refused(refusal) => {
-            rows::clear_from(lows, 0);
-            rows::clear_from(highs, 0);
+            clear_behind(0, 0, lows, highs, states);
             ReadAnswer::Refused(refusal)
         }
         ReadAnswer::Table(n, m) => {
-            rows::clear_from(lows, m as usize);
-            rows::clear_from(highs, m as usize);
+            clear_behind(m as usize, n as usize, lows, highs, states);
             ReadAnswer::Table(n, m)
         }
     }

@@ -6,7 +6,7 @@ ghost use mathlib.Core.Path.{_≡_};
 ghost use Prim.Native.Nat.{_+_, _≤_, _<_};
 ghost use lib.ListN.{length, getD};
 ghost use Rattle.definitions.specs.Form.{word, numeral, decimal, writeForm};
-ghost use Rattle.definitions.specs.Text.{endForm};
+ghost use Rattle.definitions.specs.Text.{headerForm, endForm, outLine, outLines};
 ghost use Rattle.text.specs.Marks.{FormWritable, Moved};
 ghost use Rattle.text.specs.Put.{Put};
 ghost use Rattle.text.specs.Scans.{pairForm};
@@ -92,6 +92,41 @@ pub fn put_pair(
     put_word(buffer, q, back)
 }
 
+// The header line, with the number of relays and of links.
+fn put_header(buffer: &mut [u8], at: usize, n: usize, m: usize) -> usize
+    requires { ⌜ at + length (writeForm headerForm (n ∷ m ∷ [])) ≤ length (now buffer) ⌝ }
+    ensures { λ r. ⌜ Put (now (buffer .entry)) at (writeForm headerForm (n ∷ m ∷ [])) (now (buffer .exit)) r ⌝ }
+{
+    put_pair(buffer, at, b"(net (relays ", n, b") (links ", m, b"))\n")
+}
+
+// The `out` line of a relay by its state: none where it is in service.
+fn put_out(buffer: &mut [u8], at: usize, state: u16, relay: usize) -> usize
+    requires { ⌜ at + length (outLine state relay) ≤ length (now buffer) ⌝ }
+    ensures { λ r. ⌜ Put (now (buffer .entry)) at (outLine state relay) (now (buffer .exit)) r ⌝ }
+{
+    if state != 0 {
+        return at;
+    }
+    let p = put_word_number(buffer, at, b"(out ", relay);
+    put_word(buffer, p, b")\n")
+}
+
+// The `out` lines of all relays that are withdrawn.
+fn put_outs(buffer: &mut [u8], at: usize, states: &[u16]) -> usize
+    requires { ⌜ at + length (outLines (now states) 0 (length (now states))) ≤ length (now buffer) ⌝ }
+    ensures { λ r. ⌜ Put (now (buffer .entry)) at (outLines (now (states .entry)) 0 (length (now (states .entry))))
+        (now (buffer .exit)) r ⌝ }
+{
+    let mut p = at;
+    let mut relay: usize = 0;
+    while relay < states.len() {
+        p = put_out(buffer, p, states[relay], relay);
+        relay += 1;
+    }
+    p
+}
+
 // `(end)` and its line end.
 pub fn put_end(buffer: &mut [u8], at: usize) -> usize
     requires { ⌜ at + length (writeForm endForm []) ≤ length (now buffer) ⌝ }
@@ -106,6 +141,31 @@ pub(crate) fn pair_length(words: usize, a: usize, b: usize) -> usize
     ensures { λ r. ⌜ (r ≡ words + length (decimal a) + length (decimal b)) × (r ≤ words + 10) ⌝ }
 {
     words + width(a) + width(b)
+}
+
+// The length of a relay's `out` line by its state: its words have 7 bytes.
+fn out_length(state: u16, relay: usize) -> usize
+    requires { ⌜ relay < 1000 ⌝ }
+    ensures { λ r. ⌜ (r ≡ length (outLine state relay)) × (r ≤ 10) ⌝ }
+{
+    if state != 0 {
+        return 0;
+    }
+    7 + width(relay)
+}
+
+// The length of all `out` lines.
+pub(crate) fn outs_length(states: &[u16]) -> usize
+    requires { ⌜ length (now states) ≤ 1000 ⌝ }
+    ensures { λ r. ⌜ (r ≡ length (outLines (now (states .entry)) 0 (length (now (states .entry))))) × (r ≤ 10000) ⌝ }
+{
+    let mut total: usize = 0;
+    let mut relay: usize = 0;
+    while relay < states.len() {
+        total += out_length(states[relay], relay);
+        relay += 1;
+    }
+    total
 }
 
 // An entry of a list.
@@ -124,21 +184,15 @@ fn put_form(
     n: u16,
     lows: &[u16],
     highs: &[u16],
+    states: &[u16],
 ) -> WriteMark
-    requires { ⌜ FormWritable (now buffer) mark due n (now lows) (now highs) ⌝ }
-    ensures { λ r. ⌜ Moved (now (buffer .entry)) mark due n (now (lows .entry)) (now (highs .entry)) (now (buffer .exit)) r ⌝ }
+    requires { ⌜ FormWritable (now buffer) mark due n (now lows) (now highs) (now states) ⌝ }
+    ensures { λ r. ⌜ Moved (now (buffer .entry)) mark due n (now (lows .entry)) (now (highs .entry)) (now (states .entry))
+        (now (buffer .exit)) r ⌝ }
 {
     match due {
         Due::Header => WriteMark {
-            next: put_pair(
-                buffer,
-                mark.next,
-                b"(net (relays ",
-                n as usize,
-                b") (links ",
-                lows.len(),
-                b"))\n",
-            ),
+            next: put_header(buffer, mark.next, n as usize, lows.len()),
             links: mark.links,
         },
         Due::Link => {
@@ -150,6 +204,10 @@ fn put_form(
                 links: links,
             }
         }
+        Due::Out => WriteMark {
+            next: put_outs(buffer, mark.next, states),
+            links: mark.links,
+        },
         Due::End => WriteMark {
             next: put_end(buffer, mark.next),
             links: mark.links,
@@ -165,10 +223,11 @@ pub(crate) fn move_mark(
     n: u16,
     lows: &[u16],
     highs: &[u16],
+    states: &[u16],
 )
-    requires { ⌜ FormWritable (now buffer) (now mark) due n (now lows) (now highs) ⌝ }
+    requires { ⌜ FormWritable (now buffer) (now mark) due n (now lows) (now highs) (now states) ⌝ }
     ensures { λ _. ⌜ Moved (now (buffer .entry)) (now (mark .entry)) due n (now (lows .entry)) (now (highs .entry))
-        (now (buffer .exit)) (now (mark .exit)) ⌝ }
+        (now (states .entry)) (now (buffer .exit)) (now (mark .exit)) ⌝ }
 {
-    *mark = put_form(buffer, *mark, due, n, lows, highs);
+    *mark = put_form(buffer, *mark, due, n, lows, highs, states);
 }

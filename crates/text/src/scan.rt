@@ -5,10 +5,10 @@ ghost use mathlib.Core.List.{[], _∷_};
 ghost use mathlib.Core.Path.{_≡_};
 ghost use Prim.Native.Nat.{_≤_};
 ghost use lib.ListN.{length};
-ghost use Rattle.definitions.specs.Form.{byteAt, word, numeral, scanWord, scanDigits, scanNumber, scanForm};
+ghost use Rattle.definitions.specs.Form.{byteAt, word, numeral, reads, scanWord, scanDigits, scanNumber, following, scanForm};
 ghost use Rattle.text_theory.specs.Forms.{noZero};
 ghost use Rattle.text.specs.DueForms.{formOf, asPair};
-ghost use Rattle.text.specs.Scans.{pairForm, wordGives, numberGives, pairGives};
+ghost use Rattle.text.specs.Scans.{pairForm, numberForm, wordGives, numberGives, pairGives};
 
 // A word: the offset of the first byte that departs, or the offset behind it.
 pub enum WordScan {
@@ -28,10 +28,11 @@ pub enum PairScan {
     Reads(u16, u16, usize),
 }
 
-// Which form of a network's text is due.
+// Which form of a network's text is due. `out` lines are due one by one in the reader, all at once in the writer.
 pub(crate) enum Due {
     Header,
     Link,
+    Out,
     End,
 }
 
@@ -134,13 +135,30 @@ pub fn pair_line(text: &[u8], front: &[u8], middle: &[u8], back: &[u8], at: usiz
     }
 }
 
-// The form that is due; the end has no number, and gives 0 for each.
+// A line of one number, which gives 0 for a second.
+fn number_line(text: &[u8], front: &[u8], back: &[u8], at: usize) -> PairScan
+    requires { ⌜ noZero (now front) ≡ true ⌝ }
+    requires { ⌜ noZero (now back) ≡ true ⌝ }
+    ensures { λ r. ⌜ pairGives r ≡ following (scanForm (now (text .entry))
+        (numberForm (now (front .entry)) (now (back .entry))) at) (reads (0 ∷ [])) ⌝ }
+{
+    match word_number(text, front, at) {
+        NumberScan::Departs(p) => PairScan::Departs(p),
+        NumberScan::Reads(x, p) => match word(text, back, p) {
+            WordScan::Departs(q) => PairScan::Departs(q),
+            WordScan::Reads(q) => PairScan::Reads(x, 0, q),
+        },
+    }
+}
+
+// The form that is due; an `out` line has one number, and the end none: 0 stands for each that is not there.
 pub(crate) fn form_line(text: &[u8], at: usize, due: Due) -> PairScan
     ensures { λ r. ⌜ pairGives r ≡ asPair due (scanForm (now (text .entry)) (formOf due) at) ⌝ }
 {
     match due {
         Due::Header => pair_line(text, b"(net (relays ", b") (links ", b"))\n", at),
         Due::Link => pair_line(text, b"(link ", b" ", b")\n", at),
+        Due::Out => number_line(text, b"(out ", b")\n", at),
         Due::End => match word(text, b"(end)\n", at) {
             WordScan::Departs(p) => PairScan::Departs(p),
             WordScan::Reads(p) => PairScan::Reads(0, 0, p),

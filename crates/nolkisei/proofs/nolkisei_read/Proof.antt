@@ -1,4 +1,4 @@
--- `nolkisei::nolkisei_read` meets its contract: Read's answer is reported, and both lists are as Read leaves them. Assumes nothing.
+-- `nolkisei::nolkisei_read` meets its contract: Read's answer is reported, and the three lists are as Read leaves them. Assumes nothing.
 use mathlib.Core.Path.{sym, ap, _∙_}
 use borrow.Author.Needs.{needs}
 use Rattle.text.specs.Answers.{readOutcome}
@@ -33,20 +33,26 @@ same-length c = search needs
 same-length-2 : tie.Need-same-length-2
 same-length-2 c = search needs
 
-returns : tie.Need-returns
-returns c =
-    let said = c .before .before .before .before .before .before .before .before .before .read .ensures in
-    (ap reported (sym (said .0) ∙ ap readOutcome (c .before .before .before .n .given .1)) ∙ c .give .ensures, said .1)
-
 same-length-3 : tie.Need-same-length-3
 same-length-3 c = search needs
+
+returns : tie.Need-returns
+returns c =
+    let said = c .before .before .before .before .before .before .before .before .before .before .before .read .ensures in
+    (ap reported (sym (said .0) ∙ ap readOutcome (c .before .before .before .n .given .1)) ∙ c .give .ensures, said .1)
 
 same-length-4 : tie.Need-same-length-4
 same-length-4 c = search needs
 
+same-length-5 : tie.Need-same-length-5
+same-length-5 c = search needs
+
+same-length-6 : tie.Need-same-length-6
+same-length-6 c = search needs
+
 returns-2 : tie.Need-returns-2
 returns-2 c =
-    let said = c .before .before .before .before .before .before .before .before .before .read .ensures in
+    let said = c .before .before .before .before .before .before .before .before .before .before .before .read .ensures in
     (ap reported (sym (said .0) ∙ ap readOutcome (c .before .before .before .refusal .given .1)) ∙ c .refuse .ensures, said .1)
 
 pub nolkisei-read-spec : {M : Type 1} → statement M
@@ -62,7 +68,9 @@ nolkisei-read-spec =
     refuse-requires
     same-length
     same-length-2
-    returns
     same-length-3
+    returns
     same-length-4
+    same-length-5
+    same-length-6
     returns-2)

@@ -1,7 +1,8 @@
--- `text::read_lines` meets its contract: a refused link line, a refused end, or a whole table. Assumes nothing.
+-- `text::read_lines` meets its contract: a refused link line, refused states or end, or a whole table. Assumes nothing.
 use native.Mathlib.Omega.{arith}
 use borrow.Author.Needs.{needs}
-use Rattle.text.specs.Tables.{links-refused, end-refused, table-whole}
+use denote.Ref.{now}
+use Rattle.text.specs.Tables.{links-refused, states-refused, table-whole}
 use Rattle.text.proofs.read_lines.Statement.{statement}
 use Rattle.text.proofs.read_lines.Tie as tie
 
@@ -14,8 +15,8 @@ enum-known-refusal c = search needs
 enum-known-p : tie.Need-enum-known-p
 enum-known-p c = search needs
 
-read-end-requires : tie.Need-read-end-requires
-read-end-requires c κs = search needs
+read-states-requires : tie.Need-read-states-requires
+read-states-requires c κs = search needs
 
 enum-known-refusal-2 : tie.Need-enum-known-refusal-2
 enum-known-refusal-2 c = search needs
@@ -31,8 +32,8 @@ same-length-2 c = search needs
 
 returns : tie.Need-returns
 returns c =
-    let atReadAllLinks = c .before .before .before .before .before .before .before in
-    links-refused _ _ _ _ _ _ _ _ _ (atReadAllLinks .read-all-links .ensures) _ (c .before .refusal .given .1)
+    let a = c .before .before .before .before .before .before .before .before .before .before .before .before .before .before .args in
+    links-refused _ _ _ _ _ _ (now (a .states)) _ _ _ (c .before .before .before .before .before .before .before .read-all-links .ensures) _ (c .before .refusal .given .1)
 
 same-length-3 : tie.Need-same-length-3
 same-length-3 c = search needs
@@ -40,27 +41,34 @@ same-length-3 c = search needs
 same-length-4 : tie.Need-same-length-4
 same-length-4 c = search needs
 
-returns-2 : tie.Need-returns-2
-returns-2 c =
-    let atReadEnd = c .before .before .before in
-    let atP = atReadEnd .before .before in
-    let atReadAllLinks = atP .before .before .before .before .before .before in
-    end-refused _ _ _ _ _ _ _ _ _ (atReadAllLinks .read-all-links .ensures) _ (atP .p .given .1) _ (atReadEnd .read-end .ensures)
-    _ (c .before .refusal2 .given .1)
-
 same-length-5 : tie.Need-same-length-5
 same-length-5 c = search needs
+
+returns-2 : tie.Need-returns-2
+returns-2 c =
+    let atStates = c .before .before .before .before .before in
+    let atP = atStates .before .before .before in
+    let atLinks = atP .before .before .before .before .before .before in
+    states-refused _ _ _ _ _ _ _ _ _ _ (atLinks .read-all-links .ensures) _ (atP .p .given .1) _ _ (atStates .read-states .ensures)
+    _ (c .before .refusal2 .given .1)
 
 same-length-6 : tie.Need-same-length-6
 same-length-6 c = search needs
 
+same-length-7 : tie.Need-same-length-7
+same-length-7 c = search needs
+
+same-length-8 : tie.Need-same-length-8
+same-length-8 c = search needs
+
 returns-3 : tie.Need-returns-3
 returns-3 c =
-    let atP = c .before .before .before .before in
-    let atReadAllLinks = atP .before .before .before .before .before .before in
-    let start = atReadAllLinks .before .before .before .before .before .before in
-    table-whole _ _ _ _ _ _ _ _ _ (atReadAllLinks .read-all-links .ensures) _ (atP .p .given .1) _ (c .before .before .read-end .ensures)
-    _ (c .enum-told .given .1) (omega (arith, start .pre)) (omega (arith, start .pre))
+    let atStates = c .before .before .before .before in
+    let atP = atStates .before .before .before in
+    let atLinks = atP .before .before .before .before .before .before in
+    let start = atLinks .before .before .before .before .before .before .before in
+    table-whole _ _ _ _ _ _ _ _ _ _ (atLinks .read-all-links .ensures) _ (atP .p .given .1) _ _ (atStates .read-states .ensures)
+    _ (c .enum-told .given .1) (omega (arith, start .pre)) (omega (arith, start .pre)) (omega (arith, start .pre))
 
 pub read-lines-spec : {M : Type 1} → statement M
 read-lines-spec =
@@ -69,7 +77,7 @@ read-lines-spec =
     read-all-links-requires
     enum-known-refusal
     enum-known-p
-    read-end-requires
+    read-states-requires
     enum-known-refusal-2
     enum-told
     same-length
@@ -77,7 +85,9 @@ read-lines-spec =
     returns
     same-length-3
     same-length-4
-    returns-2
     same-length-5
+    returns-2
     same-length-6
+    same-length-7
+    same-length-8
     returns-3)

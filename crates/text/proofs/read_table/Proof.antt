@@ -22,9 +22,9 @@ read-rows-requires c κs = search needs
 
 returns : tie.Need-returns
 returns c =
-    let a = c .before .before .before .before .before .before .before .args in
-    refused-early _ (now (a .lows)) (now (a .highs)) _
-    (header-departs (now (a .text)) _ (length (now (a .lows))) (length (now (a .highs)))
+    let a = c .before .before .before .before .before .before .before .before .args in
+    refused-early _ (now (a .lows)) (now (a .highs)) (now (a .states)) _
+    (header-departs (now (a .text)) _ (length (now (a .lows))) (length (now (a .highs))) (length (now (a .states)))
     (sym (c .before .before .before .form-at .ensures) ∙ ap pairGives (c .before .p .given .1)))
 
 same-length : tie.Need-same-length
@@ -33,14 +33,17 @@ same-length c = search needs
 same-length-2 : tie.Need-same-length-2
 same-length-2 c = search needs
 
+same-length-3 : tie.Need-same-length-3
+same-length-3 c = search needs
+
 returns-2 : tie.Need-returns-2
 returns-2 c =
-    let m = c .before .before .before .before .before .before .before .before in
-    let a = m .before .before .before .before .before .before .args in
-    table-same _ _ _ _ _ _ _
-    (header-read (now (a .text)) _ _ _ (length (now (a .lows))) (length (now (a .highs)))
+    let m = c .before .before .before .before .before .before .before .before .before .before .before in
+    let a = m .before .before .before .before .before .before .before .args in
+    table-same _ _ _ _ _ _ _ _ _
+    (header-read (now (a .text)) _ _ _ (length (now (a .lows))) (length (now (a .highs))) (length (now (a .states)))
     (sym (m .before .before .form-at .ensures) ∙ ap pairGives (m .n .given .1)))
-    (c .before .before .before .before .read-rows .ensures)
+    (c .before .before .before .before .before .before .read-rows .ensures)
 
 pub read-table-spec : {M : Type 1} → statement M
 read-table-spec =
@@ -53,4 +56,5 @@ read-table-spec =
     returns
     same-length
     same-length-2
+    same-length-3
     returns-2)

@@ -11,7 +11,7 @@ use Rattle.definitions.specs.Outcome.{done}
 use Rattle.definitions.specs.Network.{Accepted}
 use Rattle.definitions.specs.Text.{textOf}
 use Rattle.network.specs.Answers.{checkOutcome}
-use Rattle.theory.specs.Accepted.{accepted}
+use Rattle.theory.specs.Accepted.{accepted, accepted-states}
 use Rattle.text_theory.specs.Writes.{write-short}
 use Rattle.text.specs.Written.{write-refused, write-stored}
 use Rattle.text.proofs.write.Statement.{statement}
@@ -28,41 +28,39 @@ enum-told c = search needs
 
 text-length-requires : tie.Need-text-length-requires
 text-length-requires c κs =
-    let a = c .before .before .before .before .before .before .args in
-    let good : Accepted (a .n) (now (a .lows)) (now (a .highs)) =
+    let a = c .before .before .before .before .before .before .before .args in
+    let good : Accepted (a .n) (now (a .lows)) (now (a .highs)) (now (a .states)) =
     sym (c .before .before .table-check .ensures) ∙ ap checkOutcome (c .enum-told .given .1) in
-    let proper = accepted (a .n) (now (a .lows)) (now (a .highs)) good in
-    (proper .even, proper .short)
+    let proper = accepted (a .n) (now (a .lows)) (now (a .highs)) (now (a .states)) good in
+    let states = accepted-states (a .n) (now (a .lows)) (now (a .highs)) (now (a .states)) good in
+    (proper .even, proper .short, omega (arith, states .long, proper .few))
 
 returns : tie.Need-returns
 returns c =
     let atTableCheck = c .before .before .before .before in
-    let start = atTableCheck .before .before .before .before in
-    let a = start .args in
-    let good : Accepted (a .n) (now (a .lows)) (now (a .highs)) =
+    let a = atTableCheck .before .before .before .before .before .args in
+    let good : Accepted (a .n) (now (a .lows)) (now (a .highs)) (now (a .states)) =
     sym (atTableCheck .table-check .ensures) ∙ ap checkOutcome (c .before .before .enum-told .given .1) in
-    let short = write-short (a .n) (now (a .lows)) (now (a .highs)) (now (a .buffer)) good (omega (arith, c .before .text-length .ensures))
-    in
+    let short = write-short (a .n) (now (a .lows)) (now (a .highs)) (now (a .states)) (now (a .buffer)) good (omega (arith, c .before .text-length .ensures)) in
     (sym (short .0), sym (short .1))
 
 put-text-requires : tie.Need-put-text-requires
 put-text-requires c κs =
     let atEnumTold = c .before .before .before in
     let atTableCheck = atEnumTold .before .before in
-    let start = atTableCheck .before .before .before .before in
-    let a = start .args in
-    let good : Accepted (a .n) (now (a .lows)) (now (a .highs)) =
+    let a = atTableCheck .before .before .before .before .before .args in
+    let good : Accepted (a .n) (now (a .lows)) (now (a .highs)) (now (a .states)) =
     sym (atTableCheck .table-check .ensures) ∙ ap checkOutcome (atEnumTold .enum-told .given .1) in
     record {
-      even = accepted (a .n) (now (a .lows)) (now (a .highs)) good .even;
+      even = accepted (a .n) (now (a .lows)) (now (a .highs)) (now (a .states)) good .even;
       enough = omega (arith, c .before .before .text-length .ensures);
     }
 
 returns-2 : tie.Need-returns-2
 returns-2 c =
-    let a = c .before .before .before .before .before .before .before .args in
+    let a = c .before .before .before .before .before .before .before .before .args in
     let checked = sym (c .before .before .before .table-check .ensures) ∙ ap checkOutcome (c .before .refusal .given .1) in
-    let refused = write-refused (a .n) (now (a .lows)) (now (a .highs)) (now (a .buffer)) (c .before .refusal .given .0 .0) checked in
+    let refused = write-refused (a .n) (now (a .lows)) (now (a .highs)) (now (a .states)) (now (a .buffer)) (c .before .refusal .given .0 .0) checked in
     (sym (refused .0), sym (refused .1))
 
 same-length : tie.Need-same-length
@@ -70,16 +68,15 @@ same-length c = search needs
 
 returns-3 : tie.Need-returns-3
 returns-3 c =
-    let atTextLength = c .before .before .before .before .before in
     let m = c .before .before .before .before .before .before in
-    let a = m .before .before .before .before .before .before .args in
-    let good : Accepted (a .n) (now (a .lows)) (now (a .highs)) =
+    let a = m .before .before .before .before .before .before .before .args in
+    let good : Accepted (a .n) (now (a .lows)) (now (a .highs)) (now (a .states)) =
     sym (m .before .before .table-check .ensures) ∙ ap checkOutcome (m .enum-told .given .1) in
     let put = c .before .before .put-text .ensures in
-    let size = atTextLength .text-length .ensures in
-    let written = write-stored (a .n) (now (a .lows)) (now (a .highs)) (now (a .buffer)) good (omega (arith, size)) in (
-      ap (λ (size : ℕ). done (size ∷ [])) (put .ends ∙ zero-add (length (textOf (a .n) (now (a .lows)) (now (a .highs))))) ∙ sym
-          (written .0),
+    let size = c .before .before .before .before .before .text-length .ensures in
+    let written = write-stored (a .n) (now (a .lows)) (now (a .highs)) (now (a .states)) (now (a .buffer)) good (omega (arith, size)) in (
+      ap (λ (size : ℕ). done (size ∷ [])) (put .ends ∙ zero-add (length (textOf (a .n) (now (a .lows)) (now (a .highs)) (now (a .states)))))
+          ∙ sym (written .0),
       put .bytes ∙ sym (written .1),
     )
 

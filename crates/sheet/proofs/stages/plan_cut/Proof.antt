@@ -26,10 +26,10 @@ unfolding printed
 put-refusal-requires c κs =
     let atCut = c .before .before .before .before .before in
     let atLinks = atCut .before .before in
-    let start = atLinks .before .before .before .before in
+    let start = atLinks .before .before .before .before .before in
     let a = start .args in
-    fits-as _ _ _ _ (cut-refused (a .n) (now (a .lows)) (now (a .highs)) (a .from) (a .to) (a .k) 0 (c .before .before .refusal .given .0 .0)
-    (cut-rooms (a .n) (now (a .lows)) (now (a .highs)) (a .k) _ (atLinks .links .ensures) _
+    fits-as _ _ _ _ (cut-refused (a .n) (now (a .lows)) (now (a .highs)) (now (a .states)) (a .from) (a .to) (a .k) 0 (c .before .before .refusal .given .0 .0)
+    (cut-rooms (a .n) (now (a .lows)) (now (a .highs)) (now (a .states)) (a .k) _ (atLinks .links .ensures) _
     (sym (atCut .cut .ensures .0) ∙ ap cutOutcome (c .before .before .refusal .given .1)))) (start .pre)
 
 enum-known-kept : tie.Need-enum-known-kept
@@ -39,10 +39,10 @@ plan-routes-requires : tie.Need-plan-routes-requires
 plan-routes-requires c κs =
     let atCut = c .before .before .before .before .before in
     let atLinks = atCut .before .before in
-    let start = atLinks .before .before .before .before in
+    let start = atLinks .before .before .before .before .before in
     let a = start .args in
-    fits-as _ _ _ _ (cut-done (a .n) (now (a .lows)) (now (a .highs)) (a .from) (a .to) (a .k) _
-    (cut-rooms (a .n) (now (a .lows)) (now (a .highs)) (a .k) _ (atLinks .links .ensures) _
+    fits-as _ _ _ _ (cut-done (a .n) (now (a .lows)) (now (a .highs)) (now (a .states)) (a .from) (a .to) (a .k) _
+    (cut-rooms (a .n) (now (a .lows)) (now (a .highs)) (now (a .states)) (a .k) _ (atLinks .links .ensures) _
     (sym (atCut .cut .ensures .0) ∙ ap cutOutcome (c .before .before .kept .given .1)))) (start .pre)
 
 same-length : tie.Need-same-length
@@ -54,10 +54,10 @@ returns c =
     let atRefusal = c .before .before .before .before .before in
     let atCut = atRefusal .before .before .before in
     let atLinks = atCut .before .before in
-    let start = atLinks .before .before .before .before in
+    let start = atLinks .before .before .before .before .before in
     let a = start .args in
-    put-as _ _ _ _ _ _ (cut-refused (a .n) (now (a .lows)) (now (a .highs)) (a .from) (a .to) (a .k) 0 (atRefusal .refusal .given .0 .0)
-    (cut-rooms (a .n) (now (a .lows)) (now (a .highs)) (a .k) _ (atLinks .links .ensures) _
+    put-as _ _ _ _ _ _ (cut-refused (a .n) (now (a .lows)) (now (a .highs)) (now (a .states)) (a .from) (a .to) (a .k) 0 (atRefusal .refusal .given .0 .0)
+    (cut-rooms (a .n) (now (a .lows)) (now (a .highs)) (now (a .states)) (a .k) _ (atLinks .links .ensures) _
     (sym (atCut .cut .ensures .0) ∙ ap cutOutcome (atRefusal .refusal .given .1)))) (c .before .before .put-refusal .ensures)
 
 same-length-2 : tie.Need-same-length-2
@@ -68,10 +68,10 @@ returns-2 c =
     let atKept = c .before .before .before .before .before in
     let atCut = atKept .before .before .before in
     let atLinks = atCut .before .before in
-    let start = atLinks .before .before .before .before in
+    let start = atLinks .before .before .before .before .before in
     let a = start .args in
-    put-as _ _ _ _ _ _ (cut-done (a .n) (now (a .lows)) (now (a .highs)) (a .from) (a .to) (a .k) _
-    (cut-rooms (a .n) (now (a .lows)) (now (a .highs)) (a .k) _ (atLinks .links .ensures) _
+    put-as _ _ _ _ _ _ (cut-done (a .n) (now (a .lows)) (now (a .highs)) (now (a .states)) (a .from) (a .to) (a .k) _
+    (cut-rooms (a .n) (now (a .lows)) (now (a .highs)) (now (a .states)) (a .k) _ (atLinks .links .ensures) _
     (sym (atCut .cut .ensures .0) ∙ ap cutOutcome (atKept .kept .given .1)))) (c .before .before .plan-routes .ensures)
 
 pub plan-cut-spec : {M : Type 1} → statement M

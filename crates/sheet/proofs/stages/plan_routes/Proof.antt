@@ -52,9 +52,9 @@ put-refusal-requires c κs =
     let atLinks = atScratch .before in
     let atRelays = atLinks .before in
     let atCounts = atRelays .before in
-    let start = atCounts .before .before .before .before in
+    let start = atCounts .before .before .before .before .before in
     let a = start .args in
-    fits-as _ _ _ _ (routes-refused (a .n) (now (a .lows)) (now (a .highs)) (a .from) (a .to) (a .k) (a .kept) _ _ _ _
+    fits-as _ _ _ _ (routes-refused (a .n) (now (a .lows)) (now (a .highs)) (now (a .states)) (a .from) (a .to) (a .k) (a .kept) _ _ _ _
     (atCounts .counts .ensures) (atRelays .relays .ensures) (atLinks .route-links .ensures) (atScratch .scratch .ensures)
     (atRefusal .refusal .given .0 .0) (sym (atRoute .route-links2 .ensures .0) ∙ ap routeOutcome (atRefusal .refusal .given .1))) (start .pre)
 
@@ -78,9 +78,9 @@ put-sheet-requires c κs =
     let atLinks = atScratch .before in
     let atRelays = atLinks .before in
     let atCounts = atRelays .before in
-    let start = atCounts .before .before .before .before in
+    let start = atCounts .before .before .before .before .before in
     let a = start .args in
-    let routed = routes-written (a .n) (now (a .lows)) (now (a .highs)) (a .from) (a .to) (a .k) (a .kept) _ _ _ _
+    let routed = routes-written (a .n) (now (a .lows)) (now (a .highs)) (now (a .states)) (a .from) (a .to) (a .k) (a .kept) _ _ _ _
     (atCounts .counts .ensures) (atRelays .relays .ensures) (atLinks .route-links .ensures) (atScratch .scratch .ensures) _ _ _ _
     (sym (atRoute .route-links2 .ensures .0) ∙ ap routeOutcome (atEnumTold .enum-told .given .1))
     (atRoute .route-links2 .ensures .1 .0) (atRoute .route-links2 .ensures .1 .1 .0) (atRoute .route-links2 .ensures .1 .1 .1 .0) in
@@ -99,9 +99,9 @@ returns c =
     let atLinks = atScratch .before in
     let atRelays = atLinks .before in
     let atCounts = atRelays .before in
-    let start = atCounts .before .before .before .before in
+    let start = atCounts .before .before .before .before .before in
     let a = start .args in
-    put-as _ _ _ _ _ _ (routes-refused (a .n) (now (a .lows)) (now (a .highs)) (a .from) (a .to) (a .k) (a .kept) _ _ _ _
+    put-as _ _ _ _ _ _ (routes-refused (a .n) (now (a .lows)) (now (a .highs)) (now (a .states)) (a .from) (a .to) (a .k) (a .kept) _ _ _ _
     (atCounts .counts .ensures) (atRelays .relays .ensures) (atLinks .route-links .ensures) (atScratch .scratch .ensures)
     (atRefusal .refusal .given .0 .0) (sym (atRoute .route-links2 .ensures .0) ∙ ap routeOutcome (atRefusal .refusal .given .1)))
     (c .before .before .put-refusal .ensures)
@@ -117,9 +117,9 @@ returns-2 c =
     let atLinks = atScratch .before in
     let atRelays = atLinks .before in
     let atCounts = atRelays .before in
-    let start = atCounts .before .before .before .before in
+    let start = atCounts .before .before .before .before .before in
     let a = start .args in
-    let routed = routes-written (a .n) (now (a .lows)) (now (a .highs)) (a .from) (a .to) (a .k) (a .kept) _ _ _ _
+    let routed = routes-written (a .n) (now (a .lows)) (now (a .highs)) (now (a .states)) (a .from) (a .to) (a .k) (a .kept) _ _ _ _
     (atCounts .counts .ensures) (atRelays .relays .ensures) (atLinks .route-links .ensures) (atScratch .scratch .ensures) _ _ _ _
     (sym (atRoute .route-links2 .ensures .0) ∙ ap routeOutcome (atEnumTold .enum-told .given .1))
     (atRoute .route-links2 .ensures .1 .0) (atRoute .route-links2 .ensures .1 .1 .0) (atRoute .route-links2 .ensures .1 .1 .1 .0) in

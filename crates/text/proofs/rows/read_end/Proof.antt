@@ -24,8 +24,8 @@ returns c =
     let a = start .args in
     let given = pair-reads-end _ _ _ _ (sym (ap pairGives (c .before .before .p2 .given .1)) ∙ atFormAt .form-at .ensures) in
     record {
-      follows = λ n lows highs.
-          end-more (now (a .text)) n lows highs (a .at) _
+      follows = λ n lows highs states.
+          end-more (now (a .text)) n lows highs states (a .at) _
           (given .0) (given .1) (c .if1 .taken);
     }
 
@@ -35,8 +35,8 @@ returns-2 c =
     let start = atFormAt .before .before in
     let a = start .args in
     record {
-      follows = λ n lows highs.
-          end-departs (now (a .text)) n lows highs (a .at) _
+      follows = λ n lows highs states.
+          end-departs (now (a .text)) n lows highs states (a .at) _
           (pair-departs-end _ _ (sym (ap pairGives (c .before .p .given .1)) ∙ atFormAt .form-at .ensures));
     }
 
@@ -47,8 +47,8 @@ returns-3 c =
     let a = start .args in
     let given = pair-reads-end _ _ _ _ (sym (ap pairGives (c .before .before .p2 .given .1)) ∙ atFormAt .form-at .ensures) in
     record {
-      follows = λ n lows highs.
-          end-done (now (a .text)) n lows highs (a .at) _
+      follows = λ n lows highs states.
+          end-done (now (a .text)) n lows highs states (a .at) _
           (given .0) (given .1) (c .if1 .left);
     }
 

@@ -1,8 +1,8 @@
--- `text::scan::form_line` meets its contract: two forms are three words with two numbers between them, the third is a word.
--- Assumes nothing.
+-- `text::scan::form_line` meets its contract: two forms are three words with two numbers between them, one is two words
+-- with a number between them, and the end is a word. Assumes nothing.
 use mathlib.Core.Path.{refl, sym, _∙_, ap}
 use borrow.Author.Needs.{needs}
-use Rattle.definitions.specs.Text.{headerForm, linkForm, endForm}
+use Rattle.definitions.specs.Text.{headerForm, linkForm, outForm, endForm}
 use Rattle.text_theory.specs.Forms.{noZero}
 use Rattle.text.specs.DueForms.{end-departs-pair, end-reads-pair}
 use Rattle.text.specs.ItemByItem.{form-word}
@@ -45,6 +45,19 @@ pair-line-requires-2 c κs = (refl, (refl, refl))
 enum-told-3 : tie.Need-enum-told-3
 enum-told-3 c = search needs
 
+slice-aggregate-number-line : tie.Need-slice-aggregate-number-line
+slice-aggregate-number-line c = search needs
+
+slice-aggregate-number-line-2 : tie.Need-slice-aggregate-number-line-2
+slice-aggregate-number-line-2 c = search needs
+
+number-line-requires : tie.Need-number-line-requires
+unfolding noZero
+number-line-requires c κs = (refl, refl)
+
+enum-told-4 : tie.Need-enum-told-4
+enum-told-4 c = search needs
+
 slice-aggregate-word : tie.Need-slice-aggregate-word
 slice-aggregate-word c = search needs
 
@@ -67,16 +80,20 @@ unfolding linkForm
 returns-2 c = rw (c .before .before .before .before .enum-told2 .given .1) (c .pair-line2 .ensures)
 
 returns-3 : tie.Need-returns-3
-unfolding endForm
-returns-3 c =
-    let scanned = form-word _ _ _ ∙ sym (c .before .before .before .word .ensures) ∙ ap wordGives (c .before .p .given .1) in
-    rw (c .before .before .before .before .before .enum-told3 .given .1) (end-departs-pair _ _ scanned)
+unfolding outForm
+returns-3 c = rw (c .before .before .before .enum-told3 .given .1) (c .number-line .ensures)
 
 returns-4 : tie.Need-returns-4
 unfolding endForm
 returns-4 c =
+    let scanned = form-word _ _ _ ∙ sym (c .before .before .before .word .ensures) ∙ ap wordGives (c .before .p .given .1) in
+    rw (c .before .before .before .before .before .enum-told4 .given .1) (end-departs-pair _ _ scanned)
+
+returns-5 : tie.Need-returns-5
+unfolding endForm
+returns-5 c =
     let scanned = form-word _ _ _ ∙ sym (c .before .before .before .word .ensures) ∙ ap wordGives (c .before .p2 .given .1) in
-    rw (c .before .before .before .before .before .enum-told3 .given .1) (end-reads-pair _ _ scanned)
+    rw (c .before .before .before .before .before .enum-told4 .given .1) (end-reads-pair _ _ scanned)
 
 pub form-line-spec : {M : Type 1} → statement M
 form-line-spec =
@@ -93,6 +110,10 @@ form-line-spec =
     slice-aggregate-pair-line-6
     pair-line-requires-2
     enum-told-3
+    slice-aggregate-number-line
+    slice-aggregate-number-line-2
+    number-line-requires
+    enum-told-4
     slice-aggregate-word
     word-requires
     enum-known-p
@@ -100,4 +121,5 @@ form-line-spec =
     returns
     returns-2
     returns-3
-    returns-4)
+    returns-4
+    returns-5)
