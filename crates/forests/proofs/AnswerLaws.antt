@@ -34,98 +34,98 @@ refusal-stands refusal check next e = sym (ap (λ c. andThen c next) e ∙ refus
 kept-by : (refusal : Refusal) (answer : Answer) (new old : List ℕ) → refusalOf refusal ≡ answer → old ≡ ifDone answer new old
 kept-by refusal answer new old e = sym (ap (λ a. ifDone a new old) (sym e) ∙ refusal-keeps (List ℕ) refusal new old)
 
-module _ (n : ℕ) (lows highs relays places : List ℕ) where
-  pub order-refused : (refusal : Refusal) → refusalOf refusal ≡ tableCheck n lows highs
-      → (refusalOf refusal ≡ orderAnswer n lows highs relays places)
-      × ((relays ≡ relaysAfter n lows highs relays places) × (places ≡ placesAfter n lows highs relays places))
+module _ (n : ℕ) (lows highs states relays places : List ℕ) where
+  pub order-refused : (refusal : Refusal) → refusalOf refusal ≡ tableCheck n lows highs states
+      → (refusalOf refusal ≡ orderAnswer n lows highs states relays places)
+      × ((relays ≡ relaysAfter n lows highs states relays places) × (places ≡ placesAfter n lows highs states relays places))
   unfolding orderAnswer relaysAfter placesAfter
   order-refused refusal e =
-      let stands = refusal-stands refusal (tableCheck n lows highs) _ (sym e) in (
+      let stands = refusal-stands refusal (tableCheck n lows highs states) _ (sym e) in (
         stands,
         (
-          kept-by refusal (orderAnswer n lows highs relays places) _ relays stands,
-          kept-by refusal (orderAnswer n lows highs relays places) _ places stands,
+          kept-by refusal (orderAnswer n lows highs states relays places) _ relays stands,
+          kept-by refusal (orderAnswer n lows highs states relays places) _ places stands,
         ),
       )
 
-  pub order-short : Accepted n lows highs → (ltb (length relays) n || ltb (length places) n) ≡ true
-      → (refused 12 0 ≡ orderAnswer n lows highs relays places)
-      × ((relays ≡ relaysAfter n lows highs relays places) × (places ≡ placesAfter n lows highs relays places))
+  pub order-short : Accepted n lows highs states → (ltb (length relays) n || ltb (length places) n) ≡ true
+      → (refused 12 0 ≡ orderAnswer n lows highs states relays places)
+      × ((relays ≡ relaysAfter n lows highs states relays places) × (places ≡ placesAfter n lows highs states relays places))
   unfolding orderAnswer relaysAfter placesAfter andThen refuseIf ifDone
   order-short ok h = (rw (ok, h), (rw (ok, h), rw (ok, h)))
 
-  pub order-done : {relays′ places′ : List ℕ} → Accepted n lows highs → n ≤ length relays → n ≤ length places
-      → relays′ ≡ overwrite (orderOf n lows highs) relays → places′ ≡ overwrite (placesOf n (orderOf n lows highs)) places
-      → (done [] ≡ orderAnswer n lows highs relays places)
-      × ((relays′ ≡ relaysAfter n lows highs relays places) × (places′ ≡ placesAfter n lows highs relays places))
+  pub order-done : {relays′ places′ : List ℕ} → Accepted n lows highs states → n ≤ length relays → n ≤ length places
+      → relays′ ≡ overwrite (orderOf n lows highs states) relays → places′ ≡ overwrite (placesOf n (orderOf n lows highs states)) places
+      → (done [] ≡ orderAnswer n lows highs states relays places)
+      × ((relays′ ≡ relaysAfter n lows highs states relays places) × (places′ ≡ placesAfter n lows highs states relays places))
   unfolding orderAnswer relaysAfter placesAfter andThen refuseIf ifDone
   order-done ok h k r p =
       let long = or-neither (ltb (length relays) n) (ltb (length places) n) (le-ltb (length relays) n h) (le-ltb (length places) n k) in
       (rw (ok, long), (rw (ok, long) r, rw (ok, long) p))
 
-module _ (n : ℕ) (lows highs forests : List ℕ) where
-  pub split-refused : (refusal : Refusal) → refusalOf refusal ≡ tableCheck n lows highs
-      → (refusalOf refusal ≡ splitAnswer n lows highs forests) × (forests ≡ forestsAfter n lows highs forests)
+module _ (n : ℕ) (lows highs states forests : List ℕ) where
+  pub split-refused : (refusal : Refusal) → refusalOf refusal ≡ tableCheck n lows highs states
+      → (refusalOf refusal ≡ splitAnswer n lows highs states forests) × (forests ≡ forestsAfter n lows highs states forests)
   unfolding splitAnswer forestsAfter
   split-refused refusal e =
-      let stands = refusal-stands refusal (tableCheck n lows highs) _ (sym e) in
-      (stands, kept-by refusal (splitAnswer n lows highs forests) _ forests stands)
+      let stands = refusal-stands refusal (tableCheck n lows highs states) _ (sym e) in
+      (stands, kept-by refusal (splitAnswer n lows highs states forests) _ forests stands)
 
-  pub split-short : Accepted n lows highs → length forests < length lows
-      → (refused 12 0 ≡ splitAnswer n lows highs forests) × (forests ≡ forestsAfter n lows highs forests)
+  pub split-short : Accepted n lows highs states → length forests < length lows
+      → (refused 12 0 ≡ splitAnswer n lows highs states forests) × (forests ≡ forestsAfter n lows highs states forests)
   unfolding splitAnswer forestsAfter andThen refuseIf ifDone
   split-short ok h =
       let short = lt-ltb (length forests) (length lows) h in
       (rw (ok, short), rw (ok, short))
 
-  front-forests : take (length lows) (overwrite (forestsOf n lows highs) forests) ≡ forestsOf n lows highs
+  front-forests : take (length lows) (overwrite (forestsOf n lows highs states) forests) ≡ forestsOf n lows highs states
   unfolding overwrite
-  front-forests = take-at (forestsOf n lows highs) (drop (length (forestsOf n lows highs)) forests) (length lows) (forests-length n lows highs)
+  front-forests = take-at (forestsOf n lows highs states) (drop (length (forestsOf n lows highs states)) forests) (length lows) (forests-length n lows highs states)
 
-  pub split-done : {forests′ : List ℕ} (highest : ℕ) → Accepted n lows highs → length lows ≤ length forests
-      → forests′ ≡ overwrite (forestsOf n lows highs) forests → highest ≡ greatest (take (length lows) forests′)
-      → (done (highest ∷ []) ≡ splitAnswer n lows highs forests) × (forests′ ≡ forestsAfter n lows highs forests)
+  pub split-done : {forests′ : List ℕ} (highest : ℕ) → Accepted n lows highs states → length lows ≤ length forests
+      → forests′ ≡ overwrite (forestsOf n lows highs states) forests → highest ≡ greatest (take (length lows) forests′)
+      → (done (highest ∷ []) ≡ splitAnswer n lows highs states forests) × (forests′ ≡ forestsAfter n lows highs states forests)
   unfolding splitAnswer forestsAfter andThen refuseIf ifDone
   split-done highest ok h f e =
       let long = le-ltb (length forests) (length lows) h in
-      let value : highest ≡ greatest (forestsOf n lows highs) =
+      let value : highest ≡ greatest (forestsOf n lows highs states) =
       e ∙ ap (λ l. greatest (take (length lows) l)) f ∙ ap greatest front-forests in
       (rw (ok, long) (ap (λ x. done (x ∷ [])) value), rw (ok, long) f)
 
-module _ (n : ℕ) (lows highs : List ℕ) (k : ℕ) (marks : List ℕ) where
-  pub cut-refused : (refusal : Refusal) → refusalOf refusal ≡ tableCheck n lows highs
-      → (refusalOf refusal ≡ cutAnswer n lows highs k marks) × (marks ≡ marksAfter n lows highs k marks)
+module _ (n : ℕ) (lows highs states : List ℕ) (k : ℕ) (marks : List ℕ) where
+  pub cut-refused : (refusal : Refusal) → refusalOf refusal ≡ tableCheck n lows highs states
+      → (refusalOf refusal ≡ cutAnswer n lows highs states k marks) × (marks ≡ marksAfter n lows highs states k marks)
   unfolding cutAnswer marksAfter
   cut-refused refusal e =
-      let stands = refusal-stands refusal (tableCheck n lows highs) _ (sym e) in
-      (stands, kept-by refusal (cutAnswer n lows highs k marks) _ marks stands)
+      let stands = refusal-stands refusal (tableCheck n lows highs states) _ (sym e) in
+      (stands, kept-by refusal (cutAnswer n lows highs states k marks) _ marks stands)
 
-  pub cut-count : Accepted n lows highs → outside 1 32 k ≡ true
-      → (refused 9 0 ≡ cutAnswer n lows highs k marks) × (marks ≡ marksAfter n lows highs k marks)
+  pub cut-count : Accepted n lows highs states → outside 1 32 k ≡ true
+      → (refused 9 0 ≡ cutAnswer n lows highs states k marks) × (marks ≡ marksAfter n lows highs states k marks)
   unfolding cutAnswer marksAfter andThen refuseIf ifDone
   cut-count ok h = (rw (ok, h), rw (ok, h))
 
-  pub cut-short : Accepted n lows highs → outside 1 32 k ≡ false → length marks < length lows
-      → (refused 12 0 ≡ cutAnswer n lows highs k marks) × (marks ≡ marksAfter n lows highs k marks)
+  pub cut-short : Accepted n lows highs states → outside 1 32 k ≡ false → length marks < length lows
+      → (refused 12 0 ≡ cutAnswer n lows highs states k marks) × (marks ≡ marksAfter n lows highs states k marks)
   unfolding cutAnswer marksAfter andThen refuseIf ifDone
   cut-short ok h p =
       let short = lt-ltb (length marks) (length lows) p in
       (rw (ok, h, short), rw (ok, h, short))
 
-  pub cut-done : {numbers marks′ : List ℕ} (kept : ℕ) → Accepted n lows highs → outside 1 32 k ≡ false
-      → length lows ≤ length marks → numbers ≡ overwrite (forestsOf n lows highs) marks
+  pub cut-done : {numbers marks′ : List ℕ} (kept : ℕ) → Accepted n lows highs states → outside 1 32 k ≡ false
+      → length lows ≤ length marks → numbers ≡ overwrite (forestsOf n lows highs states) marks
       → kept ≡ total (map (markOf k) (take (length lows) numbers))
       → marks′ ≡ map (markOf k) (take (length lows) numbers) ++ drop (length lows) numbers
-      → (done (kept ∷ []) ≡ cutAnswer n lows highs k marks) × (marks′ ≡ marksAfter n lows highs k marks)
+      → (done (kept ∷ []) ≡ cutAnswer n lows highs states k marks) × (marks′ ≡ marksAfter n lows highs states k marks)
   unfolding cutAnswer marksAfter marksOf andThen refuseIf ifDone overwrite
   cut-done {numbers} {marks′} kept ok h p f e m =
       let long = le-ltb (length marks) (length lows) p in
-      let all = forestsOf n lows highs in
-      let front : take (length lows) numbers ≡ all = ap (take (length lows)) f ∙ front-forests n lows highs marks in
+      let all = forestsOf n lows highs states in
+      let front : take (length lows) numbers ≡ all = ap (take (length lows)) f ∙ front-forests n lows highs states marks in
       let value : kept ≡ total (map (markOf k) all) = e ∙ ap (λ l. total (map (markOf k) l)) front in
       let rest : drop (length lows) numbers ≡ drop (length (map (markOf k) all)) marks =
       ap (drop (length lows)) f
-      ∙ drop-at all (drop (length all) marks) (length lows) (forests-length n lows highs)
+      ∙ drop-at all (drop (length all) marks) (length lows) (forests-length n lows highs states)
       ∙ ap (λ j. drop j marks) (sym (length-map all (markOf k))) in (
         rw (ok, h, long) (ap (λ x. done (x ∷ [])) value),
         rw (ok, h, long) (m ∙ ap (λ l. map (markOf k) l ++ drop (length lows) numbers) front ∙ ap (λ l. map (markOf k) all ++ l) rest),

@@ -1,15 +1,15 @@
--- What clearing the front of a list leaves; and forest numbers are cleared and the first relay is stored before the scan: what the
--- scan then gives does not depend on what stood there. Assumes nothing.
+-- What clearing the front of a list leaves; and places and forest numbers are cleared before the scan: what the scan then gives
+-- does not depend on what stood there. Assumes nothing.
 use Prim.Native.Nat.{ℕ, _<_}
 use mathlib.Core.List.{List, _++_}
 use mathlib.Core.Path.{_≡_, _∙_, ap}
 use native.Mathlib.Omega.{arith}
-use lib.ListN.{length, getD, set, drop, replicate, length-replicate, getD-replicate, List·getD-append}
-use lib.Seq.{drop-at, drop-set-lt}
+use lib.ListN.{length, getD, drop, replicate, length-replicate, getD-replicate, List·getD-append}
+use lib.Seq.{drop-at}
 use Rattle.definitions.specs.Lists.{overwrite}
-use Rattle.definitions.specs.Order.{orderOf}
+use Rattle.definitions.specs.Order.{orderOf, placeOf, placesOf}
 use Rattle.definitions.specs.Forests.{forestsOf}
-use Rattle.theory.specs.Ordering.{order-length}
+use Rattle.lists.specs.Tables.{length-table}
 use Rattle.theory.specs.ForestBound.{forests-length}
 use Rattle.forests.specs.Scan.{Scanned}
 
@@ -25,31 +25,25 @@ cleared m old e =
       ap (drop m) e ∙ drop-at (replicate m 0) (drop m old) m long,
     )
 
--- All entries that were cleared are written.
-pub scan-cleared : {n : ℕ} {lows highs relays relays′ places places′ old mid new : List ℕ}
-    → mid ≡ replicate (length lows) 0 ++ drop (length lows) old → Scanned n lows highs relays relays′ places places′ mid new
-    → Scanned n lows highs relays relays′ places places′ old new
+-- What is written over the entries that were cleared covers them.
+kept : (m : ℕ) (old : List ℕ) {mid : List ℕ} → mid ≡ replicate m 0 ++ drop m old → (new : List ℕ) → length new ≡ m
+    → overwrite new mid ≡ overwrite new old
 unfolding overwrite
-scan-cleared {n} {lows} {highs} {old = old} {mid = mid} e s =
-    let past : drop (length (forestsOf n lows highs)) mid ≡ drop (length (forestsOf n lows highs)) old =
-    rw (forests-length n lows highs) (cleared (length lows) old e .1) in
+kept m old {mid} e new long = ap (λ l. new ++ l) past
+  where
+    past : drop (length new) mid ≡ drop (length new) old
+    past = rw long (cleared m old e .1)
+
+-- All entries that were cleared are written.
+pub scan-cleared : {n : ℕ} {lows highs states relays relays′ places cleared-places places′ forests cleared-forests forests′ : List ℕ}
+    → cleared-places ≡ replicate n 0 ++ drop n places
+    → cleared-forests ≡ replicate (length lows) 0 ++ drop (length lows) forests
+    → Scanned n lows highs states relays relays′ cleared-places places′ cleared-forests forests′
+    → Scanned n lows highs states relays relays′ places places′ forests forests′
+unfolding overwrite placesOf
+scan-cleared {n} {lows} {highs} {states} {places = places} {forests = forests} p f s =
     record {
       theOrder = s .theOrder;
-      thePlaces = s .thePlaces;
-      theForests = s .theForests ∙ ap (λ l. forestsOf n lows highs ++ l) past;
-    }
-
--- The first entry of the list of relays is written.
-pub scan-begun : {n : ℕ} {lows highs relays relays′ places places′ forests forests′ : List ℕ} (x : ℕ) → 0 < n
-    → Scanned n lows highs (set relays 0 x) relays′ places places′ forests forests′
-    → Scanned n lows highs relays relays′ places places′ forests forests′
-unfolding overwrite
-scan-begun {n} {lows} {highs} {relays} x some s =
-    let order = orderOf n lows highs in
-    record {
-      theOrder =
-          s .theOrder
-          ∙ ap (λ l. order ++ l) (drop-set-lt (length order) relays 0 x (omega (arith, order-length n lows highs)));
-      thePlaces = s .thePlaces;
-      theForests = s .theForests;
+      thePlaces = s .thePlaces ∙ kept n places p (placesOf n (orderOf n lows highs states)) (length-table (placeOf (orderOf n lows highs states)) 0 n);
+      theForests = s .theForests ∙ kept (length lows) forests f (forestsOf n lows highs states) (forests-length n lows highs states);
     }

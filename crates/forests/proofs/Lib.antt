@@ -18,12 +18,14 @@ pub mod OrderLaws
 pub mod WeightLaws
 pub mod ChoiceLaws
 pub mod StepLaws
+pub mod PlaceLaws
 pub mod FinishLaws
 -- Then the scan from its start to its end, in arrays that fit, with forest numbers cleared before; and the left table from what
 -- it gives.
 pub mod SizeLaws
 pub mod ClearLaws
 pub mod ScanLaws
+pub mod EnterLaws
 pub mod LeftTableLaws
 -- Last the answers of Order, Split and Cut, way by way.
 pub mod AnswerLaws

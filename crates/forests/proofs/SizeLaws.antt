@@ -1,16 +1,20 @@
--- The sizes of arrays: what a small network fits, and what every network fits. Assumes nothing.
-use Prim.Native.Nat.{ℕ, _≤_, _<_}
+-- The sizes of arrays: what a small network fits, what every network fits, and arrays for the scan. Assumes nothing.
+use Prim.Native.Nat.{ℕ, _*_, _≤_, _<_}
 use mathlib.Core.Bool.{Bool, true, false}
 use mathlib.Core.List.{List}
 use mathlib.Core.Path.{_≡_, sym, _∙_, ap}
 use native.Mathlib.Omega.{arith}
 use borrow.Author.Tests.{leb-true, le-leb, lt-leb}
 use lib.Dec.{leb}
-use lib.ListN.{length, replicate, length-replicate}
+use lib.ListN.{length, getD, replicate, length-replicate, getD-replicate}
 use Rattle.definitions.specs.Network.{Accepted}
 use Rattle.lists.specs.Tests.{and-both}
-use Rattle.theory.specs.Accepted.{accepted}
-use Rattle.forests.specs.Scan.{isSmall}
+use Rattle.theory.specs.Accepted.{ProperTable, accepted}
+use Rattle.forests.specs.Chains.{Chainable}
+use Rattle.forests.specs.Buckets.{wordBits, columnWords, NoBits}
+use Rattle.forests.specs.Scan.{isSmall, ChainArrays}
+use Rattle.forests.proofs.CountLaws.{none-counted}
+use Rattle.forests.proofs.BucketLaws.{no-bits}
 
 -- The test as the code makes it, where the first holds and where it fails.
 pub few-relays : (n m : ℕ) → n ≤ 128 → leb m 384 ≡ isSmall n m
@@ -29,10 +33,55 @@ small-sizes n m e t =
     (leb-true n 128 (both .0), leb-true m 384 (both .1))
 
 -- Zeros for 1,000 relays or 3,000 links are enough.
-pub relay-room : (n : ℕ) (lows highs list : List ℕ) → Accepted n lows highs → list ≡ replicate 1000 0 → n ≤ length list
-relay-room n lows highs list ok e =
-    omega (arith, accepted n lows highs ok .few, ap length e ∙ length-replicate {A = ℕ} 1000 0)
+pub relay-room : (n : ℕ) (lows highs states list : List ℕ) → Accepted n lows highs states → list ≡ replicate 1000 0 → n ≤ length list
+relay-room n lows highs states list ok e =
+    omega (arith, accepted n lows highs states ok .few, ap length e ∙ length-replicate {A = ℕ} 1000 0)
 
-pub link-room : (n : ℕ) (lows highs list : List ℕ) → Accepted n lows highs → list ≡ replicate 3000 0 → length lows ≤ length list
-link-room n lows highs list ok e =
-    omega (arith, accepted n lows highs ok .short, ap length e ∙ length-replicate {A = ℕ} 3000 0)
+pub link-room : (n : ℕ) (lows highs states list : List ℕ) → Accepted n lows highs states → list ≡ replicate 3000 0 → length lows ≤ length list
+link-room n lows highs states list ok e =
+    omega (arith, accepted n lows highs states ok .short, ap length e ∙ length-replicate {A = ℕ} 3000 0)
+
+-- A table of fewer relays is one of more.
+pub wide-table : {n size : ℕ} {lows highs : List ℕ} → n ≤ size → size ≤ 1000 → ProperTable n lows highs → ProperTable size lows highs
+wide-table h few t =
+    record {
+      some = omega (arith, t .some);
+      few = few;
+      even = t .even;
+      short = t .short;
+      ordered = t .ordered;
+      below = λ i p. omega (arith, t .below i p);
+      once = t .once;
+    }
+
+-- Arrays of enough relays and links.
+pub scan-arrays : (size halves columns n : ℕ) (lows : List ℕ) {first nexts counts bits : List ℕ} → n ≤ size → size ≤ 1000 → 2 * length lows ≤ halves
+    → size ≤ columns * wordBits → first ≡ replicate size (2 * length lows) → nexts ≡ replicate halves 0
+    → counts ≡ replicate size 0 → bits ≡ replicate (columns * columnWords) 0
+    → ChainArrays n lows first nexts counts × NoBits (length counts) bits
+scan-arrays size halves columns n lows {first} {nexts} {counts} {bits} heads few room wide f h c b =
+    let long : length first ≡ size = ap length f ∙ length-replicate size (2 * length lows) in
+    let counted : length counts ≡ size = ap length c ∙ length-replicate {A = ℕ} size 0 in (
+      record {
+        heads = omega arith;
+        few = omega arith;
+        noChains =
+            record {
+              none = λ r p. ap (λ z. getD z r 0) f ∙ getD-replicate size r (2 * length lows) 0 (omega arith);
+              room = omega (arith, ap length h, length-replicate {A = ℕ} halves 0);
+            };
+        countRoom = omega arith;
+        noCounts = none-counted size counts c;
+      },
+      no-bits columns (length counts) bits b (omega arith),
+    )
+
+-- Columns of more relays are columns of fewer.
+pub fewer-columns : {size fewer : ℕ} {bits : List ℕ} → fewer ≤ size → NoBits size bits → NoBits fewer bits
+fewer-columns h b = record { room = λ r p. b .room r (omega arith); none = b .none }
+
+-- Chains can be made of an accepted table.
+pub chain-ready : {n : ℕ} {lows highs first nexts counts : List ℕ} (states : List ℕ) → Accepted n lows highs states
+    → ChainArrays n lows first nexts counts → Chainable lows highs first nexts
+chain-ready {n} {lows} {highs} states ok w =
+    record { proper = wide-table (w .heads) (w .few) (accepted n lows highs states ok); noChains = w .noChains }

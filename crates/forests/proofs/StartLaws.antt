@@ -1,19 +1,23 @@
 -- The laws of the start, when no relay is placed: count by count the first n relays have count 1, and word by word their bits
--- are set in the words of count 1. Assumes nothing.
-use Prim.Native.Nat.{ℕ, _+_, _-_, _*_, _%_, _^_, _≤_, _<_, min}
+-- are set in the words of count 1; then relay by relay those that are withdrawn wait no more. Assumes nothing.
+use Prim.Native.Nat.{ℕ, suc, _+_, _-_, _*_, _%_, _^_, _≤_, _<_, min}
 use mathlib.Core.Bool.{Bool, true, false}
 use mathlib.Core.List.{List}
 use mathlib.Core.Path.{_≡_, refl, sym, _∙_, ap}
 use native.Mathlib.Decide.{ℕ-discrete, decLt}
 use native.Mathlib.Omega.{arith}
-use borrow.Author.Tests.{ne-eqb, lt-ltb, le-ltb, ltb-true, ltb-false}
+use borrow.Author.Tests.{eq-eqb, ne-eqb, lt-ltb, le-ltb, ltb-true, ltb-false}
 use lib.Dec.{eqb, ltb}
 use lib.ListN.{length, getD, set, length-set}
 use lib.Seq.{getD-set-same, getD-set-other}
 use Rattle.definitions.specs.Outcome.{pick}
+use Rattle.definitions.specs.Lists.{table, count}
+use Rattle.definitions.specs.Network.{serves}
+use Rattle.definitions.specs.Order.{allRelays, servingRelays}
+use Rattle.lists.specs.Counting.{length-keep}
 use Rattle.lists.specs.Bitmap.{bitOf, marked, one-bit}
 use Rattle.lists.specs.LowestBit.{bit-ones}
-use Rattle.forests.specs.Counts.{NoneBeyond, StartCounts}
+use Rattle.forests.specs.Counts.{withdrawnCount, NoneBeyond, AllWait, StartCounts, turnsOf}
 use Rattle.forests.specs.Buckets.{
   wordBits,
   columnWords,
@@ -147,7 +151,7 @@ fill-all n g bits enough f c r some most h = go (decLt (columnOf r) g)
         ∙ sym (ap (λ (b : Bool). eqb (pick b 1 0) c) (le-ltb r n (omega arith)) ∙ ne-eqb 0 c (λ z. omega arith))
 
 -- Counts and bits of the start agree.
-pub start-buckets : (n : ℕ) (counts bits : List ℕ) → ((r : ℕ) → r < length counts → HasColumn bits r) → StartCounts n counts
+pub start-buckets : (n : ℕ) (counts bits : List ℕ) → ((r : ℕ) → r < length counts → HasColumn bits r) → AllWait n counts
     → Filled n bits → Buckets counts bits
 start-buckets n counts bits room s f =
     record {
@@ -163,3 +167,95 @@ start-buckets n counts bits room s f =
     begun : (r : ℕ) → Dec (r < n) → begins n r ≡ getD counts r 0
     begun r (yes p) = ap (λ (b : Bool). pick b 1 0) (lt-ltb r n p) ∙ sym (s .waiting r p)
     begun r (no p) = ap (λ (b : Bool). pick b 1 0) (le-ltb r n (omega arith)) ∙ sym (s .rest r (omega arith))
+
+-- The counts when the withdrawn relays below r wait no more.
+pub record WithdrawnTo (n : ℕ) (states : List ℕ) (r : ℕ) (counts : List ℕ) : Type 0 where
+  pub room : n ≤ length counts
+  pub before : (q : ℕ) → q < r → getD counts q 0 ≡ pick (serves states q) 1 0
+  pub waiting : (q : ℕ) → r ≤ q → q < n → getD counts q 0 ≡ 1
+  pub rest : NoneBeyond n counts
+
+pub withdrawn-none : (n : ℕ) (states counts : List ℕ) → AllWait n counts → WithdrawnTo n states 0 counts
+withdrawn-none n states counts w =
+    record { room = w .room; before = λ q h. absurd (omega arith); waiting = λ q h less. w .waiting q less; rest = w .rest }
+
+pub withdrawn-all : (n : ℕ) (states counts : List ℕ) → WithdrawnTo n states n counts → StartCounts n states counts
+withdrawn-all n states counts w = record { room = w .room; waiting = w .before; rest = w .rest }
+
+pub leaves-withdrawn : (r state : ℕ) (counts : List ℕ) {counts′ : List ℕ} → state ≡ 0 → counts′ ≡ set counts r 0
+    → counts′ ≡ withdrawnCount r state counts
+unfolding withdrawnCount
+leaves-withdrawn r state counts e stored = rw (eq-eqb state 0 e) stored
+
+pub serving-stays : (r state : ℕ) (counts : List ℕ) → (state ≡ 0 → ⊥) → counts ≡ withdrawnCount r state counts
+unfolding withdrawnCount
+serving-stays r state counts e = rw (ne-eqb state 0 e)
+
+-- One relay more: it waits on, or it is withdrawn and waits no more.
+module _ (n : ℕ) (states : List ℕ) (r : ℕ) (counts : List ℕ) (below : r < n) (w : WithdrawnTo n states r counts) where
+  serving-waits : getD states r 0 ≡ 1 → WithdrawnTo n states (r + 1) counts
+  unfolding serves
+  serving-waits state =
+      record {
+        room = w .room;
+        before = λ q h. go q h (ℕ-discrete q r);
+        waiting = λ q h. w .waiting q (omega arith);
+        rest = w .rest;
+      }
+    where
+      go : (q : ℕ) → q < r + 1 → Dec (q ≡ r) → getD counts q 0 ≡ pick (serves states q) 1 0
+      go q h (yes e) = rw (e, state) (w .waiting r (omega arith) below)
+      go q h (no e) = w .before q (omega arith)
+
+  withdrawn-leaves : getD states r 0 ≡ 0 → WithdrawnTo n states (r + 1) (set counts r 0)
+  unfolding serves
+  withdrawn-leaves state =
+      record {
+        room = omega (arith, length-set counts r 0, w .room);
+        before = λ q h. go q h (ℕ-discrete q r);
+        waiting = λ q h less. other q (λ e. omega arith) ∙ w .waiting q (omega arith) less;
+        rest = λ q h. other q (λ e. omega arith) ∙ w .rest q h;
+      }
+    where
+      other : (q : ℕ) → (q ≡ r → ⊥) → getD (set counts r 0) q 0 ≡ getD counts q 0
+      other q e = getD-set-other counts r q 0 0 e
+
+      go : (q : ℕ) → q < r + 1 → Dec (q ≡ r) → getD (set counts r 0) q 0 ≡ pick (serves states q) 1 0
+      go q h (yes e) = rw (e, state) (getD-set-same counts r 0 0 (omega (arith, w .room)))
+      go q h (no e) = other q e ∙ w .before q (omega arith)
+
+  pub withdrawn-more : {counts′ : List ℕ} → getD states r 0 ≤ 1 → counts′ ≡ withdrawnCount r (getD states r 0) counts
+      → WithdrawnTo n states (r + 1) counts′
+  unfolding withdrawnCount
+  withdrawn-more {counts′} either stored = rw stored (go (ℕ-discrete (getD states r 0) 0))
+    where
+      go : Dec (getD states r 0 ≡ 0) → WithdrawnTo n states (r + 1) (pick (eqb (getD states r 0) 0) (set counts r 0) counts)
+      go (yes e) = rw (eq-eqb (getD states r 0) 0 e) (withdrawn-leaves e)
+      go (no e) = rw (ne-eqb (getD states r 0) 0 e) (serving-waits (omega arith))
+
+-- How many of the relays from r on are in service.
+unfoldable pub turnsFrom : (n : ℕ) (states : List ℕ) (r : ℕ) → ℕ
+turnsFrom n states r = count (serves states) (table (λ q. q) r (n - r))
+
+pub turns-all : (n : ℕ) (states : List ℕ) → turnsFrom n states 0 ≡ turnsOf n states
+unfolding turnsFrom servingRelays allRelays
+turns-all n states = let all : n - 0 ≡ n = omega arith in rw all (sym (length-keep (serves states) (table (λ q. q) 0 n)))
+
+pub turns-none : (n : ℕ) (states : List ℕ) → turnsFrom n states n ≡ 0
+unfolding turnsFrom table count
+turns-none n states = let none : n - n ≡ 0 = omega arith in rw none
+
+-- Each relay adds its state to them.
+pub turns-next : (n : ℕ) (states : List ℕ) (r : ℕ) → r < n → getD states r 0 ≤ 1
+    → turnsFrom n states r ≡ getD states r 0 + turnsFrom n states (r + 1)
+unfolding turnsFrom table count serves
+turns-next n states r below either =
+    let more : n - r ≡ suc (n - (r + 1)) = omega arith in
+    rw more (go (ℕ-discrete (getD states r 0) 1))
+  where
+    rest : ℕ
+    rest = count (serves states) (table (λ q. q) (r + 1) (n - (r + 1)))
+
+    go : Dec (getD states r 0 ≡ 1) → pick (eqb (getD states r 0) 1) 1 0 + rest ≡ getD states r 0 + rest
+    go (yes e) = rw e
+    go (no e) = let none : getD states r 0 ≡ 0 = omega arith in rw none

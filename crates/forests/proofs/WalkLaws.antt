@@ -2,6 +2,7 @@
 use Prim.Native.Nat.{ℕ, suc, _+_, _*_, _/_, _%_, _≤_, _<_}
 use mathlib.Core.Bool.{Bool, true, false, _||_, true≢false, _&&_}
 use mathlib.Core.List.{List}
+use mathlib.Core.Logic.{_≢_, _⊎_, inl, inr}
 use mathlib.Core.Path.{_≡_, refl, sym, _∙_, ap, ap₂}
 use native.Mathlib.Decide.{ℕ-discrete, decLt}
 use native.Mathlib.Omega.{arith}
@@ -12,11 +13,11 @@ use lib.Seq.{getD-set-same, getD-set-other}
 use Rattle.definitions.specs.Outcome.{pick}
 use Rattle.definitions.specs.Lists.{someBelow}
 use Rattle.definitions.specs.Network.{isPair, joins, touches}
-use Rattle.lists.specs.Tests.{and-false, or-none}
+use Rattle.lists.specs.Tests.{and-false, or-none, or-either}
 use Rattle.lists.specs.Below.{none-below}
 use Rattle.lists.specs.Stretches.{some-skip, and-skip}
 use Rattle.theory.specs.Accepted.{ProperTable}
-use Rattle.theory.specs.Links.{one-link}
+use Rattle.theory.specs.Links.{one-link, joins-ends}
 use Rattle.forests.specs.Chains.{halfOf, nextHalf, ChainedFrom}
 use Rattle.forests.specs.Counts.{raisedCount, forestNumber}
 use Rattle.forests.specs.Walk.{otherEnd, farEnd, acrossOf, across, WalkedTo}
@@ -192,3 +193,32 @@ module _ (lows highs : List ℕ) (x : ℕ) where
           same : Dec (j < i) → ltb j i ≡ ltb j (suc i)
           same (yes p) = lt-ltb j i p ∙ sym (lt-ltb j (suc i) (omega arith))
           same (no p) = le-ltb j i (omega arith) ∙ sym (le-ltb j (suc i) (omega arith))
+
+module _ {n : ℕ} {lows highs : List ℕ} (t : ProperTable n lows highs) where
+  pub joins-touch : (a b i : ℕ) → joins lows highs a b i ≡ true → touches lows highs a i ≡ true
+  joins-touch a b i e = go (touches lows highs a i) refl
+    where
+      go : (c : Bool) → touches lows highs a i ≡ c → c ≡ true
+      go true f = refl
+      go false f = absurd (true≢false (sym e ∙ joins-touches lows highs a b i f))
+
+  -- The other end of a link is another relay.
+  pub apart-ends : (a b i : ℕ) → i < length lows → joins lows highs a b i ≡ true → b ≢ a
+  apart-ends a b i h e = go (joins-ends lows highs a b i e)
+    where
+      go : ((getD lows i 0 ≡ a) × (getD highs i 0 ≡ b)) ⊎ ((getD lows i 0 ≡ b) × (getD highs i 0 ≡ a)) → b ≢ a
+      go (inl p) = λ same. omega (arith, p .0, p .1, t .ordered i h, same)
+      go (inr p) = λ same. omega (arith, p .0, p .1, t .ordered i h, same)
+
+  -- An end of a link that is not its one end is its other.
+  pub touch-end : (c a b i : ℕ) → touches lows highs c i ≡ true → joins lows highs a b i ≡ true → c ≢ a → c ≡ b
+  unfolding touches
+  touch-end c a b i f e d =
+      go (or-either (eqb (getD lows i 0) c) (eqb (getD highs i 0) c) f) (joins-ends lows highs a b i e)
+    where
+      go : (eqb (getD lows i 0) c ≡ true) ⊎ (eqb (getD highs i 0) c ≡ true)
+          → ((getD lows i 0 ≡ a) × (getD highs i 0 ≡ b)) ⊎ ((getD lows i 0 ≡ b) × (getD highs i 0 ≡ a)) → c ≡ b
+      go (inl p) (inl q) = absurd (d (sym (eqb-true (getD lows i 0) c p) ∙ q .0))
+      go (inl p) (inr q) = sym (eqb-true (getD lows i 0) c p) ∙ q .0
+      go (inr p) (inl q) = sym (eqb-true (getD highs i 0) c p) ∙ q .1
+      go (inr p) (inr q) = absurd (d (sym (eqb-true (getD highs i 0) c p) ∙ q .1))

@@ -7,7 +7,8 @@ ghost use Prim.Native.Nat.{_*_, _<_, _≤_};
 ghost use mathlib.Core.Path.{_≡_};
 ghost use lib.Bits.{bitOr, bitXor};
 ghost use lib.ListN.{length, getD, set, replicate};
-ghost use Rattle.forests.specs.Counts.{raisedCount, NoneBeyond, StartCounts};
+ghost use Rattle.theory.specs.Accepted.{ProperStates};
+ghost use Rattle.forests.specs.Counts.{raisedCount, withdrawnCount, NoneBeyond, AllWait, StartCounts, turnsOf};
 ghost use Rattle.forests.specs.Buckets.{
   columnWords,
   mostColumns,
@@ -88,7 +89,7 @@ fn set_bit(at: usize, bit: u64, bits: &mut [u64])
 // Each of the first n relays has count 1.
 fn wait_all(n: u16, counts: &mut [u16])
     requires { ⌜ (n ≤ length (now counts)) × NoneBeyond n (now counts) ⌝ }
-    ensures { λ _. ⌜ StartCounts n (now (counts .exit)) ⌝ }
+    ensures { λ _. ⌜ AllWait n (now (counts .exit)) ⌝ }
 {
     let size = n as usize;
     let mut r = 0;
@@ -123,16 +124,7 @@ fn fill_words(n: u16, bits: &mut [u64])
     }
 }
 
-// Relays 0 to n − 1 wait for their places.
-pub(crate) fn start_counts(n: u16, counts: &mut [u16], bits: &mut [u64])
-    requires { ⌜ (n ≤ length (now counts)) × NoneBeyond n (now counts) × NoBits (length (now counts)) (now bits) ⌝ }
-    ensures { λ _. ⌜ StartCounts n (now (counts .exit)) × Buckets (now (counts .exit)) (now (bits .exit)) ⌝ }
-{
-    wait_all(n, counts);
-    fill_words(n, bits);
-}
-
-// Relay r is placed and waits no more. Gives its count before.
+// Relay r waits no more: it is placed or withdrawn. Gives its count before.
 pub(crate) fn leave(r: Relay, counts: &mut [u16], bits: &mut [u64]) -> u16
     requires { ⌜ (r .0 < length (now counts)) × Buckets (now counts) (now bits) ⌝ }
     ensures { λ count. ⌜ count ≡ getD (now (counts .entry)) (r .0) 0 ⌝ }
@@ -143,6 +135,47 @@ pub(crate) fn leave(r: Relay, counts: &mut [u16], bits: &mut [u64]) -> u16
     counts[at] = 0;
     flip(word_of(count, r), bit_of(count, r), bits);
     count
+}
+
+// Relay r waits no more if its state is 0, withdrawn.
+fn withdraw_one(r: Relay, state: u16, counts: &mut [u16], bits: &mut [u64])
+    requires { ⌜ (r .0 < length (now counts)) × Buckets (now counts) (now bits) ⌝ }
+    ensures { λ _. ⌜ now (counts .exit) ≡ withdrawnCount (r .0) state (now (counts .entry)) ⌝ }
+    ensures { λ _. ⌜ Buckets (now (counts .exit)) (now (bits .exit)) ⌝ }
+{
+    if state == 0 {
+        leave(r, counts, bits);
+    }
+}
+
+// Withdrawn relays wait for no place. Gives how many of the first n relays are in service.
+fn withdraw(n: u16, states: &[u16], counts: &mut [u16], bits: &mut [u64]) -> u16
+    requires { ⌜ (n ≤ 1000) × ProperStates n (now states) × AllWait n (now counts) × Buckets (now counts) (now bits) ⌝ }
+    ensures { λ turns. ⌜ turns ≡ turnsOf n (now (states .entry)) ⌝ }
+    ensures { λ _. ⌜ StartCounts n (now (states .entry)) (now (counts .exit)) × Buckets (now (counts .exit)) (now (bits .exit)) ⌝ }
+{
+    let mut turns = 0;
+    let mut r = 0;
+    while r < n {
+        let at = r as usize;
+        let state = states[at];
+        withdraw_one(Relay(r), state, counts, bits);
+        turns += state;
+        r += 1;
+    }
+    turns
+}
+
+// Those of relays 0 to n − 1 that are in service wait for their places. Gives how many they are.
+pub(crate) fn start_counts(n: u16, states: &[u16], counts: &mut [u16], bits: &mut [u64]) -> u16
+    requires { ⌜ (n ≤ 1000) × (n ≤ length (now counts)) × ProperStates n (now states) × NoneBeyond n (now counts)
+        × NoBits (length (now counts)) (now bits) ⌝ }
+    ensures { λ turns. ⌜ turns ≡ turnsOf n (now (states .entry)) ⌝ }
+    ensures { λ _. ⌜ StartCounts n (now (states .entry)) (now (counts .exit)) × Buckets (now (counts .exit)) (now (bits .exit)) ⌝ }
+{
+    wait_all(n, counts);
+    fill_words(n, bits);
+    withdraw(n, states, counts, bits)
 }
 
 // Relay r has one more link to a placed relay, if it waits. Gives its count before. The bit leaves a word by `^` and enters the next

@@ -1,4 +1,4 @@
-// The count of each relay: 0 once it is placed, else one more than its links to placed relays.
+// The count of each relay: 0 once it is placed and if it is withdrawn, else one more than its links to placed relays.
 ghost use Prim.Native.Nat.{_<_};
 ghost use mathlib.Core.Path.{_≡_};
 ghost use Rattle.forests.specs.Counts.{raisedCount, forestNumber};

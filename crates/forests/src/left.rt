@@ -6,7 +6,7 @@ use network::Relay;
 ghost use Prim.Native.Nat.{suc, min, max, _<_};
 ghost use mathlib.Core.Path.{_≡_};
 ghost use lib.ListN.{length, set};
-ghost use Rattle.forests.specs.Left.{leftIndex, Enterable, entered, endEntered, LeftInput, LeftTable};
+ghost use Rattle.forests.specs.Left.{leftIndex, Enterable, entered, endEntered, LeftOfSome, LeftOfEach};
 
 fn earlier(p: Place, q: Place) -> Place
     ensures { λ r. ⌜ r .0 ≡ min (p .0) (q .0) ⌝ }
@@ -30,7 +30,8 @@ fn put_left(table: &mut [u16], n: u16, forest: u16, v: Place, link: usize)
     table[at] = (link + 1) as u16;
 }
 
-// Link i is entered if its forest is one of the first k; its forest number then gives way to the place of its earlier end.
+// Link i is entered if its forest is one of the first k; its forest number then gives way to the place of its earlier end. A link
+// with a withdrawn end is in no forest: its number is 0 and stays.
 fn enter_link(
     table: &mut [u16],
     n: u16,
@@ -50,6 +51,9 @@ fn enter_link(
     let p = place_of(places, Relay(lows[i]));
     let q = place_of(places, Relay(highs[i]));
     let forest = forests[i];
+    if forest < 1 {
+        return;
+    }
     if forest <= k {
         let near = earlier(p, q);
         forests[i] = near.0;
@@ -57,7 +61,7 @@ fn enter_link(
     }
 }
 
-// The left table of an accepted table, from the places and the forest numbers that the scan gives, into zeros.
+// The left table of an accepted network, from the places and the forest numbers that the scan gives, into zeros.
 pub fn left_table(
     table: &mut [u16],
     n: u16,
@@ -67,9 +71,9 @@ pub fn left_table(
     places: &[u16],
     forests: &mut [u16],
 )
-    requires { ⌜ LeftInput n k (now lows) (now highs) (now places) (now forests) (now table) ⌝ }
-    ensures { λ _. ⌜ LeftTable n k (now (lows .entry)) (now (highs .entry)) (now (table .entry)) (now (table .exit))
-        (now (forests .exit)) ⌝ }
+    requires { ⌜ LeftOfSome n k (now lows) (now highs) (now places) (now forests) (now table) ⌝ }
+    ensures { λ _. ⌜ LeftOfEach n k (now (lows .entry)) (now (highs .entry)) (now (places .entry)) (now (forests .entry))
+        (now (table .entry)) (now (table .exit)) (now (forests .exit)) ⌝ }
 {
     let mut i = 0;
     while i < lows.len() {

@@ -45,17 +45,18 @@ pub fn order(
     n: u16,
     lows: &[u16],
     highs: &[u16],
+    states: &[u16],
     relays: &mut [u16],
     places: &mut [u16],
 ) -> OrderAnswer
     ensures answer { λ r. ⌜ orderOutcome r
-        ≡ orderAnswer n (now (lows .entry)) (now (highs .entry)) (now (relays .entry)) (now (places .entry)) ⌝ }
+        ≡ orderAnswer n (now (lows .entry)) (now (highs .entry)) (now (states .entry)) (now (relays .entry)) (now (places .entry)) ⌝ }
     ensures relays { λ _. ⌜ now (relays .exit)
-        ≡ relaysAfter n (now (lows .entry)) (now (highs .entry)) (now (relays .entry)) (now (places .entry)) ⌝ }
+        ≡ relaysAfter n (now (lows .entry)) (now (highs .entry)) (now (states .entry)) (now (relays .entry)) (now (places .entry)) ⌝ }
     ensures places { λ _. ⌜ now (places .exit)
-        ≡ placesAfter n (now (lows .entry)) (now (highs .entry)) (now (relays .entry)) (now (places .entry)) ⌝ }
+        ≡ placesAfter n (now (lows .entry)) (now (highs .entry)) (now (states .entry)) (now (relays .entry)) (now (places .entry)) ⌝ }
 {
-    match table_check(n, lows, highs) {
+    match table_check(n, lows, highs, states) {
         Check::Refused(refusal) => OrderAnswer::Refused(refusal),
         Check::Accepted => {
             let size = n as usize;
@@ -65,36 +66,49 @@ pub fn order(
             if places.len() < size {
                 return OrderAnswer::Refused(Refusal::Room);
             }
-            place_relays(n, lows, highs, relays, places);
+            place_relays(n, lows, highs, states, relays, places);
             OrderAnswer::Done
         }
     }
 }
 
 // The forest number of each link.
-pub fn split(n: u16, lows: &[u16], highs: &[u16], forests: &mut [u16]) -> SplitAnswer
-    ensures answer { λ r. ⌜ splitOutcome r ≡ splitAnswer n (now (lows .entry)) (now (highs .entry)) (now (forests .entry)) ⌝ }
-    ensures forests { λ _. ⌜ now (forests .exit) ≡ forestsAfter n (now (lows .entry)) (now (highs .entry)) (now (forests .entry)) ⌝ }
+pub fn split(
+    n: u16,
+    lows: &[u16],
+    highs: &[u16],
+    states: &[u16],
+    forests: &mut [u16],
+) -> SplitAnswer
+    ensures answer { λ r. ⌜ splitOutcome r ≡ splitAnswer n (now (lows .entry)) (now (highs .entry)) (now (states .entry)) (now (forests .entry)) ⌝ }
+    ensures forests { λ _. ⌜ now (forests .exit) ≡ forestsAfter n (now (lows .entry)) (now (highs .entry)) (now (states .entry)) (now (forests .entry)) ⌝ }
 {
-    match table_check(n, lows, highs) {
+    match table_check(n, lows, highs, states) {
         Check::Refused(refusal) => SplitAnswer::Refused(refusal),
         Check::Accepted => {
             let m = lows.len();
             if forests.len() < m {
                 return SplitAnswer::Refused(Refusal::Room);
             }
-            number_links(n, lows, highs, forests);
+            number_links(n, lows, highs, states, forests);
             SplitAnswer::Highest(highest(m, forests))
         }
     }
 }
 
 // The mark of each link: 1 kept, 0 dropped.
-pub fn cut(n: u16, lows: &[u16], highs: &[u16], k: u16, marks: &mut [u16]) -> CutAnswer
-    ensures answer { λ r. ⌜ cutOutcome r ≡ cutAnswer n (now (lows .entry)) (now (highs .entry)) k (now (marks .entry)) ⌝ }
-    ensures marks { λ _. ⌜ now (marks .exit) ≡ marksAfter n (now (lows .entry)) (now (highs .entry)) k (now (marks .entry)) ⌝ }
+pub fn cut(
+    n: u16,
+    lows: &[u16],
+    highs: &[u16],
+    states: &[u16],
+    k: u16,
+    marks: &mut [u16],
+) -> CutAnswer
+    ensures answer { λ r. ⌜ cutOutcome r ≡ cutAnswer n (now (lows .entry)) (now (highs .entry)) (now (states .entry)) k (now (marks .entry)) ⌝ }
+    ensures marks { λ _. ⌜ now (marks .exit) ≡ marksAfter n (now (lows .entry)) (now (highs .entry)) (now (states .entry)) k (now (marks .entry)) ⌝ }
 {
-    match table_check(n, lows, highs) {
+    match table_check(n, lows, highs, states) {
         Check::Refused(refusal) => CutAnswer::Refused(refusal),
         Check::Accepted => {
             let m = lows.len();
@@ -107,7 +121,7 @@ pub fn cut(n: u16, lows: &[u16], highs: &[u16], k: u16, marks: &mut [u16]) -> Cu
             if marks.len() < m {
                 return CutAnswer::Refused(Refusal::Room);
             }
-            number_links(n, lows, highs, marks);
+            number_links(n, lows, highs, states, marks);
             CutAnswer::Kept(mark_links(m, k, marks))
         }
     }

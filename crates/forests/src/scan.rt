@@ -21,10 +21,10 @@ ghost use mathlib.Core.Path.{_≡_};
 ghost use lib.ListN.{length, getD, set};
 ghost use Rattle.definitions.specs.Lists.{overwrite};
 ghost use Rattle.definitions.specs.Network.{Accepted};
-ghost use Rattle.definitions.specs.Order.{firstRelay, orderOf, placesOf};
+ghost use Rattle.definitions.specs.Order.{orderOf, placesOf};
 ghost use Rattle.definitions.specs.Forests.{forestsOf};
-ghost use Rattle.forests.specs.Buckets.{columnWords, mostColumns, Leads};
-ghost use Rattle.forests.specs.Scan.{Prepared, Startable, Scannable, ScanArrays, isSmall, Scanned};
+ghost use Rattle.forests.specs.Buckets.{columnWords, mostColumns, NoBits, Leads};
+ghost use Rattle.forests.specs.Scan.{ChainArrays, Prepared, Startable, Scannable, isSmall, Scanned};
 
 // The place of a relay, from the list of places.
 pub fn place_of(places: &[u16], r: Relay) -> Place
@@ -58,11 +58,13 @@ fn next_relay(v: Place, start: Relay, columns: usize, most: u16, bits: &[u64]) -
     leading(columns, most, bits)
 }
 
-// All n relays get their places, first the one that `relays` begins with; no count is greater than `most`.
+// The relays in service get their places, first `start`; no count is greater than `most`.
 fn place_all(
     n: u16,
+    start: Relay,
     lows: &[u16],
     highs: &[u16],
+    states: &[u16],
     first: &[u16],
     nexts: &[u16],
     counts: &mut [u16],
@@ -71,41 +73,39 @@ fn place_all(
     places: &mut [u16],
     forests: &mut [u16],
 )
-    requires { ⌜ Startable n (now lows) (now highs) (now first) (now nexts) (now counts) (now bits)
-        (now relays) (now places) (now forests) × (getD (now relays) 0 0 ≡ firstRelay n (now lows) (now highs)) ⌝ }
-    ensures { λ _. ⌜ Scanned n (now (lows .entry)) (now (highs .entry)) (now (relays .entry)) (now (relays .exit))
-        (now (places .entry)) (now (places .exit)) (now (forests .entry)) (now (forests .exit)) ⌝ }
+    requires { ⌜ Startable n (start .0) (now lows) (now highs) (now states) (now first) (now nexts) (now counts) (now bits)
+        (now relays) (now places) (now forests) ⌝ }
+    ensures { λ _. ⌜ Scanned n (now (lows .entry)) (now (highs .entry)) (now (states .entry)) (now (relays .entry))
+        (now (relays .exit)) (now (places .entry)) (now (places .exit)) (now (forests .entry)) (now (forests .exit)) ⌝ }
 {
+    let turns = start_counts(n, states, counts, bits);
     let columns = columns_of(n);
     let mut v = 0;
     let mut most = 1;
-    while v < n {
+    while v < turns {
         v += 1;
-        let x = next_relay(Place(v), Relay(relays[0]), columns, most, bits);
+        let x = next_relay(Place(v), start, columns, most, bits);
         put(x, Place(v), relays, places);
         most = walk(x, lows, highs, first, nexts, counts, bits, forests) + 1;
     }
 }
 
-// Makes the chains and lets all relays wait. Gives the first relay of the order.
+// Makes the chains. Gives the first relay of the order, any number if no relay is in service.
 fn prepare(
     n: u16,
     lows: &[u16],
     highs: &[u16],
+    states: &[u16],
     first: &mut [u16],
     nexts: &mut [u16],
     counts: &mut [u16],
-    bits: &mut [u64],
 ) -> Relay
-    requires { ⌜ Accepted n (now lows) (now highs)
-        × ScanArrays n (now lows) (now first) (now nexts) (now counts) (now bits) ⌝ }
-    ensures { λ x. ⌜ Prepared n (now (lows .entry)) (now (highs .entry)) (now (first .exit)) (now (nexts .exit))
-        (now (counts .exit)) (now (bits .exit)) (x .0) ⌝ }
+    requires { ⌜ Accepted n (now lows) (now highs) (now states) × ChainArrays n (now lows) (now first) (now nexts) (now counts) ⌝ }
+    ensures { λ x. ⌜ Prepared n (now (lows .entry)) (now (highs .entry)) (now (states .entry)) (now (first .exit))
+        (now (nexts .exit)) (now (counts .exit)) (x .0) ⌝ }
 {
-    link_up(lows, highs, first, nexts, counts);
-    let start = busiest(n, counts);
-    start_counts(n, counts, bits);
-    start
+    link_up(lows, highs, states, first, nexts, counts);
+    busiest(n, states, counts)
 }
 
 // The scan in arrays that are lent to it.
@@ -113,6 +113,7 @@ fn scan_in(
     n: u16,
     lows: &[u16],
     highs: &[u16],
+    states: &[u16],
     first: &mut [u16],
     nexts: &mut [u16],
     counts: &mut [u16],
@@ -121,18 +122,20 @@ fn scan_in(
     places: &mut [u16],
     forests: &mut [u16],
 )
-    requires { ⌜ Scannable n (now lows) (now highs) (now relays) (now places) (now forests)
-        × ScanArrays n (now lows) (now first) (now nexts) (now counts) (now bits) ⌝ }
-    ensures { λ _. ⌜ Scanned n (now (lows .entry)) (now (highs .entry)) (now (relays .entry)) (now (relays .exit))
-        (now (places .entry)) (now (places .exit)) (now (forests .entry)) (now (forests .exit)) ⌝ }
+    requires { ⌜ Scannable n (now lows) (now highs) (now states) (now relays) (now places) (now forests)
+        × ChainArrays n (now lows) (now first) (now nexts) (now counts) × NoBits (length (now counts)) (now bits) ⌝ }
+    ensures { λ _. ⌜ Scanned n (now (lows .entry)) (now (highs .entry)) (now (states .entry)) (now (relays .entry))
+        (now (relays .exit)) (now (places .entry)) (now (places .exit)) (now (forests .entry)) (now (forests .exit)) ⌝ }
 {
-    let start = prepare(n, lows, highs, first, nexts, counts, bits);
-    relays[0] = start.0;
+    let start = prepare(n, lows, highs, states, first, nexts, counts);
+    clear(places, n as usize);
     clear(forests, lows.len());
     place_all(
         n,
+        start,
         lows,
         highs,
+        states,
         first,
         nexts,
         counts,
@@ -154,13 +157,14 @@ fn scan_small(
     n: u16,
     lows: &[u16],
     highs: &[u16],
+    states: &[u16],
     relays: &mut [u16],
     places: &mut [u16],
     forests: &mut [u16],
 )
-    requires { ⌜ Scannable n (now lows) (now highs) (now relays) (now places) (now forests) × (n ≤ 128) × (length (now lows) ≤ 384) ⌝ }
-    ensures { λ _. ⌜ Scanned n (now (lows .entry)) (now (highs .entry)) (now (relays .entry)) (now (relays .exit))
-        (now (places .entry)) (now (places .exit)) (now (forests .entry)) (now (forests .exit)) ⌝ }
+    requires { ⌜ Scannable n (now lows) (now highs) (now states) (now relays) (now places) (now forests) × (n ≤ 128) × (length (now lows) ≤ 384) ⌝ }
+    ensures { λ _. ⌜ Scanned n (now (lows .entry)) (now (highs .entry)) (now (states .entry)) (now (relays .entry))
+        (now (relays .exit)) (now (places .entry)) (now (places .exit)) (now (forests .entry)) (now (forests .exit)) ⌝ }
 {
     let none = 2 * lows.len() as u16;
     let mut first = few_relay_copies(none);
@@ -171,6 +175,7 @@ fn scan_small(
         n,
         lows,
         highs,
+        states,
         &mut first,
         &mut nexts,
         &mut counts,
@@ -185,13 +190,14 @@ fn scan_large(
     n: u16,
     lows: &[u16],
     highs: &[u16],
+    states: &[u16],
     relays: &mut [u16],
     places: &mut [u16],
     forests: &mut [u16],
 )
-    requires { ⌜ Scannable n (now lows) (now highs) (now relays) (now places) (now forests) ⌝ }
-    ensures { λ _. ⌜ Scanned n (now (lows .entry)) (now (highs .entry)) (now (relays .entry)) (now (relays .exit))
-        (now (places .entry)) (now (places .exit)) (now (forests .entry)) (now (forests .exit)) ⌝ }
+    requires { ⌜ Scannable n (now lows) (now highs) (now states) (now relays) (now places) (now forests) ⌝ }
+    ensures { λ _. ⌜ Scanned n (now (lows .entry)) (now (highs .entry)) (now (states .entry)) (now (relays .entry))
+        (now (relays .exit)) (now (places .entry)) (now (places .exit)) (now (forests .entry)) (now (forests .exit)) ⌝ }
 {
     let none = 2 * lows.len() as u16;
     let mut first = relay_copies(none);
@@ -202,6 +208,7 @@ fn scan_large(
         n,
         lows,
         highs,
+        states,
         &mut first,
         &mut nexts,
         &mut counts,
@@ -217,18 +224,19 @@ pub fn scan(
     n: u16,
     lows: &[u16],
     highs: &[u16],
+    states: &[u16],
     relays: &mut [u16],
     places: &mut [u16],
     forests: &mut [u16],
 )
-    requires { ⌜ Scannable n (now lows) (now highs) (now relays) (now places) (now forests) ⌝ }
-    ensures { λ _. ⌜ Scanned n (now (lows .entry)) (now (highs .entry)) (now (relays .entry)) (now (relays .exit))
-        (now (places .entry)) (now (places .exit)) (now (forests .entry)) (now (forests .exit)) ⌝ }
+    requires { ⌜ Scannable n (now lows) (now highs) (now states) (now relays) (now places) (now forests) ⌝ }
+    ensures { λ _. ⌜ Scanned n (now (lows .entry)) (now (highs .entry)) (now (states .entry)) (now (relays .entry))
+        (now (relays .exit)) (now (places .entry)) (now (places .exit)) (now (forests .entry)) (now (forests .exit)) ⌝ }
 {
     if is_small(n, lows.len()) {
-        scan_small(n, lows, highs, relays, places, forests);
+        scan_small(n, lows, highs, states, relays, places, forests);
     } else {
-        scan_large(n, lows, highs, relays, places, forests);
+        scan_large(n, lows, highs, states, relays, places, forests);
     }
 }
 
@@ -237,35 +245,38 @@ pub(crate) fn place_relays(
     n: u16,
     lows: &[u16],
     highs: &[u16],
+    states: &[u16],
     relays: &mut [u16],
     places: &mut [u16],
 )
-    requires { ⌜ Accepted n (now lows) (now highs) × (n ≤ length (now relays)) × (n ≤ length (now places)) ⌝ }
-    ensures { λ _. ⌜ now (relays .exit) ≡ overwrite (orderOf n (now (lows .entry)) (now (highs .entry))) (now (relays .entry)) ⌝ }
+    requires { ⌜ Accepted n (now lows) (now highs) (now states) × (n ≤ length (now relays)) × (n ≤ length (now places)) ⌝ }
+    ensures { λ _. ⌜ now (relays .exit)
+        ≡ overwrite (orderOf n (now (lows .entry)) (now (highs .entry)) (now (states .entry))) (now (relays .entry)) ⌝ }
     ensures { λ _. ⌜ now (places .exit)
-        ≡ overwrite (placesOf n (orderOf n (now (lows .entry)) (now (highs .entry)))) (now (places .entry)) ⌝ }
+        ≡ overwrite (placesOf n (orderOf n (now (lows .entry)) (now (highs .entry)) (now (states .entry)))) (now (places .entry)) ⌝ }
 {
     if lows.len() <= 384 {
         let mut forests = few_link_zeros();
-        scan(n, lows, highs, relays, places, &mut forests);
+        scan(n, lows, highs, states, relays, places, &mut forests);
     } else {
         let mut forests = link_zeros();
-        scan(n, lows, highs, relays, places, &mut forests);
+        scan(n, lows, highs, states, relays, places, &mut forests);
     }
 }
 
 // The forest numbers alone.
-pub(crate) fn number_links(n: u16, lows: &[u16], highs: &[u16], forests: &mut [u16])
-    requires { ⌜ Accepted n (now lows) (now highs) × (length (now lows) ≤ length (now forests)) ⌝ }
-    ensures { λ _. ⌜ now (forests .exit) ≡ overwrite (forestsOf n (now (lows .entry)) (now (highs .entry))) (now (forests .entry)) ⌝ }
+pub(crate) fn number_links(n: u16, lows: &[u16], highs: &[u16], states: &[u16], forests: &mut [u16])
+    requires { ⌜ Accepted n (now lows) (now highs) (now states) × (length (now lows) ≤ length (now forests)) ⌝ }
+    ensures { λ _. ⌜ now (forests .exit)
+        ≡ overwrite (forestsOf n (now (lows .entry)) (now (highs .entry)) (now (states .entry))) (now (forests .entry)) ⌝ }
 {
     if n <= 128 {
         let mut relays = few_relay_copies(0);
         let mut places = few_relay_copies(0);
-        scan(n, lows, highs, &mut relays, &mut places, forests);
+        scan(n, lows, highs, states, &mut relays, &mut places, forests);
     } else {
         let mut relays = relay_copies(0);
         let mut places = relay_copies(0);
-        scan(n, lows, highs, &mut relays, &mut places, forests);
+        scan(n, lows, highs, states, &mut relays, &mut places, forests);
     }
 }

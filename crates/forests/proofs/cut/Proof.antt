@@ -12,8 +12,8 @@ use Rattle.forests.proofs.cut.Statement.{statement}
 use Rattle.forests.proofs.cut.Tie as tie
 
 good : (c : tie.After-enum-told)
-    → let a = c .before .before .before .before .before .before .args in
-    Accepted (a .n) (now (a .lows)) (now (a .highs))
+    → let a = c .before .before .before .before .before .before .before .args in
+    Accepted (a .n) (now (a .lows)) (now (a .highs)) (now (a .states))
 good c = sym (c .before .before .table-check .ensures) ∙ ap checkOutcome (c .enum-told .given .1)
 
 table-check-requires : tie.Need-table-check-requires
@@ -27,21 +27,21 @@ enum-told c = search needs
 
 returns : tie.Need-returns
 returns c =
-    let a = c .before .before .before .before .before .before .before .args in
-    cut-count (a .n) (now (a .lows)) (now (a .highs)) (a .k) (now (a .marks)) (good (c .before)) (below 1 32 (a .k) (c .if1 .taken))
+    let a = c .before .before .before .before .before .before .before .before .args in
+    cut-count (a .n) (now (a .lows)) (now (a .highs)) (now (a .states)) (a .k) (now (a .marks)) (good (c .before)) (below 1 32 (a .k) (c .if1 .taken))
 
 returns-2 : tie.Need-returns-2
 returns-2 c =
-    let start = c .before .before .before .before .before .before .before .before in
+    let start = c .before .before .before .before .before .before .before .before .before in
     let a = start .args in
-    cut-count (a .n) (now (a .lows)) (now (a .highs)) (a .k) (now (a .marks)) (good (c .before .before))
+    cut-count (a .n) (now (a .lows)) (now (a .highs)) (now (a .states)) (a .k) (now (a .marks)) (good (c .before .before))
     (above 1 32 (a .k) (c .before .if1 .left) (c .if2 .taken))
 
 returns-3 : tie.Need-returns-3
 returns-3 c =
-    let start = c .before .before .before .before .before .before .before .before .before in
+    let start = c .before .before .before .before .before .before .before .before .before .before in
     let a = start .args in
-    cut-short (a .n) (now (a .lows)) (now (a .highs)) (a .k) (now (a .marks)) (good (c .before .before .before))
+    cut-short (a .n) (now (a .lows)) (now (a .highs)) (now (a .states)) (a .k) (now (a .marks)) (good (c .before .before .before))
     (inside 1 32 (a .k) (c .before .before .if1 .left) (c .before .if2 .left)) (c .if3 .taken)
 
 number-links-requires : tie.Need-number-links-requires
@@ -49,18 +49,18 @@ number-links-requires c κs = (good (c .before .before .before .before), c .befo
 
 mark-links-requires : tie.Need-mark-links-requires
 mark-links-requires c κs =
-    let a = c .before .before .before .before .before .before .before .before .before .before .before .before .before .before .args in (
-      accepted (a .n) (now (a .lows)) (now (a .highs)) (good (c .before .before .before .before .before .before .before .before)) .short,
-      omega (arith, c .before .before .before .number-links .kept .1 .1 .1 .0, c .before .before .before .before .before .if3 .left),
+    let a = c .before .before .before .before .before .before .before .before .before .before .before .before .before .before .before .args in (
+      accepted (a .n) (now (a .lows)) (now (a .highs)) (now (a .states)) (good (c .before .before .before .before .before .before .before .before)) .short,
+      omega (arith, c .before .before .before .number-links .kept .1 .1 .1 .1 .0, c .before .before .before .before .before .if3 .left),
     )
 
 returns-4 : tie.Need-returns-4
 returns-4 c =
     let atTableCheck = c .before .before .before in
-    let start = atTableCheck .before .before .before .before in
+    let start = atTableCheck .before .before .before .before .before in
     let a = start .args in
     let refusal = c .before .refusal .given in
-    cut-refused (a .n) (now (a .lows)) (now (a .highs)) (a .k) (now (a .marks)) (refusal .0 .0)
+    cut-refused (a .n) (now (a .lows)) (now (a .highs)) (now (a .states)) (a .k) (now (a .marks)) (refusal .0 .0)
     (sym (ap checkOutcome (refusal .1)) ∙ atTableCheck .table-check .ensures)
 
 same-length : tie.Need-same-length
@@ -72,13 +72,13 @@ returns-5 c =
     let atIf3 = atNumberLinks .before .before in
     let atIf2 = atIf3 .before in
     let atIf1 = atIf2 .before in
-    let start = atIf1 .before .before .before .before .before .before .before in
+    let start = atIf1 .before .before .before .before .before .before .before .before in
     let a = start .args in
     let inRange = inside 1 32 (a .k) (atIf1 .if1 .left) (atIf2 .if2 .left) in
     let enough = atIf3 .if3 .left in
     let stored = atNumberLinks .number-links .ensures in
     let marked = c .before .before .mark-links in
-    cut-done (a .n) (now (a .lows)) (now (a .highs)) (a .k) (now (a .marks)) (marked .result)
+    cut-done (a .n) (now (a .lows)) (now (a .highs)) (now (a .states)) (a .k) (now (a .marks)) (marked .result)
     (good (c .before .before .before .before .before .before .before .before .before .before .before)) inRange enough stored
     (marked .ensures .0) (marked .ensures .1)
 

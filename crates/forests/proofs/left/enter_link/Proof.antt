@@ -1,8 +1,18 @@
 -- A link is entered under its later place, and its earlier place put in the place of its forest number. Assumes nothing.
 use Prim.Native.Nat.{min, max}
 use mathlib.Core.Path.{_≡_, _∙_, ap₂}
+use lib.ListN.{getD}
+use native.Mathlib.Omega.{arith}
 use Rattle.forests.specs.Left.{laterAt, earlierAt}
-use Rattle.forests.proofs.LeftTableLaws.{entered-some, entered-none, end-some, end-none}
+use Rattle.forests.proofs.EnterLaws.{
+  is-entered,
+  no-forest-entered,
+  none-past-entered,
+  entered-some,
+  entered-none,
+  end-some,
+  end-none,
+}
 use borrow.Author.Needs.{needs}
 use Rattle.forests.proofs.left.enter_link.Statement.{statement}
 use Rattle.forests.proofs.left.enter_link.Tie as tie
@@ -31,6 +41,14 @@ mul-forest-3 c = search needs
 slice-read-forest : tie.Need-slice-read-forest
 slice-read-forest c = search needs
 
+returns : tie.Need-returns
+returns c =
+    let a = c .before .before .before .before .before .before .before .before .before .before .before .args in
+    let none = no-forest-entered (a .k) (getD (a .forests .now) (a .i) 0) (omega (arith, c .if1 .taken)) in (
+      entered-none (a .k) (a .i) (a .lows .now) (a .highs .now) (a .places .now) (a .forests .now) (a .n) (a .table .now) none,
+      end-none (a .k) (a .i) (a .lows .now) (a .highs .now) (a .places .now) (a .forests .now) none,
+    )
+
 earlier-requires : tie.Need-earlier-requires
 earlier-requires c κs = search needs
 
@@ -44,26 +62,27 @@ later-requires : tie.Need-later-requires
 later-requires c κs = search needs
 
 early : (c : tie.After-earlier)
-    → let a = c .before .before .before .before .before .before .before .before .before .before .before .before .args in
+    → let a = c .before .before .before .before .before .before .before .before .before .before .before .before .before .args in
     c .earlier .result .0 ≡ earlierAt (a .lows .now) (a .highs .now) (a .places .now) (a .i)
 early c =
-    let atPlaceOf2 = c .before .before .before in
+    let atPlaceOf2 = c .before .before .before .before in
     let atPlaceOf = atPlaceOf2 .before .before in
     c .earlier .ensures ∙ ap₂ min (atPlaceOf .place-of .ensures) (atPlaceOf2 .place-of2 .ensures)
 
 late : (c : tie.After-later)
-    → let a = c .before .before .before .before .before .before .before .before .before .before .before .before .before .before .args in
+    → let a = c .before .before .before .before .before .before .before .before .before .before .before .before .before .before .before .args in
     c .later .result .0 ≡ laterAt (a .lows .now) (a .highs .now) (a .places .now) (a .i)
 late c =
-    let atPlaceOf2 = c .before .before .before .before .before in
+    let atPlaceOf2 = c .before .before .before .before .before .before in
     let atPlaceOf = atPlaceOf2 .before .before in
     c .later .ensures ∙ ap₂ max (atPlaceOf .place-of .ensures) (atPlaceOf2 .place-of2 .ensures)
 
 put-left-requires : tie.Need-put-left-requires
 put-left-requires c κs =
     let v = late c in
-    let p = c .before .before .before .before .before .before .before .before .before .before .before .before .before .before .pre in
-    (p .forest, rw v (p .some), rw v (p .index (c .before .before .before .if1 .taken)), p .short)
+    let some = c .before .before .before .before .if1 .left in
+    let p = c .before .before .before .before .before .before .before .before .before .before .before .before .before .before .before .pre in
+    (some, rw v (p .some some), rw v (p .index some (c .before .before .before .if2 .taken)), p .short)
 
 same-length : tie.Need-same-length
 same-length c = search needs
@@ -71,25 +90,26 @@ same-length c = search needs
 same-length-2 : tie.Need-same-length-2
 same-length-2 c = search needs
 
-returns : tie.Need-returns
-returns c =
-    let atLater = c .before .before .before in
-    let atEarlier = atLater .before .before in
-    let atIf1 = atEarlier .before in
-    let start = atIf1 .before .before .before .before .before .before .before .before .before .before .before in
-    let a = start .args in (
-      entered-some (a .n) (a .k) (a .i) (a .lows .now) (a .highs .now) (a .places .now) (a .forests .now) (a .table .now) _
-          (atLater .later .result .0) (atIf1 .if1 .taken) (late atLater) (c .before .before .put-left .ensures),
-      end-some (a .k) (a .i) (a .lows .now) (a .highs .now) (a .places .now) (a .forests .now) (atEarlier .earlier .result .0)
-          (atIf1 .if1 .taken) (early atEarlier),
-    )
-
 returns-2 : tie.Need-returns-2
 returns-2 c =
-    let a = c .before .before .before .before .before .before .before .before .before .before .before .args in (
-      entered-none (a .n) (a .k) (a .i) (a .lows .now) (a .highs .now) (a .places .now) (a .forests .now) (a .table .now)
-          (c .if1 .left),
-      end-none (a .k) (a .i) (a .lows .now) (a .highs .now) (a .places .now) (a .forests .now) (c .if1 .left),
+    let atLater = c .before .before .before in
+    let atEarlier = atLater .before .before in
+    let atIf2 = atEarlier .before in
+    let atIf1 = atIf2 .before in
+    let a = atIf1 .before .before .before .before .before .before .before .before .before .before .before .args in
+    let isIn = is-entered (a .k) (getD (a .forests .now) (a .i) 0) (atIf1 .if1 .left) (atIf2 .if2 .taken) in (
+      entered-some (a .k) (a .i) (a .lows .now) (a .highs .now) (a .places .now) (a .forests .now) (a .n) (a .table .now) _
+          (atLater .later .result .0) isIn (late atLater) (c .before .before .put-left .ensures),
+      end-some (a .k) (a .i) (a .lows .now) (a .highs .now) (a .places .now) (a .forests .now) (atEarlier .earlier .result .0)
+          isIn (early atEarlier),
+    )
+
+returns-3 : tie.Need-returns-3
+returns-3 c =
+    let a = c .before .before .before .before .before .before .before .before .before .before .before .before .args in
+    let past = none-past-entered (a .k) (getD (a .forests .now) (a .i) 0) (c .if2 .left) in (
+      entered-none (a .k) (a .i) (a .lows .now) (a .highs .now) (a .places .now) (a .forests .now) (a .n) (a .table .now) past,
+      end-none (a .k) (a .i) (a .lows .now) (a .highs .now) (a .places .now) (a .forests .now) past,
     )
 
 pub enter-link-spec : {M : Type 1} → statement M
@@ -104,6 +124,7 @@ enter-link-spec =
     place-of-requires-2
     mul-forest-3
     slice-read-forest
+    returns
     earlier-requires
     mul-forests
     slice-write-forests
@@ -111,5 +132,5 @@ enter-link-spec =
     put-left-requires
     same-length
     same-length-2
-    returns
-    returns-2)
+    returns-2
+    returns-3)

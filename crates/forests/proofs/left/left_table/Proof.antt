@@ -1,29 +1,33 @@
--- After each turn one link more is entered, and one earlier end more put. Assumes nothing.
-use Prim.Native.Nat.{_-_, _≤_}
+-- After each turn one link more is entered, and one earlier end more put, whatever the states are. Assumes nothing.
+use Prim.Native.Nat.{ℕ, _-_, _≤_}
+use mathlib.Core.List.{List}
 use mathlib.Core.Path.{_≡_}
 use native.Mathlib.Omega.{arith}
 use lib.ListN.{length}
+use Rattle.forests.specs.Left.{LeftInput}
 use Rattle.forests.proofs.LeftTableLaws.{LeftTo, EndsTo, left-starts, ends-start, left-enters, left-moves, ends-move, left-ends}
 use Rattle.forests.proofs.left.left_table.Statement.{statement}
 use Rattle.forests.proofs.left.left_table.Tie as tie
 
 abbrev Inv-loop : tie.InvT-loop
 Inv-loop table₀ n k lows highs places forests₀ i₀ table forests i =
-    (i ≤ length lows) × LeftTo n k lows highs i table₀ table × EndsTo n k lows highs i forests₀ forests
+    (i ≤ length lows)
+    × ((states : List ℕ) → LeftInput n k lows highs states places forests₀ table₀
+    → LeftTo n k lows highs states i table₀ table × EndsTo n k lows highs states i forests₀ forests)
 
 abbrev μ-loop : tie.MeasureT-loop
 μ-loop table₀ n k lows highs places forests₀ i₀ table forests i = length lows - i
 
 loop-holds : tie.Need-loop-holds Inv-loop μ-loop
-loop-holds c =
-    let p = c .before .before .before .before .before .pre in
-    (omega arith, left-starts p, ends-start p)
+loop-holds c = (omega arith, λ states can. (left-starts can, ends-start can))
 
 enter-link-requires : tie.Need-enter-link-requires Inv-loop μ-loop
 enter-link-requires c κs =
     let atLoop = c .before .before .before in
     let at = atLoop .loop in
-    left-enters (atLoop .before .before .before .before .before .before .pre) (at .i) (omega arith) (at .inv .1) (at .inv .2)
+    let p = atLoop .before .before .before .before .before .before .pre in
+    let so-far = at .inv .1 (p .0) (p .1) in
+    left-enters (p .1) (at .i) (omega arith) (so-far .0) (so-far .1)
 
 add-i : tie.Need-add-i Inv-loop μ-loop
 add-i c = omega arith
@@ -35,25 +39,29 @@ loop-again : tie.Need-loop-again Inv-loop μ-loop
 loop-again c =
     let atCall = c .before .before .before .before in
     let atLoop = atCall .before .before .before .before in
-    let start = atLoop .before .before .before .before .before .before in
     let at = atLoop .loop in
+    let below = atCall .before .before .before .loop-test .taken in
     let entered = atCall .enter-link .ensures in (
       omega arith,
-      left-moves (start .pre) (at .i) (omega arith) (at .inv .1) (at .inv .2) (entered .0),
-      ends-move (start .pre) (at .i) (omega arith) (at .inv .2) (entered .1),
+      λ states can.
+          let so-far = at .inv .1 states can in (
+            left-moves can (at .i) below (so-far .0) (so-far .1) (entered .0),
+            ends-move can (at .i) below (so-far .1) (entered .1),
+          ),
     )
 
 same-length : tie.Need-same-length Inv-loop μ-loop
-same-length c = c .before .loop .inv .1 .beyond .long
+same-length c = let p = c .before .before .before .before .before .before .before .pre in c .before .loop .inv .1 (p .0) (p .1) .0 .beyond .long
 
 same-length-2 : tie.Need-same-length-2 Inv-loop μ-loop
-same-length-2 c = c .before .loop .inv .2 .long
+same-length-2 c = let p = c .before .before .before .before .before .before .before .pre in c .before .loop .inv .1 (p .0) (p .1) .1 .long
 
 returns : tie.Need-returns Inv-loop μ-loop
-returns c =
-    let p : c .before .loop .i ≡ length (c .before .before .before .before .before .before .before .args .lows .now) = omega arith in
-    let at = c .before .loop .inv in
-    left-ends (c .before .before .before .before .before .before .before .pre) (rw p at (at .1)) (rw p at (at .2))
+returns c = λ states can.
+    let at = c .before .loop in
+    let all : at .i ≡ length (c .before .before .before .before .before .before .before .args .lows .now) = omega arith in
+    let whole = at .inv .1 states can in
+    left-ends can (rw all at (whole .0)) (rw all at (whole .1))
 
 pub left-table-spec : {M : Type 1} → statement M
 left-table-spec =

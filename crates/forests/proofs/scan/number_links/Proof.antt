@@ -33,13 +33,13 @@ slice-aggregate-scan-4 c = search needs
 
 scan-requires-2 : tie.Need-scan-requires-2
 scan-requires-2 c κs =
-    let s = c .before .before .before .before .before .before .before .before .before in
+    let s = c .before .before .before .before .before .before .before .before .before .before in
     let relays = c .before .before .before .before .relay-copies in
     let places = c .before .before .before .relay-copies2 in
     record {
       accepted = s .pre .0;
-      relayRoom = relay-room (s .args .n) (s .args .lows .now) (s .args .highs .now) (relays .result) (s .pre .0) (relays .ensures);
-      placeRoom = relay-room (s .args .n) (s .args .lows .now) (s .args .highs .now) (places .result) (s .pre .0) (places .ensures);
+      relayRoom = relay-room (s .args .n) (s .args .lows .now) (s .args .highs .now) (s .args .states .now) (relays .result) (s .pre .0) (relays .ensures);
+      placeRoom = relay-room (s .args .n) (s .args .lows .now) (s .args .highs .now) (s .args .states .now) (places .result) (s .pre .0) (places .ensures);
       forestRoom = s .pre .1;
     }
 

@@ -4,16 +4,18 @@ use mathlib.Core.Path.{_≡_, refl, sym, _∙_}
 use native.Mathlib.Omega.{arith}
 use borrow.Author.Needs.{needs}
 use lib.ListN.{length, getD, length-set}
-use Rattle.definitions.specs.Order.{firstRelay}
+use Rattle.theory.specs.Accepted.{accepted, accepted-states}
+use Rattle.theory.specs.ServingRelays.{serving-few}
+use Rattle.forests.specs.Counts.{turnsOf}
 use Rattle.forests.specs.Buckets.{columnWords, Buckets}
-use Rattle.forests.specs.Scan.{following, Placeable, ScannedTo}
+use Rattle.forests.specs.Scan.{following, Placeable, ScannedTo, Started}
 use Rattle.forests.proofs.ScanLaws.{
   columns-room,
   next-is,
   next-most,
   next-below,
   placed-one,
-  first-stays,
+  all-started,
   relays-long,
   first-most,
   scan-starts,
@@ -25,9 +27,9 @@ use Rattle.forests.proofs.scan.place_all.Statement.{statement}
 use Rattle.forests.proofs.scan.place_all.Tie as tie
 
 abbrev Inv-loop : tie.InvT-loop
-Inv-loop n lows highs first nexts counts₀ bits₀ relays₀ places₀ forests₀ columns v₀ most₀ counts bits relays places forests v most =
-    (v ≤ n)
-    × ScannedTo n lows highs v counts relays₀ relays places₀ places forests₀ forests
+Inv-loop n start lows highs states first nexts counts₀ bits₀ relays₀ places₀ forests₀ turns columns v₀ most₀ counts bits relays places forests v most =
+    (v ≤ turns)
+    × ScannedTo n lows highs states v counts relays₀ relays places₀ places forests₀ forests
     × Buckets counts bits
     × ((r : ℕ) → getD counts r 0 ≤ most)
     × (most < columnWords)
@@ -35,55 +37,72 @@ Inv-loop n lows highs first nexts counts₀ bits₀ relays₀ places₀ forests�
     × (length bits ≡ length bits₀)
 
 abbrev μ-loop : tie.MeasureT-loop
-μ-loop n lows highs first nexts counts₀ bits₀ relays₀ places₀ forests₀ columns v₀ most₀ counts bits relays places forests v most = n - v
+μ-loop n start lows highs states first nexts counts₀ bits₀ relays₀ places₀ forests₀ turns columns v₀ most₀ counts bits relays places forests v most =
+    turns - v
 
--- Where a turn begins, the next relay can be placed.
+-- When the relays in service wait, placing begins.
+begun : (c : tie.After-columns-of Inv-loop μ-loop)
+    → let a = c .before .before .before .before .before .before .before .before .before .before .before .before .before .before .before .before .before .before .args in
+    let counted = c .before .before .before .before .before .start-counts .last in
+    Started (a .n) (a .lows .now) (a .highs .now) (a .states .now) (a .first .now) (a .nexts .now)
+    (counted .1 .1 .0) (counted .1 .1 .1 .0) (a .relays .now) (a .places .now) (a .forests .now)
+begun c =
+    let counted = c .before .before .before .before .before .start-counts in
+    all-started (c .before .before .before .before .before .before .before .before .before .before .before .before .before .before .before .before .before .before .pre) (omega (arith, counted .kept)) (counted .ensures .1 .0) (counted .ensures .1 .1)
+
+-- Where a turn begins, a relay is left,
+within : (turn : tie.In-loop Inv-loop μ-loop)
+    → let a = turn .before .before .before .before .before .before .before .before .before .before .before .before .before .before .before .before .before .before .before .before .args in
+    turn .before .loop .v < turnsOf (a .n) (a .states .now)
+within turn = omega (arith, turn .loop-test .taken, turn .before .before .before .before .before .before .before .start-counts .ensures .0)
+
+-- and the next one can be placed.
 ready : (turn : tie.In-loop Inv-loop μ-loop)
-    → let a = turn .before .before .before .before .before .before .before .before .before .before .before .before .args in
+    → let a = turn .before .before .before .before .before .before .before .before .before .before .before .before .before .before .before .before .before .before .before .before .args in
     let at = turn .before .loop in
-    Placeable (a .n) (at .v + 1) (at .most) (a .lows .now) (a .highs .now) (a .first .now) (a .nexts .now)
+    Placeable (a .n) (at .v + 1) (at .most) (a .lows .now) (a .highs .now) (a .states .now) (a .first .now) (a .nexts .now)
     (at .counts) (at .bits) (at .relays) (at .places) (at .forests)
 ready turn =
     let at = turn .before .loop in
-    let p = turn .before .before .before .before .before .before .before .before .before .before .before .before .pre .0 in
+    let can = begun (turn .before .before) in
     let inv = at .inv in
-    scan-places p (at .v) (turn .loop-test .taken) (inv .1) (at .most) (inv .2) (inv .3) (inv .4) (omega (arith, p .countRoom, inv .5))
-
--- At place 1 the list of relays begins with the first relay of the order.
-begins : (turn : tie.In-loop Inv-loop μ-loop)
-    → let a = turn .before .before .before .before .before .before .before .before .before .before .before .before .args in
-    let at = turn .before .loop in
-    at .v + 1 ≡ 1 → getD (at .relays) 0 0 ≡ firstRelay (a .n) (a .lows .now) (a .highs .now)
-begins turn e =
-    let at = turn .before .loop in
-    let p = turn .before .before .before .before .before .before .before .before .before .before .before .before .pre in
-    first-stays (p .0) (at .v) (omega arith) (at .inv .1) ∙ p .1
+    scan-places can (at .v) (within turn) (inv .1) (at .most) (inv .2) (inv .3) (inv .4) (omega (arith, can .countRoom, inv .5))
 
 -- The relay that gets the place is the next one.
 which : (led : tie.After-next-relay Inv-loop μ-loop)
-    → let a = led .before .before .before .before .before .before .before .before .before .before .before .before .before .before .before .args in
-    following (a .n) (a .lows .now) (a .highs .now) (led .before .before .before .before .loop .v + 1 - 1) ≡ led .next-relay .result .0
+    → let a = led .before .before .before .before .before .before .before .before .before .before .before .before .before .before .before .before .before .before .before .before .before .before .args in
+    following (a .n) (a .lows .now) (a .highs .now) (a .states .now) (led .before .before .before .loop .v + 1 - 1) ≡ led .next-relay .result .0
 which led =
-    let turn = led .before .before .before in
+    let turn = led .before .before in
     let columns = turn .before .before .columns-of in
-    next-is (ready turn) (columns .result) (columns .ensures) (begins turn) (led .next-relay .ensures)
+    next-is (ready turn) (columns .result) (columns .ensures) (λ e. turn .before .before .before .before .before .before .before .before .before .before .before .before .before .before .before .before .before .before .before .before .pre .starts (omega (arith, within turn)))
+    (led .next-relay .ensures)
+
+start-counts-requires : tie.Need-start-counts-requires Inv-loop μ-loop
+start-counts-requires c κs =
+    let s = c .before .before .before .before .before .before .before .before .before .before .before .before in
+    let a = s .args in
+    let p = s .pre in
+    let ok = p .lists .scannable .accepted in (
+      accepted (a .n) (a .lows .now) (a .highs .now) (a .states .now) ok .few,
+      omega (arith, p .lists .heads, p .countRoom),
+      accepted-states (a .n) (a .lows .now) (a .highs .now) (a .states .now) ok,
+      p .noneBeyond,
+      p .noBits,
+    )
 
 columns-of-requires : tie.Need-columns-of-requires Inv-loop μ-loop
 columns-of-requires c κs = search needs
 
 loop-holds : tie.Need-loop-holds Inv-loop μ-loop
-loop-holds c =
-    let p = c .before .before .before .before .before .before .before .before .before .before .pre .0 in (omega arith, scan-starts p, p .sorted, first-most p, omega arith, refl, refl)
+loop-holds c = let can = begun c in (omega arith, scan-starts can, can .sorted, first-most can, omega arith, refl, refl)
 
 add-v : tie.Need-add-v Inv-loop μ-loop
 add-v c = omega arith
 
-slice-read-most : tie.Need-slice-read-most Inv-loop μ-loop
-slice-read-most c = let p = ready (c .before) in omega (arith, p .some, p .within, p .relayRoom)
-
 next-relay-requires : tie.Need-next-relay-requires Inv-loop μ-loop
 next-relay-requires c κs =
-    let turn = c .before .before in
+    let turn = c .before in
     let columns = turn .before .before .columns-of in
     let room = columns-room (ready turn) (columns .result) (columns .ensures) in
     (turn .before .loop .inv .4, room .0, room .1)
@@ -91,42 +110,46 @@ next-relay-requires c κs =
 put-requires : tie.Need-put-requires Inv-loop μ-loop
 put-requires c κs =
     let led = c .before .before in
-    let turn = led .before .before .before in
+    let turn = led .before .before in
     let p = ready turn in
     let columns = turn .before .before .columns-of in
     let new = next-below p (columns .result) (columns .ensures) in
-    (p .some, omega (arith, p .within, p .relayRoom), omega (arith, which led, new, p .placeRoom))
+    let a = turn .before .before .before .before .before .before .before .before .before .before .before .before .before .before .before .before .before .before .before .before .args in (
+      p .some,
+      omega (arith, p .within, serving-few (a .n) (a .states .now), p .relayRoom),
+      omega (arith, which led, new, p .placeRoom),
+    )
 
 walk-requires : tie.Need-walk-requires Inv-loop μ-loop
 walk-requires c κs =
     let led = c .before .before .before .before .before .before .before .before .before .before in
-    rw (sym (which led)) (ready (led .before .before .before) .walkable)
+    rw (sym (which led)) (ready (led .before .before) .walkable)
 
 add-most : tie.Need-add-most Inv-loop μ-loop
 add-most c =
     let walked = c .before .before .before .before .before .before in
     let led = walked .before .before .before .before .before .before .before .before .before .before .before in
-    omega (arith, walked .walk .ensures .0, led .before .before .before .before .loop .inv .2 .few (led .next-relay .result .0))
+    omega (arith, walked .walk .ensures .0, led .before .before .before .loop .inv .2 .few (led .next-relay .result .0))
 
 loop-less : tie.Need-loop-less Inv-loop μ-loop
-loop-less c = let turn = c .before .before .before .before .before .before .before .before .before .before .before .before .before .before .before .before .before .before .before .before in omega (arith, turn .loop-test .taken)
+loop-less c = let turn = c .before .before .before .before .before .before .before .before .before .before .before .before .before .before .before .before .before .before .before in omega (arith, turn .loop-test .taken)
 
 loop-again : tie.Need-loop-again Inv-loop μ-loop
 loop-again c =
     let walked = c .before .before .before .before .before .before in
     let stored = walked .before .before .before .before .before .before .before .before in
     let led = stored .before .before .before in
-    let turn = led .before .before .before in
+    let turn = led .before .before in
     let at = turn .before .loop in
     let columns = turn .before .before .columns-of in
-    let s = turn .before .before .before .before .before .before .before .before .before .before .before .before in
+    let s = turn .before .before .before .before .before .before .before .before .before .before .before .before .before .before .before .before .before .before .before .before in
     let w = walked .walk .ensures in
-    let most = next-most (ready turn) (columns .result) (columns .ensures) (begins turn) (led .next-relay .ensures) in
-    let one = placed-one {n = s .args .n} {v = at .v + 1} {lows = s .args .lows .now} {highs = s .args .highs .now}
+    let most = next-most (ready turn) (columns .result) (columns .ensures) (λ e. s .pre .starts (omega (arith, within turn))) (led .next-relay .ensures) in
+    let one = placed-one {n = s .args .n} {v = at .v + 1} {lows = s .args .lows .now} {highs = s .args .highs .now} {states = s .args .states .now}
     (led .next-relay .result .0) (which led) most (at .inv .2 .few (led .next-relay .result .0))
     (stored .put .ensures .0) (stored .put .ensures .1) (w .0, w .1 .0, w .1 .1) in (
       omega (arith, turn .loop-test .taken),
-      scan-moves (s .pre .0) (at .v) (turn .loop-test .taken) (at .inv .1) one,
+      scan-moves (begun (turn .before .before)) (at .v) (within turn) (at .inv .1) one,
       one .sorted,
       one .bounded,
       one .mostFew,
@@ -135,16 +158,15 @@ loop-again c =
     )
 
 same-length : tie.Need-same-length Inv-loop μ-loop
-same-length c = c .before .loop .inv .5
+same-length c = omega (arith, c .before .loop .inv .5, c .before .before .before .before .before .before .before .start-counts .kept)
 
 same-length-2 : tie.Need-same-length-2 Inv-loop μ-loop
-same-length-2 c = c .before .loop .inv .6
+same-length-2 c = omega (arith, c .before .loop .inv .6, c .before .before .before .before .before .before .before .start-counts .kept)
 
 same-length-3 : tie.Need-same-length-3 Inv-loop μ-loop
 same-length-3 c =
-    let start = c .before .before .before .before .before .before .before .before .before .before .before .before in
     let at = c .before .loop in
-    relays-long (start .pre .0) (at .v) (omega arith) (at .inv .1)
+    relays-long (begun (c .before .before)) (at .v) (omega (arith, at .inv .0, c .before .before .before .before .before .before .before .start-counts .ensures .0)) (at .inv .1)
 
 same-length-4 : tie.Need-same-length-4 Inv-loop μ-loop
 same-length-4 c = c .before .loop .inv .1 .placesAt .long
@@ -154,9 +176,10 @@ same-length-5 c = c .before .loop .inv .1 .forestsAt .beyond .long
 
 returns : tie.Need-returns Inv-loop μ-loop
 returns c =
-    let s = c .before .before .before .before .before .before .before .before .before .before .before .before in
-    let p : c .before .loop .v ≡ s .args .n = omega arith in
-    scan-ends (s .pre .0) (rw p at (c .before .loop .inv .1))
+    let at = c .before .loop in
+    let a = c .before .before .before .before .before .before .before .before .before .before .before .before .before .before .before .before .before .before .before .before .args in
+    let all : at .v ≡ turnsOf (a .n) (a .states .now) = omega (arith, at .inv .0, c .loop-test .left, c .before .before .before .before .before .before .before .start-counts .ensures .0) in
+    scan-ends (begun (c .before .before)) (rw all at (at .inv .1))
 
 pub place-all-spec : {M : Type 1} → statement M
 place-all-spec =
@@ -164,10 +187,10 @@ place-all-spec =
     (tie.spec
     Inv-loop
     μ-loop
+    start-counts-requires
     columns-of-requires
     loop-holds
     add-v
-    slice-read-most
     next-relay-requires
     put-requires
     walk-requires

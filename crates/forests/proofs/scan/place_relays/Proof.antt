@@ -21,13 +21,13 @@ slice-aggregate-scan-2 c = search needs
 
 scan-requires-2 : tie.Need-scan-requires-2
 scan-requires-2 c κs =
-    let s = c .before .before .before .before .before .before .before .before .before in
+    let s = c .before .before .before .before .before .before .before .before .before .before in
     let own = c .before .before .before .link-zeros in
     record {
       accepted = s .pre .0;
       relayRoom = s .pre .1;
       placeRoom = s .pre .2;
-      forestRoom = link-room (s .args .n) (s .args .lows .now) (s .args .highs .now) (own .result) (s .pre .0) (own .ensures);
+      forestRoom = link-room (s .args .n) (s .args .lows .now) (s .args .highs .now) (s .args .states .now) (own .result) (s .pre .0) (own .ensures);
     }
 
 same-length : tie.Need-same-length

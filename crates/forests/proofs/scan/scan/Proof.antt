@@ -11,7 +11,7 @@ scan-small-requires : tie.Need-scan-small-requires
 scan-small-requires c κs =
     let case = c .before .before .before in
     let small = small-sizes _ _ (case .before .is-small .ensures) (case .if1 .taken) in
-    (c .before .before .before .before .before .before .before .before .before .before .pre, small .0, small .1)
+    (c .before .before .before .before .before .before .before .before .before .before .before .pre, small .0, small .1)
 
 scan-large-requires : tie.Need-scan-large-requires
 scan-large-requires c κs = search needs

@@ -2,20 +2,20 @@
 use native.Mathlib.Omega.{arith}
 use Rattle.theory.specs.Accepted.{accepted}
 use Rattle.forests.specs.Buckets.{mostColumns}
-use Rattle.forests.proofs.ScanLaws.{scan-arrays}
+use Rattle.forests.proofs.SizeLaws.{scan-arrays}
 use borrow.Author.Needs.{needs}
 use Rattle.forests.proofs.scan.scan_large.Statement.{statement}
 use Rattle.forests.proofs.scan.scan_large.Tie as tie
 
 cast-none : tie.Need-cast-none
 cast-none c =
-    let s = c .before .before .before .before .before in
-    omega (arith, accepted (s .args .n) (s .args .lows .now) (s .args .highs .now) (s .pre .accepted) .short)
+    let s = c .before .before .before .before .before .before in
+    omega (arith, accepted (s .args .n) (s .args .lows .now) (s .args .highs .now) (s .args .states .now) (s .pre .accepted) .short)
 
 mul-none : tie.Need-mul-none
 mul-none c =
-    let s = c .before .before .before .before .before in
-    omega (arith, accepted (s .args .n) (s .args .lows .now) (s .args .highs .now) (s .pre .accepted) .short)
+    let s = c .before .before .before .before .before .before in
+    omega (arith, accepted (s .args .n) (s .args .lows .now) (s .args .highs .now) (s .args .states .now) (s .pre .accepted) .short)
 
 relay-copies-requires : tie.Need-relay-copies-requires
 relay-copies-requires c κs = search needs
@@ -47,12 +47,11 @@ scan-in-requires c κs =
     let counts = bits .before in
     let nexts = counts .before in
     let first = nexts .before in
-    let s = first .before .before .before .before .before .before in
-    let t = accepted (s .args .n) (s .args .lows .now) (s .args .highs .now) (s .pre .accepted) in (
-      s .pre,
-      scan-arrays 1000 6000 mostColumns (s .args .n) (t .few) (omega arith) (omega (arith, t .short)) (omega arith)
-          (first .relay-copies .ensures) (nexts .half-link-zeros .ensures) (counts .relay-copies2 .ensures) (bits .column-zeros .ensures),
-    )
+    let s = first .before .before .before .before .before .before .before in
+    let t = accepted (s .args .n) (s .args .lows .now) (s .args .highs .now) (s .args .states .now) (s .pre .accepted) in
+    let fit = scan-arrays 1000 6000 mostColumns (s .args .n) (s .args .lows .now) (t .few) (omega arith) (omega (arith, t .short)) (omega arith)
+    (first .relay-copies .ensures) (nexts .half-link-zeros .ensures) (counts .relay-copies2 .ensures) (bits .column-zeros .ensures) in
+    (s .pre, fit .0, fit .1)
 
 same-length : tie.Need-same-length
 same-length c = search needs

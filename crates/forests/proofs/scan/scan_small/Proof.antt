@@ -1,7 +1,7 @@
 -- The scan in small arrays. Assumes nothing.
 use native.Mathlib.Omega.{arith}
 use Rattle.forests.specs.Buckets.{fewColumns}
-use Rattle.forests.proofs.ScanLaws.{scan-arrays}
+use Rattle.forests.proofs.SizeLaws.{scan-arrays}
 use borrow.Author.Needs.{needs}
 use Rattle.forests.proofs.scan.scan_small.Statement.{statement}
 use Rattle.forests.proofs.scan.scan_small.Tie as tie
@@ -42,11 +42,10 @@ scan-in-requires c κs =
     let counts = bits .before in
     let nexts = counts .before in
     let first = nexts .before in
-    let s = first .before .before .before .before .before .before in (
-      s .pre .0,
-      scan-arrays 128 768 fewColumns (s .args .n) (s .pre .1) (omega arith) (omega (arith, s .pre .2)) (omega arith)
-          (first .few-relay-copies .ensures) (nexts .few-half-link-zeros .ensures) (counts .few-relay-copies2 .ensures) (bits .few-column-zeros .ensures),
-    )
+    let s = first .before .before .before .before .before .before .before in
+    let fit = scan-arrays 128 768 fewColumns (s .args .n) (s .args .lows .now) (s .pre .1) (omega arith) (omega (arith, s .pre .2)) (omega arith)
+    (first .few-relay-copies .ensures) (nexts .few-half-link-zeros .ensures) (counts .few-relay-copies2 .ensures) (bits .few-column-zeros .ensures) in
+    (s .pre .0, fit .0, fit .1)
 
 same-length : tie.Need-same-length
 same-length c = search needs
