@@ -1,7 +1,7 @@
 -- What the answer of Route stands for, what its inner functions answer, and how its refusals are split among them.
 -- Assumes nothing.
-use Prim.Native.Nat.{ℕ, _+_, _-_, _*_, _≤_, _<_}
-use mathlib.Core.Bool.{Bool, _&&_, _||_}
+use Prim.Native.Nat.{ℕ, _+_, _-_, _*_, _≤_}
+use mathlib.Core.Bool.{Bool, _&&_, _||_, not}
 use mathlib.Core.List.{List, [], _∷_, map}
 use mathlib.Core.Logic.{_≢_}
 use mathlib.Core.Path.{_≡_}
@@ -10,10 +10,11 @@ use lib.ListN.{length, getD}
 use lib.Seq.{sets}
 use Rattle.definitions.specs.Outcome.{pick, refused, done, Answer, refuseIf, ifDone}
 use Rattle.definitions.specs.Lists.{overwrite, zeroed, outside, joinAll}
-use Rattle.definitions.specs.Network.{Accepted}
+use Rattle.definitions.specs.Network.{serves, Accepted}
 use Rattle.definitions.specs.Forests.{Entry}
 use Rattle.definitions.specs.Route.{routesOf, oneTreeOf, tooShort, routeUnless, scratchUsed}
 use Rattle.definitions.specs.Over.{oversOf}
+use Rattle.theory.specs.ServingRelays.{Serving}
 use Rattle.network.specs.Answers.{refusalOf}
 use Rattle.forests.specs.Scan.{Scanned}
 use Rattle.forests.specs.Left.{LeftTable}
@@ -27,17 +28,18 @@ abbrev pub routeOutcome : RouteAnswer → Answer
 routeOutcome (Written count) = done (count ∷ [])
 routeOutcome (RouteAnswer.Refused refusal) = refusalOf refusal
 
--- 9 to 12, from the lengths of the lists; `asked` says whether a list of links is asked for.
-unfoldable pub wishCheck : (n k from to : ℕ) (asked : Bool) (countsLength relaysLength linksLength scratchLength : ℕ) → Answer
-wishCheck n k from to asked countsLength relaysLength linksLength scratchLength =
+-- 9 to 12 with 17 before 12, from the lengths of the lists; `asked` says whether a list of links is asked for.
+unfoldable pub wishCheck : (n k from to : ℕ) (states : List ℕ) (asked : Bool) (countsLength relaysLength linksLength scratchLength : ℕ) → Answer
+wishCheck n k from to states asked countsLength relaysLength linksLength scratchLength =
     refuseIf (outside 1 32 k) 9 0
     (refuseIf (leb n from || leb n to) 10 0
     (refuseIf (eqb from to) 11 0
+    (refuseIf (not (serves states from && serves states to)) 17 0
     (refuseIf
     ((ltb countsLength k || (ltb relaysLength (n - 2 + 2 * k) || ltb scratchLength (k * n)))
     || (asked && ltb linksLength (n - 2 + k)))
     12 0
-    (done []))))
+    (done [])))))
 
 -- The three lists afterwards, and the answer.
 pub record Answered : Type 0 where
@@ -58,12 +60,12 @@ answerIn a b look k p q order counts relays links =
     (answered counts relays links (refused 13 0))
 
 -- The same as the definition has it. Of the links what is not lent is not written.
-unfoldable pub treeAnswer : (n : ℕ) (lows highs : List ℕ) (k from to : ℕ) (counts relays links : List ℕ) → Answered
-treeAnswer n lows highs k from to counts relays links =
-    let routes = routesOf n lows highs k from to in
-    pick (oneTreeOf n lows highs k from to)
+unfoldable pub treeAnswer : (n : ℕ) (lows highs states : List ℕ) (k from to : ℕ) (counts relays links : List ℕ) → Answered
+treeAnswer n lows highs states k from to counts relays links =
+    let routes = routesOf n lows highs states k from to in
+    pick (oneTreeOf n lows highs states k from to)
     (answered (overwrite (map length routes) counts) (overwrite (joinAll routes) relays)
-    (sets links 0 (joinAll (oversOf n lows highs k from to)))
+    (sets links 0 (joinAll (oversOf n lows highs states k from to)))
     (done (length (joinAll routes) ∷ [])))
     (answered counts relays links (refused 13 0))
 
@@ -73,29 +75,29 @@ shortFor asked n k counts relays links scratch =
     tooShort n k counts relays scratch || (asked && ltb (length links) (n - 2 + k))
 
 -- Route's answer and its lists afterwards, where `asked` says whether a list of links is asked for.
-module _ (asked : Bool) (n : ℕ) (lows highs : List ℕ) (k from to : ℕ) (counts relays links scratch : List ℕ) where
+module _ (asked : Bool) (n : ℕ) (lows highs states : List ℕ) (k from to : ℕ) (counts relays links scratch : List ℕ) where
   unfoldable pub coreAnswer : Answer
-  coreAnswer = routeUnless (shortFor asked n k counts relays links scratch) n lows highs k from to
+  coreAnswer = routeUnless (shortFor asked n k counts relays links scratch) n lows highs states k from to
 
   unfoldable pub coreCounts : List ℕ
-  coreCounts = ifDone coreAnswer (overwrite (map length (routesOf n lows highs k from to)) counts) counts
+  coreCounts = ifDone coreAnswer (overwrite (map length (routesOf n lows highs states k from to)) counts) counts
 
   unfoldable pub coreRelays : List ℕ
-  coreRelays = ifDone coreAnswer (overwrite (joinAll (routesOf n lows highs k from to)) relays) relays
+  coreRelays = ifDone coreAnswer (overwrite (joinAll (routesOf n lows highs states k from to)) relays) relays
 
   unfoldable pub coreLinks : List ℕ
-  coreLinks = ifDone coreAnswer (sets links 0 (joinAll (oversOf n lows highs k from to))) links
+  coreLinks = ifDone coreAnswer (sets links 0 (joinAll (oversOf n lows highs states k from to))) links
 
   unfoldable pub coreScratch : List ℕ
   coreScratch = pick (scratchUsed coreAnswer) (zeroed scratch) scratch
 
--- What Route asks once 3 to 12 are passed.
-pub record Routable (n : ℕ) (lows highs : List ℕ) (k from to : ℕ) (counts relays scratch : List ℕ) : Type 0 where
-  pub accepted : Accepted n lows highs
+-- What Route asks once all but 13 is passed.
+pub record Routable (n : ℕ) (lows highs states : List ℕ) (k from to : ℕ) (counts relays scratch : List ℕ) : Type 0 where
+  pub accepted : Accepted n lows highs states
   pub one : 1 ≤ k
   pub few : k ≤ 32
-  pub source : from < n
-  pub goal : to < n
+  pub source : Serving n states from
+  pub goal : Serving n states to
   pub differ : from ≢ to
   pub countRoom : k ≤ length counts
   pub relayRoom : n - 2 + 2 * k ≤ length relays
@@ -111,7 +113,7 @@ pub record RouteArrays (n : ℕ) (lows order places numbers a b : List ℕ) : Ty
   pub noB : NoPaths n b
 
 -- What the scan gives, with the forest numbers in `numbered`; the left table made from it, and the earlier end of each link.
-pub record Prepared (n k : ℕ) (lows highs order order′ places places′ numbers ends table table′ : List ℕ) : Type 0 where
+pub record Prepared (n k : ℕ) (lows highs states order order′ places places′ numbers ends table table′ : List ℕ) : Type 0 where
   pub numbered : List ℕ
-  pub scanned : Scanned n lows highs order order′ places places′ numbers numbered
-  pub theTable : LeftTable n k lows highs table table′ ends
+  pub scanned : Scanned n lows highs states order order′ places places′ numbers numbered
+  pub theTable : LeftTable n k lows highs states table table′ ends

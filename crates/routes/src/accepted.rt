@@ -1,4 +1,4 @@
-// Route where 3 to 12 are passed, in small arrays or in large ones.
+// Route where all but 13 is passed, in small arrays or in large ones.
 use crate::RouteAnswer;
 use crate::between::between;
 use crate::between::one_tree;
@@ -29,19 +29,20 @@ fn prepare(
     n: u16,
     lows: &[u16],
     highs: &[u16],
+    states: &[u16],
     k: u16,
     order: &mut [u16],
     places: &mut [u16],
     numbers: &mut [u16],
     table: &mut [u16],
 )
-    requires { ⌜ Scannable n (now lows) (now highs) (now order) (now places) (now numbers) ⌝ }
+    requires { ⌜ Scannable n (now lows) (now highs) (now states) (now order) (now places) (now numbers) ⌝ }
     requires { ⌜ (k * n ≤ length (now table)) × ((j : ℕ) → j < k * n → getD (now table) j 0 ≡ 0) ⌝ }
-    ensures { λ _. ⌜ Prepared n k (now (lows .entry)) (now (highs .entry)) (now (order .entry)) (now (order .exit))
-        (now (places .entry)) (now (places .exit)) (now (numbers .entry)) (now (numbers .exit)) (now (table .entry))
-        (now (table .exit)) ⌝ }
+    ensures { λ _. ⌜ Prepared n k (now (lows .entry)) (now (highs .entry)) (now (states .entry)) (now (order .entry))
+        (now (order .exit)) (now (places .entry)) (now (places .exit)) (now (numbers .entry)) (now (numbers .exit))
+        (now (table .entry)) (now (table .exit)) ⌝ }
 {
-    scan(n, lows, highs, order, places, numbers);
+    scan(n, lows, highs, states, order, places, numbers);
     left_table(table, n, k, lows, highs, places, numbers);
 }
 
@@ -85,11 +86,12 @@ fn answer(
     RouteAnswer::Refused(Refusal::NotOneTree)
 }
 
-// Route where 3 to 12 are passed, in arrays that are lent to it.
+// Route where all but 13 is passed, in arrays that are lent to it.
 fn route_in(
     n: u16,
     lows: &[u16],
     highs: &[u16],
+    states: &[u16],
     k: u16,
     from: u16,
     to: u16,
@@ -103,16 +105,16 @@ fn route_in(
     links: &mut [u16],
     scratch: &mut [u16],
 ) -> RouteAnswer
-    requires { ⌜ Routable n (now lows) (now highs) k from to (now counts) (now relays) (now scratch)
+    requires { ⌜ Routable n (now lows) (now highs) (now states) k from to (now counts) (now relays) (now scratch)
         × RouteArrays n (now lows) (now order) (now places) (now numbers) (now a) (now b) ⌝ }
     ensures { λ r. ⌜ answered (now (counts .exit)) (now (relays .exit)) (now (links .exit)) (routeOutcome r)
-        ≡ treeAnswer n (now (lows .entry)) (now (highs .entry)) k from to (now (counts .entry)) (now (relays .entry))
-        (now (links .entry)) ⌝ }
+        ≡ treeAnswer n (now (lows .entry)) (now (highs .entry)) (now (states .entry)) k from to (now (counts .entry))
+        (now (relays .entry)) (now (links .entry)) ⌝ }
     ensures { λ _. ⌜ now (scratch .exit) ≡ zeroed (now (scratch .entry)) ⌝ }
 {
     let entries = k as usize * n as usize;
     clear(scratch, entries);
-    prepare(n, lows, highs, k, order, places, numbers, scratch);
+    prepare(n, lows, highs, states, k, order, places, numbers, scratch);
     let p = place_of(places, Relay(from));
     let q = place_of(places, Relay(to));
     let result = answer(
@@ -139,6 +141,7 @@ fn route_small(
     n: u16,
     lows: &[u16],
     highs: &[u16],
+    states: &[u16],
     k: u16,
     from: u16,
     to: u16,
@@ -147,11 +150,11 @@ fn route_small(
     links: &mut [u16],
     scratch: &mut [u16],
 ) -> RouteAnswer
-    requires { ⌜ Routable n (now lows) (now highs) k from to (now counts) (now relays) (now scratch)
+    requires { ⌜ Routable n (now lows) (now highs) (now states) k from to (now counts) (now relays) (now scratch)
         × (n ≤ 128) × (length (now lows) ≤ 384) ⌝ }
     ensures { λ r. ⌜ answered (now (counts .exit)) (now (relays .exit)) (now (links .exit)) (routeOutcome r)
-        ≡ treeAnswer n (now (lows .entry)) (now (highs .entry)) k from to (now (counts .entry)) (now (relays .entry))
-        (now (links .entry)) ⌝ }
+        ≡ treeAnswer n (now (lows .entry)) (now (highs .entry)) (now (states .entry)) k from to (now (counts .entry))
+        (now (relays .entry)) (now (links .entry)) ⌝ }
     ensures { λ _. ⌜ now (scratch .exit) ≡ zeroed (now (scratch .entry)) ⌝ }
 {
     let mut order = few_relay_copies(0);
@@ -163,6 +166,7 @@ fn route_small(
         n,
         lows,
         highs,
+        states,
         k,
         from,
         to,
@@ -183,6 +187,7 @@ fn route_large(
     n: u16,
     lows: &[u16],
     highs: &[u16],
+    states: &[u16],
     k: u16,
     from: u16,
     to: u16,
@@ -191,10 +196,10 @@ fn route_large(
     links: &mut [u16],
     scratch: &mut [u16],
 ) -> RouteAnswer
-    requires { ⌜ Routable n (now lows) (now highs) k from to (now counts) (now relays) (now scratch) ⌝ }
+    requires { ⌜ Routable n (now lows) (now highs) (now states) k from to (now counts) (now relays) (now scratch) ⌝ }
     ensures { λ r. ⌜ answered (now (counts .exit)) (now (relays .exit)) (now (links .exit)) (routeOutcome r)
-        ≡ treeAnswer n (now (lows .entry)) (now (highs .entry)) k from to (now (counts .entry)) (now (relays .entry))
-        (now (links .entry)) ⌝ }
+        ≡ treeAnswer n (now (lows .entry)) (now (highs .entry)) (now (states .entry)) k from to (now (counts .entry))
+        (now (relays .entry)) (now (links .entry)) ⌝ }
     ensures { λ _. ⌜ now (scratch .exit) ≡ zeroed (now (scratch .entry)) ⌝ }
 {
     let mut order = relay_copies(0);
@@ -206,6 +211,7 @@ fn route_large(
         n,
         lows,
         highs,
+        states,
         k,
         from,
         to,
@@ -221,11 +227,12 @@ fn route_large(
     )
 }
 
-// Route where 3 to 12 are passed.
+// Route where all but 13 is passed.
 pub(crate) fn route_accepted(
     n: u16,
     lows: &[u16],
     highs: &[u16],
+    states: &[u16],
     k: u16,
     from: u16,
     to: u16,
@@ -234,15 +241,39 @@ pub(crate) fn route_accepted(
     links: &mut [u16],
     scratch: &mut [u16],
 ) -> RouteAnswer
-    requires { ⌜ Routable n (now lows) (now highs) k from to (now counts) (now relays) (now scratch) ⌝ }
+    requires { ⌜ Routable n (now lows) (now highs) (now states) k from to (now counts) (now relays) (now scratch) ⌝ }
     ensures { λ r. ⌜ answered (now (counts .exit)) (now (relays .exit)) (now (links .exit)) (routeOutcome r)
-        ≡ treeAnswer n (now (lows .entry)) (now (highs .entry)) k from to (now (counts .entry)) (now (relays .entry))
-        (now (links .entry)) ⌝ }
+        ≡ treeAnswer n (now (lows .entry)) (now (highs .entry)) (now (states .entry)) k from to (now (counts .entry))
+        (now (relays .entry)) (now (links .entry)) ⌝ }
     ensures { λ _. ⌜ now (scratch .exit) ≡ zeroed (now (scratch .entry)) ⌝ }
 {
     if is_small(n, lows.len()) {
-        route_small(n, lows, highs, k, from, to, counts, relays, links, scratch)
+        route_small(
+            n,
+            lows,
+            highs,
+            states,
+            k,
+            from,
+            to,
+            counts,
+            relays,
+            links,
+            scratch,
+        )
     } else {
-        route_large(n, lows, highs, k, from, to, counts, relays, links, scratch)
+        route_large(
+            n,
+            lows,
+            highs,
+            states,
+            k,
+            from,
+            to,
+            counts,
+            relays,
+            links,
+            scratch,
+        )
     }
 }

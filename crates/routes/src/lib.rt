@@ -30,6 +30,7 @@ fn route_core(
     n: u16,
     lows: &[u16],
     highs: &[u16],
+    states: &[u16],
     k: u16,
     from: u16,
     to: u16,
@@ -39,22 +40,22 @@ fn route_core(
     links: &mut [u16],
     scratch: &mut [u16],
 ) -> RouteAnswer
-    ensures { λ r. ⌜ routeOutcome r ≡ coreAnswer asked n (now (lows .entry)) (now (highs .entry)) k from to (now (counts .entry))
-        (now (relays .entry)) (now (links .entry)) (now (scratch .entry)) ⌝ }
+    ensures { λ r. ⌜ routeOutcome r ≡ coreAnswer asked n (now (lows .entry)) (now (highs .entry)) (now (states .entry)) k from to
+        (now (counts .entry)) (now (relays .entry)) (now (links .entry)) (now (scratch .entry)) ⌝ }
     ensures { λ _. ⌜ now (counts .exit)
-        ≡ coreCounts asked n (now (lows .entry)) (now (highs .entry)) k from to (now (counts .entry)) (now (relays .entry))
-        (now (links .entry)) (now (scratch .entry)) ⌝ }
+        ≡ coreCounts asked n (now (lows .entry)) (now (highs .entry)) (now (states .entry)) k from to (now (counts .entry))
+        (now (relays .entry)) (now (links .entry)) (now (scratch .entry)) ⌝ }
     ensures { λ _. ⌜ now (relays .exit)
-        ≡ coreRelays asked n (now (lows .entry)) (now (highs .entry)) k from to (now (counts .entry)) (now (relays .entry))
-        (now (links .entry)) (now (scratch .entry)) ⌝ }
+        ≡ coreRelays asked n (now (lows .entry)) (now (highs .entry)) (now (states .entry)) k from to (now (counts .entry))
+        (now (relays .entry)) (now (links .entry)) (now (scratch .entry)) ⌝ }
     ensures { λ _. ⌜ now (links .exit)
-        ≡ coreLinks asked n (now (lows .entry)) (now (highs .entry)) k from to (now (counts .entry)) (now (relays .entry))
-        (now (links .entry)) (now (scratch .entry)) ⌝ }
+        ≡ coreLinks asked n (now (lows .entry)) (now (highs .entry)) (now (states .entry)) k from to (now (counts .entry))
+        (now (relays .entry)) (now (links .entry)) (now (scratch .entry)) ⌝ }
     ensures { λ _. ⌜ now (scratch .exit)
-        ≡ coreScratch asked n (now (lows .entry)) (now (highs .entry)) k from to (now (counts .entry)) (now (relays .entry))
-        (now (links .entry)) (now (scratch .entry)) ⌝ }
+        ≡ coreScratch asked n (now (lows .entry)) (now (highs .entry)) (now (states .entry)) k from to (now (counts .entry))
+        (now (relays .entry)) (now (links .entry)) (now (scratch .entry)) ⌝ }
 {
-    match table_check(n, lows, highs) {
+    match table_check(n, lows, highs, states) {
         Check::Refused(refusal) => RouteAnswer::Refused(refusal),
         Check::Accepted => {
             match wish_check(
@@ -62,6 +63,7 @@ fn route_core(
                 k,
                 from,
                 to,
+                states,
                 asked,
                 counts.len(),
                 relays.len(),
@@ -70,7 +72,19 @@ fn route_core(
             ) {
                 Check::Refused(refusal) => RouteAnswer::Refused(refusal),
                 Check::Accepted => {
-                    route_accepted(n, lows, highs, k, from, to, counts, relays, links, scratch)
+                    route_accepted(
+                        n,
+                        lows,
+                        highs,
+                        states,
+                        k,
+                        from,
+                        to,
+                        counts,
+                        relays,
+                        links,
+                        scratch,
+                    )
                 }
             }
         }
@@ -82,6 +96,7 @@ pub fn route(
     n: u16,
     lows: &[u16],
     highs: &[u16],
+    states: &[u16],
     k: u16,
     from: u16,
     to: u16,
@@ -89,23 +104,24 @@ pub fn route(
     relays: &mut [u16],
     scratch: &mut [u16],
 ) -> RouteAnswer
-    ensures answer { λ r. ⌜ routeOutcome r ≡ routeAnswer n (now (lows .entry)) (now (highs .entry)) k from to (now (counts .entry))
-        (now (relays .entry)) (now (scratch .entry)) ⌝ }
+    ensures answer { λ r. ⌜ routeOutcome r ≡ routeAnswer n (now (lows .entry)) (now (highs .entry)) (now (states .entry)) k from to
+        (now (counts .entry)) (now (relays .entry)) (now (scratch .entry)) ⌝ }
     ensures counts { λ _. ⌜ now (counts .exit)
-        ≡ countsAfter n (now (lows .entry)) (now (highs .entry)) k from to (now (counts .entry)) (now (relays .entry))
-        (now (scratch .entry)) ⌝ }
+        ≡ countsAfter n (now (lows .entry)) (now (highs .entry)) (now (states .entry)) k from to (now (counts .entry))
+        (now (relays .entry)) (now (scratch .entry)) ⌝ }
     ensures relays { λ _. ⌜ now (relays .exit)
-        ≡ routeRelaysAfter n (now (lows .entry)) (now (highs .entry)) k from to (now (counts .entry)) (now (relays .entry))
-        (now (scratch .entry)) ⌝ }
+        ≡ routeRelaysAfter n (now (lows .entry)) (now (highs .entry)) (now (states .entry)) k from to (now (counts .entry))
+        (now (relays .entry)) (now (scratch .entry)) ⌝ }
     ensures scratch { λ _. ⌜ now (scratch .exit)
-        ≡ scratchAfter n (now (lows .entry)) (now (highs .entry)) k from to (now (counts .entry)) (now (relays .entry))
-        (now (scratch .entry)) ⌝ }
+        ≡ scratchAfter n (now (lows .entry)) (now (highs .entry)) (now (states .entry)) k from to (now (counts .entry))
+        (now (relays .entry)) (now (scratch .entry)) ⌝ }
 {
     let mut none = [0u16; 0];
     route_core(
         n,
         lows,
         highs,
+        states,
         k,
         from,
         to,
@@ -122,6 +138,7 @@ pub fn route_links(
     n: u16,
     lows: &[u16],
     highs: &[u16],
+    states: &[u16],
     k: u16,
     from: u16,
     to: u16,
@@ -130,25 +147,26 @@ pub fn route_links(
     links: &mut [u16],
     scratch: &mut [u16],
 ) -> RouteAnswer
-    ensures answer { λ r. ⌜ routeOutcome r ≡ routeLinksAnswer n (now (lows .entry)) (now (highs .entry)) k from to (now (counts .entry))
-        (now (relays .entry)) (now (links .entry)) (now (scratch .entry)) ⌝ }
+    ensures answer { λ r. ⌜ routeOutcome r ≡ routeLinksAnswer n (now (lows .entry)) (now (highs .entry)) (now (states .entry)) k from to
+        (now (counts .entry)) (now (relays .entry)) (now (links .entry)) (now (scratch .entry)) ⌝ }
     ensures counts { λ _. ⌜ now (counts .exit)
-        ≡ routeLinksCounts n (now (lows .entry)) (now (highs .entry)) k from to (now (counts .entry)) (now (relays .entry))
-        (now (links .entry)) (now (scratch .entry)) ⌝ }
+        ≡ routeLinksCounts n (now (lows .entry)) (now (highs .entry)) (now (states .entry)) k from to (now (counts .entry))
+        (now (relays .entry)) (now (links .entry)) (now (scratch .entry)) ⌝ }
     ensures relays { λ _. ⌜ now (relays .exit)
-        ≡ routeLinksRelays n (now (lows .entry)) (now (highs .entry)) k from to (now (counts .entry)) (now (relays .entry))
-        (now (links .entry)) (now (scratch .entry)) ⌝ }
+        ≡ routeLinksRelays n (now (lows .entry)) (now (highs .entry)) (now (states .entry)) k from to (now (counts .entry))
+        (now (relays .entry)) (now (links .entry)) (now (scratch .entry)) ⌝ }
     ensures links { λ _. ⌜ now (links .exit)
-        ≡ routeLinksLinks n (now (lows .entry)) (now (highs .entry)) k from to (now (counts .entry)) (now (relays .entry))
-        (now (links .entry)) (now (scratch .entry)) ⌝ }
+        ≡ routeLinksLinks n (now (lows .entry)) (now (highs .entry)) (now (states .entry)) k from to (now (counts .entry))
+        (now (relays .entry)) (now (links .entry)) (now (scratch .entry)) ⌝ }
     ensures scratch { λ _. ⌜ now (scratch .exit)
-        ≡ routeLinksScratch n (now (lows .entry)) (now (highs .entry)) k from to (now (counts .entry)) (now (relays .entry))
-        (now (links .entry)) (now (scratch .entry)) ⌝ }
+        ≡ routeLinksScratch n (now (lows .entry)) (now (highs .entry)) (now (states .entry)) k from to (now (counts .entry))
+        (now (relays .entry)) (now (links .entry)) (now (scratch .entry)) ⌝ }
 {
     route_core(
         n,
         lows,
         highs,
+        states,
         k,
         from,
         to,

@@ -1,17 +1,32 @@
 // The wish of Route and the room for its answer.
+use crate::side::get;
 use network::Check;
 use network::Refusal;
+ghost use mathlib.Core.Bool.{_&&_, not};
 ghost use mathlib.Core.Path.{_≡_};
 ghost use Prim.Native.Nat.{_≤_};
+ghost use Rattle.definitions.specs.Network.{serves};
 ghost use Rattle.network.specs.Answers.{checkOutcome};
 ghost use Rattle.routes.specs.Answers.{wishCheck};
 
-// What is wrong with the wish or the room for it, 9 to 12; `asked` says whether a list of links is asked for.
+// One of the two is withdrawn.
+fn withdrawn_end(states: &[u16], from: u16, to: u16) -> bool
+    ensures { λ r. ⌜ r ≡ not (serves (now (states .entry)) from && serves (now (states .entry)) to) ⌝ }
+{
+    if get(states, from as usize) == 1 {
+        get(states, to as usize) != 1
+    } else {
+        true
+    }
+}
+
+// What is wrong with the wish or the room for it, 9 to 12 with 17 before 12; `asked` says whether a list of links is asked for.
 pub(crate) fn wish_check(
     n: u16,
     k: u16,
     from: u16,
     to: u16,
+    states: &[u16],
     asked: bool,
     counts_length: usize,
     relays_length: usize,
@@ -19,7 +34,8 @@ pub(crate) fn wish_check(
     scratch_length: usize,
 ) -> Check
     requires { ⌜ n ≤ 1000 ⌝ }
-    ensures { λ r. ⌜ checkOutcome r ≡ wishCheck n k from to asked «counts_length» «relays_length» «links_length» «scratch_length» ⌝ }
+    ensures { λ r. ⌜ checkOutcome r ≡ wishCheck n k from to (now (states .entry)) asked «counts_length» «relays_length»
+        «links_length» «scratch_length» ⌝ }
 {
     if k < 1 {
         return Check::Refused(Refusal::RouteCount);
@@ -35,6 +51,9 @@ pub(crate) fn wish_check(
     }
     if from == to {
         return Check::Refused(Refusal::SameEnds);
+    }
+    if withdrawn_end(states, from, to) {
+        return Check::Refused(Refusal::Withdrawn);
     }
     let routes = k as usize;
     let size = n as usize;

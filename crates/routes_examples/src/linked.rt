@@ -1,5 +1,5 @@
-// Runs Route with links on document 01's examples, on lists of links too short, exact and longer, and where Route refuses, and prints
-// a line for each, with the four lent lists afterwards.
+// Runs Route with links on document 01's examples, on lists of links too short, exact and longer, with a relay withdrawn, and where
+// Route refuses, and prints a line for each, with the four lent lists afterwards.
 use crate::Wish;
 use crate::show_answer;
 use crate::show_wish;
@@ -10,6 +10,7 @@ fn route_links(
     n: u16,
     lows: &[u16],
     highs: &[u16],
+    states: &[u16],
     wish: Wish,
     links: &mut [u16],
     scratch: &mut [u16],
@@ -21,6 +22,7 @@ fn route_links(
         n,
         lows,
         highs,
+        states,
         wish.k,
         wish.from,
         wish.to,
@@ -42,6 +44,7 @@ fn mesh(from: u16, to: u16, k: u16, links: &mut [u16], scratch: &mut [u16]) {
         5,
         &[0u16, 0, 1, 1, 2, 2, 3],
         &[1u16, 2, 2, 3, 3, 4, 4],
+        &[1u16; 5],
         Wish {
             from: from,
             to: to,
@@ -58,6 +61,7 @@ fn square(from: u16, to: u16, k: u16) {
         4,
         &[0u16, 1, 2, 0],
         &[1u16, 2, 3, 3],
+        &[1u16; 4],
         Wish {
             from: from,
             to: to,
@@ -74,6 +78,7 @@ fn full_four() {
         4,
         &[0u16, 0, 0, 1, 1, 2],
         &[1u16, 2, 3, 2, 3, 3],
+        &[1u16; 4],
         Wish {
             from: 3,
             to: 2,
@@ -99,4 +104,29 @@ pub(crate) fn short_lists() {
     mesh(4, 1, 2, &mut [9u16; 5], &mut [9u16; 9]);
     mesh(4, 4, 2, &mut [9u16; 0], &mut [9u16; 0]);
     mesh(4, 1, 33, &mut [9u16; 0], &mut [9u16; 0]);
+}
+
+// The mesh without relay 2.
+fn without_2(from: u16, to: u16, links: &mut [u16], scratch: &mut [u16]) {
+    route_links(
+        b"mesh without relay 2, with links:",
+        5,
+        &[0u16, 0, 1, 1, 2, 2, 3],
+        &[1u16, 2, 2, 3, 3, 4, 4],
+        &[1u16, 1, 0, 1, 1],
+        Wish {
+            from: from,
+            to: to,
+            k: 1,
+        },
+        links,
+        scratch,
+    );
+}
+
+pub(crate) fn withdrawn() {
+    without_2(4, 1, &mut [9u16; 4], &mut [9u16; 5]);
+    without_2(4, 2, &mut [9u16; 4], &mut [9u16; 5]);
+    without_2(4, 1, &mut [9u16; 3], &mut [9u16; 5]);
+    without_2(4, 2, &mut [9u16; 3], &mut [9u16; 5]);
 }

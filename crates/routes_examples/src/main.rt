@@ -1,5 +1,6 @@
-// Runs Route on document 01's examples, on the networks where planners went astray, and on bad input, and prints a line for
-// each: the network, the wish, the answer, and the three lent lists afterwards, which held nines before. Then Route with links.
+// Runs Route on document 01's examples, on the networks where planners went astray, with a relay withdrawn, and on bad input, and
+// prints a line for each: the network, the wish, the answer, and the three lent lists afterwards, which held nines before. Then
+// Route with links.
 use routes::RouteAnswer;
 use show::show_list;
 use show::show_number;
@@ -37,6 +38,7 @@ fn route(
     n: u16,
     lows: &[u16],
     highs: &[u16],
+    states: &[u16],
     wish: Wish,
     counts: &mut [u16],
     relays: &mut [u16],
@@ -47,6 +49,7 @@ fn route(
         n,
         lows,
         highs,
+        states,
         wish.k,
         wish.from,
         wish.to,
@@ -61,12 +64,22 @@ fn route(
 }
 
 // With lists far too long.
-fn long_lists(label: &[u8], n: u16, lows: &[u16], highs: &[u16], from: u16, to: u16, k: u16) {
+fn long_lists(
+    label: &[u8],
+    n: u16,
+    lows: &[u16],
+    highs: &[u16],
+    states: &[u16],
+    from: u16,
+    to: u16,
+    k: u16,
+) {
     route(
         label,
         n,
         lows,
         highs,
+        states,
         Wish {
             from: from,
             to: to,
@@ -84,6 +97,7 @@ fn mesh(from: u16, to: u16, k: u16) {
         5,
         &[0u16, 0, 1, 1, 2, 2, 3],
         &[1u16, 2, 2, 3, 3, 4, 4],
+        &[1u16; 5],
         from,
         to,
         k,
@@ -97,6 +111,7 @@ fn lend_mesh(counts: &mut [u16], relays: &mut [u16], scratch: &mut [u16]) {
         5,
         &[0u16, 0, 1, 1, 2, 2, 3],
         &[1u16, 2, 2, 3, 3, 4, 4],
+        &[1u16; 5],
         Wish {
             from: 4,
             to: 1,
@@ -109,13 +124,32 @@ fn lend_mesh(counts: &mut [u16], relays: &mut [u16], scratch: &mut [u16]) {
 }
 
 fn good_wishes() {
-    long_lists(b"square", 4, &[0u16, 1, 2, 0], &[1u16, 2, 3, 3], 3, 2, 2);
-    long_lists(b"square", 4, &[0u16, 1, 2, 0], &[1u16, 2, 3, 3], 0, 2, 2);
+    long_lists(
+        b"square",
+        4,
+        &[0u16, 1, 2, 0],
+        &[1u16, 2, 3, 3],
+        &[1u16; 4],
+        3,
+        2,
+        2,
+    );
+    long_lists(
+        b"square",
+        4,
+        &[0u16, 1, 2, 0],
+        &[1u16, 2, 3, 3],
+        &[1u16; 4],
+        0,
+        2,
+        2,
+    );
     long_lists(
         b"full four",
         4,
         &[0u16, 0, 0, 1, 1, 2],
         &[1u16, 2, 3, 2, 3, 3],
+        &[1u16; 4],
         3,
         2,
         3,
@@ -131,6 +165,7 @@ fn astray() {
         6,
         &[4u16, 2, 1, 3, 0, 0, 0, 2, 1, 0],
         &[5u16, 4, 3, 5, 2, 4, 3, 3, 4, 5],
+        &[1u16; 6],
         5,
         1,
         2,
@@ -140,6 +175,7 @@ fn astray() {
         6,
         &[0u16, 0, 1, 0, 1, 0, 1, 2],
         &[1u16, 2, 2, 3, 3, 4, 5, 5],
+        &[1u16; 6],
         5,
         3,
         2,
@@ -149,6 +185,7 @@ fn astray() {
         4,
         &[0u16, 0, 1, 1],
         &[1u16, 2, 2, 3],
+        &[1u16; 4],
         0,
         2,
         2,
@@ -174,10 +211,77 @@ fn short_lists() {
 }
 
 fn parts() {
-    long_lists(b"two relays", 2, &[0u16; 0], &[0u16; 0], 0, 1, 1);
-    long_lists(b"two parts", 5, &[3u16, 0], &[4u16, 2], 0, 4, 1);
-    long_lists(b"one relay", 1, &[0u16; 0], &[0u16; 0], 0, 1, 1);
-    long_lists(b"link twice", 2, &[0u16, 0], &[1u16, 1], 0, 1, 0);
+    long_lists(
+        b"two relays",
+        2,
+        &[0u16; 0],
+        &[0u16; 0],
+        &[1u16; 2],
+        0,
+        1,
+        1,
+    );
+    long_lists(b"two parts", 5, &[3u16, 0], &[4u16, 2], &[1u16; 5], 0, 4, 1);
+    long_lists(b"one relay", 1, &[0u16; 0], &[0u16; 0], &[1u16; 1], 0, 1, 1);
+    long_lists(
+        b"link twice",
+        2,
+        &[0u16, 0],
+        &[1u16, 1],
+        &[1u16; 2],
+        0,
+        1,
+        0,
+    );
+}
+
+// The mesh without relay 2, with this scratch.
+fn without_2(from: u16, to: u16, k: u16, scratch: &mut [u16]) {
+    route(
+        b"mesh without relay 2:",
+        5,
+        &[0u16, 0, 1, 1, 2, 2, 3],
+        &[1u16, 2, 2, 3, 3, 4, 4],
+        &[1u16, 1, 0, 1, 1],
+        Wish {
+            from: from,
+            to: to,
+            k: k,
+        },
+        &mut [9u16; 4],
+        &mut [9u16; 12],
+        scratch,
+    );
+}
+
+// The mesh with a list of states that is none.
+fn bad_states(states: &[u16], k: u16) {
+    long_lists(
+        b"mesh, bad states:",
+        5,
+        &[0u16, 0, 1, 1, 2, 2, 3],
+        &[1u16, 2, 2, 3, 3, 4, 4],
+        states,
+        4,
+        1,
+        k,
+    );
+}
+
+fn withdrawn() {
+    without_2(4, 1, 1, &mut [9u16; 5]);
+    without_2(1, 4, 1, &mut [9u16; 5]);
+    without_2(0, 4, 1, &mut [9u16; 5]);
+    without_2(4, 1, 2, &mut [9u16; 10]);
+    without_2(4, 2, 1, &mut [9u16; 5]);
+    without_2(2, 4, 1, &mut [9u16; 5]);
+    without_2(2, 2, 1, &mut [9u16; 5]);
+    without_2(2, 5, 1, &mut [9u16; 5]);
+    without_2(4, 1, 1, &mut [9u16; 4]);
+    without_2(4, 2, 1, &mut [9u16; 4]);
+    bad_states(&[1u16; 4], 1);
+    bad_states(&[1u16; 6], 1);
+    bad_states(&[1u16, 1, 2, 1, 1], 0);
 }
 
 fn main() {
@@ -186,6 +290,8 @@ fn main() {
     bad_wishes();
     short_lists();
     parts();
+    withdrawn();
     linked::examples();
     linked::short_lists();
+    linked::withdrawn();
 }

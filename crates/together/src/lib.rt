@@ -25,6 +25,7 @@ pub fn all_four(
     n: u16,
     lows: &[u16],
     highs: &[u16],
+    states: &[u16],
     k: u16,
     from: u16,
     to: u16,
@@ -37,37 +38,51 @@ pub fn all_four(
     scratch: &mut [u16],
 ) -> FourAnswers
     ensures order { λ r. ⌜ orderOutcome (r .order)
-        ≡ orderAnswer n (now (lows .entry)) (now (highs .entry)) (now (relays .entry)) (now (places .entry)) ⌝ }
+        ≡ orderAnswer n (now (lows .entry)) (now (highs .entry)) (now (states .entry)) (now (relays .entry)) (now (places .entry)) ⌝ }
     ensures relays { λ _. ⌜ now (relays .exit)
-        ≡ relaysAfter n (now (lows .entry)) (now (highs .entry)) (now (relays .entry)) (now (places .entry)) ⌝ }
+        ≡ relaysAfter n (now (lows .entry)) (now (highs .entry)) (now (states .entry)) (now (relays .entry)) (now (places .entry)) ⌝ }
     ensures places { λ _. ⌜ now (places .exit)
-        ≡ placesAfter n (now (lows .entry)) (now (highs .entry)) (now (relays .entry)) (now (places .entry)) ⌝ }
-    ensures split { λ r. ⌜ splitOutcome (r .split) ≡ splitAnswer n (now (lows .entry)) (now (highs .entry)) (now (forests .entry)) ⌝ }
-    ensures forests { λ _. ⌜ now (forests .exit) ≡ forestsAfter n (now (lows .entry)) (now (highs .entry)) (now (forests .entry)) ⌝ }
-    ensures cut { λ r. ⌜ cutOutcome (r .cut) ≡ cutAnswer n (now (lows .entry)) (now (highs .entry)) k (now (marks .entry)) ⌝ }
-    ensures marks { λ _. ⌜ now (marks .exit) ≡ marksAfter n (now (lows .entry)) (now (highs .entry)) k (now (marks .entry)) ⌝ }
+        ≡ placesAfter n (now (lows .entry)) (now (highs .entry)) (now (states .entry)) (now (relays .entry)) (now (places .entry)) ⌝ }
+    ensures split { λ r. ⌜ splitOutcome (r .split)
+        ≡ splitAnswer n (now (lows .entry)) (now (highs .entry)) (now (states .entry)) (now (forests .entry)) ⌝ }
+    ensures forests { λ _. ⌜ now (forests .exit)
+        ≡ forestsAfter n (now (lows .entry)) (now (highs .entry)) (now (states .entry)) (now (forests .entry)) ⌝ }
+    ensures cut { λ r. ⌜ cutOutcome (r .cut)
+        ≡ cutAnswer n (now (lows .entry)) (now (highs .entry)) (now (states .entry)) k (now (marks .entry)) ⌝ }
+    ensures marks { λ _. ⌜ now (marks .exit)
+        ≡ marksAfter n (now (lows .entry)) (now (highs .entry)) (now (states .entry)) k (now (marks .entry)) ⌝ }
     ensures route { λ r. ⌜ routeOutcome (r .route)
-        ≡ routeAnswer n (now (lows .entry)) (now (highs .entry)) k from to (now (counts .entry)) (now (written .entry))
-        (now (scratch .entry)) ⌝ }
+        ≡ routeAnswer n (now (lows .entry)) (now (highs .entry)) (now (states .entry)) k from to (now (counts .entry))
+        (now (written .entry)) (now (scratch .entry)) ⌝ }
     ensures counts { λ _. ⌜ now (counts .exit)
-        ≡ countsAfter n (now (lows .entry)) (now (highs .entry)) k from to (now (counts .entry)) (now (written .entry))
-        (now (scratch .entry)) ⌝ }
+        ≡ countsAfter n (now (lows .entry)) (now (highs .entry)) (now (states .entry)) k from to (now (counts .entry))
+        (now (written .entry)) (now (scratch .entry)) ⌝ }
     ensures written { λ _. ⌜ now (written .exit)
-        ≡ routeRelaysAfter n (now (lows .entry)) (now (highs .entry)) k from to (now (counts .entry)) (now (written .entry))
-        (now (scratch .entry)) ⌝ }
+        ≡ routeRelaysAfter n (now (lows .entry)) (now (highs .entry)) (now (states .entry)) k from to (now (counts .entry))
+        (now (written .entry)) (now (scratch .entry)) ⌝ }
     ensures scratch { λ _. ⌜ now (scratch .exit)
-        ≡ scratchAfter n (now (lows .entry)) (now (highs .entry)) k from to (now (counts .entry)) (now (written .entry))
-        (now (scratch .entry)) ⌝ }
-    ensures demand { λ r. ⌜ Together n (now (lows .entry)) (now (highs .entry)) k from to (now (relays .entry)) (now (places .entry))
-        (now (forests .entry))
-        (now (marks .entry)) (now (counts .entry)) (now (written .entry)) (now (scratch .entry)) (now (relays .exit))
-        (now (places .exit)) (now (forests .exit)) (now (marks .exit)) (now (counts .exit)) (now (written .exit))
-        (routeOutcome (r .route)) ⌝ }
+        ≡ scratchAfter n (now (lows .entry)) (now (highs .entry)) (now (states .entry)) k from to (now (counts .entry))
+        (now (written .entry)) (now (scratch .entry)) ⌝ }
+    ensures demand { λ r. ⌜ Together n (now (lows .entry)) (now (highs .entry)) (now (states .entry)) k from to (now (relays .entry))
+        (now (places .entry)) (now (forests .entry)) (now (marks .entry)) (now (counts .entry)) (now (written .entry))
+        (now (scratch .entry)) (now (relays .exit)) (now (places .exit)) (now (forests .exit)) (now (marks .exit))
+        (now (counts .exit)) (now (written .exit)) (routeOutcome (r .route)) ⌝ }
 {
-    let order = forests::order(n, lows, highs, relays, places);
-    let split = forests::split(n, lows, highs, forests);
-    let cut = forests::cut(n, lows, highs, k, marks);
-    let route = routes::route(n, lows, highs, k, from, to, counts, written, scratch);
+    let order = forests::order(n, lows, highs, states, relays, places);
+    let split = forests::split(n, lows, highs, states, forests);
+    let cut = forests::cut(n, lows, highs, states, k, marks);
+    let route = routes::route(
+        n,
+        lows,
+        highs,
+        states,
+        k,
+        from,
+        to,
+        counts,
+        written,
+        scratch,
+    );
     FourAnswers {
         order: order,
         split: split,

@@ -22,6 +22,7 @@ use Rattle.lists.specs.Steps.{stepsOf}
 use Rattle.lists.specs.Cuts.{lengths-map, length-joinAll-map}
 use Rattle.theory.specs.Trees.{Alive}
 use Rattle.theory.specs.Accepted.{accepted}
+use Rattle.theory.specs.ServingRelays.{Serving, serving-few}
 use Rattle.theory.specs.Left.{left-laws}
 use Rattle.theory.specs.Places.{relay-placed}
 use Rattle.theory.specs.Arranged.{base-arranged}
@@ -43,50 +44,53 @@ pub front-relays : (order list : List ℕ) → ((i : ℕ) → getD list i 0 ≡ 
 unfolding relayAt
 front-relays order list none = fun-ext λ v. getD-overwrite-zeros order list none (pred v)
 
-module _ (n : ℕ) (lows highs : List ℕ) (k from to : ℕ) (ok : Accepted n lows highs) (one : 1 ≤ k) (small : k ≤ 32)
-    (source : from < n) (goal : to < n) (differ : from ≢ to) (old table ends : List ℕ) (made : LeftTable n k lows highs old table ends) where
+module _ (n : ℕ) (lows highs states : List ℕ) (k from to : ℕ) (ok : Accepted n lows highs states) (one : 1 ≤ k) (small : k ≤ 32)
+    (source : Serving n states from) (goal : Serving n states to) (differ : from ≢ to) (old table ends : List ℕ) (made : LeftTable n k lows highs states old table ends) where
   abbrev p : ℕ
-  p = placeOf (orderOf n lows highs) from
+  p = placeOf (orderOf n lows highs states) from
 
   abbrev q : ℕ
-  q = placeOf (orderOf n lows highs) to
+  q = placeOf (orderOf n lows highs states) to
 
   abbrev look : ℕ → ℕ → Entry
   look = tableEntry table ends n
 
   abbrev left : ℕ → ℕ → ℕ
-  left = leftOf n lows highs
+  left = leftOf n lows highs states
+
+  upto-n : (r : ℕ) → Serving n states r → placeOf (orderOf n lows highs states) r ≤ n
+  upto-n r serving = omega (arith, relay-placed n lows highs states r serving .1, serving-few n states)
 
   apart : p ≢ q
-  apart = places-differ n lows highs from to source goal differ
+  apart = places-differ n lows highs states from to source goal differ
 
   agree : (i x : ℕ) → 1 ≤ i → i ≤ k → look i x .place ≡ left i x
-  agree i x positive le = table-left n k lows highs ok old table ends made i x positive le
+  agree i x positive le = table-left n k lows highs states ok old table ends made i x positive le
 
-  pub tree-tested : oneTreeIn look k p q ≡ oneTreeOf n lows highs k from to
+  pub tree-tested : oneTreeIn look k p q ≡ oneTreeOf n lows highs states k from to
   unfolding oneTreeOf
   tree-tested =
-      one-tree-same left look (left-laws n lows highs) k p q (λ x. agree k x one (omega arith))
-      (relay-placed n lows highs from source .0) (relay-placed n lows highs to goal .0) apart
+      one-tree-same left look (left-laws n lows highs states) k p q (λ x. agree k x one (omega arith))
+      (relay-placed n lows highs states from source .0) (relay-placed n lows highs states to goal .0) apart
 
   module _ (joins : oneTreeIn look k p q ≡ true) (order counts relays : List ℕ)
-      (same : relayAt order ≡ relayAt (orderOf n lows highs)) (a b : List ℕ) (noA : NoPaths n a) (noB : NoPaths n b)
+      (same : relayAt order ≡ relayAt (orderOf n lows highs states)) (a b : List ℕ) (noA : NoPaths n a) (noB : NoPaths n b)
       (roomC : k ≤ length counts) (roomR : n - 2 + 2 * k ≤ length relays) where
     abbrev routes : List (List ℕ)
     routes = routesBetween left k p q
 
     abbrev named : List (List ℕ)
-    named = map (map (relayAt (orderOf n lows highs))) routes
+    named = map (map (relayAt (orderOf n lows highs states))) routes
 
     falls : q < p → Alive left k q p
     falls less =
-        one-tree-falls left look (left-laws n lows highs) k p q (λ x. agree k x one (omega arith))
-        (relay-placed n lows highs from source .0) (relay-placed n lows highs to goal .0) apart less joins
+        one-tree-falls left look (left-laws n lows highs states) k p q (λ x. agree k x one (omega arith))
+        (relay-placed n lows highs states from source .0) (relay-placed n lows highs states to goal .0) apart less joins
 
     rises : p < q → Alive left k p q
     rises less =
-        one-tree-rises left look (left-laws n lows highs) k p q (λ x. agree k x one (omega arith))
-        (relay-placed n lows highs from source .0) (relay-placed n lows highs to goal .0) apart less joins
+        one-tree-rises left look (left-laws n lows highs states) k p q (λ x. agree k x one (omega arith))
+        (relay-placed n lows highs states from source .0) (relay-placed n lows highs states to goal .0) apart less joins
 
     alive : AliveBetween left k p q
     alive =
@@ -96,7 +100,7 @@ module _ (n : ℕ) (lows highs : List ℕ) (k from to : ℕ) (ok : Accepted n lo
 
     within : RoutesWithin left k (max p q) p q routes
     within =
-        routes-between left (left-laws n lows highs) k p q one (relay-placed n lows highs from source .0) (relay-placed n lows highs to goal .0) apart alive
+        routes-between left (left-laws n lows highs states) k p q one (relay-placed n lows highs states from source .0) (relay-placed n lows highs states to goal .0) apart alive
 
     abbrev placesWritten : Written
     placesWritten =
@@ -108,45 +112,45 @@ module _ (n : ℕ) (lows highs : List ℕ) (k from to : ℕ) (ok : Accepted n lo
         by-cases (decLt q p)
         (λ less.
         rw (lt-ltb q p less)
-        (routed-down left look (left-laws n lows highs) k p q less (falls less) (relay-placed n lows highs to goal .0) small agree
-        n (accepted n lows highs ok .few) (relay-placed n lows highs from source .1) a b noA noB order counts relays))
+        (routed-down left look (left-laws n lows highs states) k p q less (falls less) (relay-placed n lows highs states to goal .0) small agree
+        n (accepted n lows highs states ok .few) (upto-n from source) a b noA noB order counts relays))
         (λ more.
         rw (le-ltb q p (omega arith))
-        (routed-up left look (left-laws n lows highs) k q p (omega (arith, apart)) (rises (omega (arith, apart))) (relay-placed n lows highs from source .0) small agree
-        n (accepted n lows highs ok .few) (relay-placed n lows highs to goal .1) a b noA noB order counts relays))
+        (routed-up left look (left-laws n lows highs states) k q p (omega (arith, apart)) (rises (omega (arith, apart))) (relay-placed n lows highs states from source .0) small agree
+        n (accepted n lows highs states ok .few) (upto-n to goal) a b noA noB order counts relays))
 
     longest : length (joinAll named) ≤ length relays
     longest =
         omega (
           arith,
-          length-joinAll-map (relayAt (orderOf n lows highs)) routes,
+          length-joinAll-map (relayAt (orderOf n lows highs states)) routes,
           within .written,
-          relay-placed n lows highs from source .1,
-          relay-placed n lows highs to goal .1,
+          upto-n from source,
+          upto-n to goal,
         )
 
     pub routes-written : betweenIn a b look k p q order counts relays
-        ≡ written (overwrite (map length (routesOf n lows highs k from to)) counts)
-        (overwrite (joinAll (routesOf n lows highs k from to)) relays)
-        (length (joinAll (routesOf n lows highs k from to)))
+        ≡ written (overwrite (map length (routesOf n lows highs states k from to)) counts)
+        (overwrite (joinAll (routesOf n lows highs states k from to)) relays)
+        (length (joinAll (routesOf n lows highs states k from to)))
     unfolding routesOf
     routes-written =
         swept
         ∙ ap (λ (f : ℕ → ℕ). written (sets counts 0 (map length routes)) (sets relays 0 (joinAll (map (map f) routes))) (length (joinAll routes))) same
         ∙ ap (λ (l : List ℕ). written l (sets relays 0 (joinAll named)) (length (joinAll routes)))
-        (ap (sets counts 0) (sym (lengths-map (relayAt (orderOf n lows highs)) routes))
+        (ap (sets counts 0) (sym (lengths-map (relayAt (orderOf n lows highs states)) routes))
         ∙ sets-overwrite (map length named) counts
-        (omega (arith, length-map named length, length-map routes (map (relayAt (orderOf n lows highs))), within .number)))
+        (omega (arith, length-map named length, length-map routes (map (relayAt (orderOf n lows highs states))), within .number)))
         ∙ ap (λ (l : List ℕ). written (overwrite (map length named) counts) l (length (joinAll routes))) (sets-overwrite (joinAll named) relays longest)
-        ∙ ap (written (overwrite (map length named) counts) (overwrite (joinAll named) relays)) (sym (length-joinAll-map (relayAt (orderOf n lows highs)) routes))
+        ∙ ap (written (overwrite (map length named) counts) (overwrite (joinAll named) relays)) (sym (length-joinAll-map (relayAt (orderOf n lows highs states)) routes))
 
     -- The links of the same routes.
     module _ (links : List ℕ) where
       abbrev between : ℕ → ℕ → ℕ
-      between = placeLink (orderOf n lows highs) lows highs
+      between = placeLink (orderOf n lows highs states) lows highs
 
       turn : (x y : ℕ) → between x y ≡ between y x
-      turn x y = pair-turn lows highs (relayAt (orderOf n lows highs) x) (relayAt (orderOf n lows highs) y)
+      turn x y = pair-turn lows highs (relayAt (orderOf n lows highs states) x) (relayAt (orderOf n lows highs states) y)
 
       swept-links : linksBetween a b look k p q links ≡ sets links 0 (joinAll (map (stepsOf between) routes))
       unfolding linksBetween routesBetween
@@ -154,18 +158,18 @@ module _ (n : ℕ) (lows highs : List ℕ) (k from to : ℕ) (ok : Accepted n lo
           by-cases (decLt q p)
           (λ less.
           rw (lt-ltb q p less)
-          (linked-down left look (left-laws n lows highs) k p q less (falls less) (relay-placed n lows highs to goal .0) small agree between turn
-          (table-link n k lows highs ok old table ends made)
-          n (accepted n lows highs ok .few) (relay-placed n lows highs from source .1) a b noA noB links))
+          (linked-down left look (left-laws n lows highs states) k p q less (falls less) (relay-placed n lows highs states to goal .0) small agree between turn
+          (table-link n k lows highs states ok old table ends made)
+          n (accepted n lows highs states ok .few) (upto-n from source) a b noA noB links))
           (λ more.
           rw (le-ltb q p (omega arith))
-          (linked-up left look (left-laws n lows highs) k q p (omega (arith, apart)) (rises (omega (arith, apart))) (relay-placed n lows highs from source .0) small agree between turn
-          (table-link n k lows highs ok old table ends made)
-          n (accepted n lows highs ok .few) (relay-placed n lows highs to goal .1) a b noA noB links))
+          (linked-up left look (left-laws n lows highs states) k q p (omega (arith, apart)) (rises (omega (arith, apart))) (relay-placed n lows highs states from source .0) small agree between turn
+          (table-link n k lows highs states ok old table ends made)
+          n (accepted n lows highs states ok .few) (upto-n to goal) a b noA noB links))
 
-      pub links-written : linksBetween a b look k p q links ≡ sets links 0 (joinAll (oversOf n lows highs k from to))
+      pub links-written : linksBetween a b look k p q links ≡ sets links 0 (joinAll (oversOf n lows highs states k from to))
       unfolding oversOf entryOf leftOf
       links-written =
           swept-links
           ∙ ap (λ (l : List (List ℕ)). sets links 0 (joinAll l))
-          (sym (overs-in (orderOf n lows highs) lows highs (base-arranged n lows highs ok) k p q apart alive))
+          (sym (overs-in (orderOf n lows highs states) lows highs (base-arranged n lows highs states ok) k p q apart alive))

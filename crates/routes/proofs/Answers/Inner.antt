@@ -17,6 +17,7 @@ use Rattle.definitions.specs.Route.{routesOf, oneTreeOf}
 use Rattle.definitions.specs.Over.{oversOf}
 use Rattle.lists.specs.Tables.{length-table, getD-table, getD-zeros}
 use Rattle.lists.specs.Overwritten.{getD-overwrite}
+use Rattle.theory.specs.ServingRelays.{serving-few}
 use Rattle.theory.specs.Places.{relay-placed}
 use Rattle.forests.specs.Scan.{Scannable, Scanned}
 use Rattle.forests.specs.Left.{LeftInput}
@@ -48,30 +49,30 @@ route-arrays size links wide n {lows} {order} {places} {numbers} {a} {b} few sho
     }
 
 -- The places' list gives the place of each relay.
-pub place-entry : (n : ℕ) (lows highs places places′ : List ℕ) → places′ ≡ overwrite (placesOf n (orderOf n lows highs)) places
-    → (r : ℕ) → r < n → getD places′ r 0 ≡ placeOf (orderOf n lows highs) r
+pub place-entry : (n : ℕ) (lows highs states places places′ : List ℕ) → places′ ≡ overwrite (placesOf n (orderOf n lows highs states)) places
+    → (r : ℕ) → r < n → getD places′ r 0 ≡ placeOf (orderOf n lows highs states) r
 unfolding placesOf
-place-entry n lows highs places places′ e r less =
+place-entry n lows highs states places places′ e r less =
     ap (λ (l : List ℕ). getD l r 0) e
-    ∙ getD-overwrite (placesOf n (orderOf n lows highs)) places r 0 (omega (arith, length-table (placeOf (orderOf n lows highs)) 0 n))
-    ∙ getD-table (placeOf (orderOf n lows highs)) 0 n r 0 less ∙ ap (placeOf (orderOf n lows highs)) (zero-add r)
+    ∙ getD-overwrite (placesOf n (orderOf n lows highs states)) places r 0 (omega (arith, length-table (placeOf (orderOf n lows highs states)) 0 n))
+    ∙ getD-table (placeOf (orderOf n lows highs states)) 0 n r 0 less ∙ ap (placeOf (orderOf n lows highs states)) (zero-add r)
 
-pub table-asks : (n k : ℕ) (lows highs order order′ places places′ numbers numbers′ table : List ℕ) → Accepted n lows highs
-    → Scanned n lows highs order order′ places places′ numbers numbers′
+pub table-asks : (n k : ℕ) (lows highs states order order′ places places′ numbers numbers′ table : List ℕ) → Accepted n lows highs states
+    → Scanned n lows highs states order order′ places places′ numbers numbers′
     → n ≤ length places′ → length lows ≤ length numbers′ → k * n ≤ length table → ((j : ℕ) → j < k * n → getD table j 0 ≡ 0)
-    → LeftInput n k lows highs places′ numbers′ table
+    → LeftInput n k lows highs states places′ numbers′ table
 unfolding forestsOf
-table-asks n k lows highs order order′ places places′ numbers numbers′ table ok scanned placeRoom linkRoom room zeros =
-    let forest = forestOf (linked lows highs) (orderOf n lows highs) lows highs in
+table-asks n k lows highs states order order′ places places′ numbers numbers′ table ok scanned placeRoom linkRoom room zeros =
+    let forest = forestOf (linked lows highs) (orderOf n lows highs states) lows highs in
     record {
       accepted = ok;
       placeRoom = placeRoom;
       forestRoom = linkRoom;
       tableRoom = room;
-      place = place-entry n lows highs places places′ (scanned .thePlaces);
+      place = place-entry n lows highs states places places′ (scanned .thePlaces);
       forest = λ i less.
           ap (λ (l : List ℕ). getD l i 0) (scanned .theForests)
-          ∙ getD-overwrite (forestsOf n lows highs) numbers i 0 (omega (arith, length-table forest 0 (length lows)))
+          ∙ getD-overwrite (forestsOf n lows highs states) numbers i 0 (omega (arith, length-table forest 0 (length lows)))
           ∙ getD-table forest 0 (length lows) i 0 less ∙ ap forest (zero-add i);
       zeros = zeros;
     }
@@ -89,59 +90,59 @@ module _ (a b : List ℕ) (look : ℕ → ℕ → Entry) (k p q : ℕ) (order co
   answer-none fails = rw (← e, fails)
 
 -- The answer over the left table is that of the definition.
-module _ (n : ℕ) (lows highs : List ℕ) (k from to : ℕ) (counts relays links scratch : List ℕ) (asked : Routable n lows highs k from to counts relays scratch)
+module _ (n : ℕ) (lows highs states : List ℕ) (k from to : ℕ) (counts relays links scratch : List ℕ) (asked : Routable n lows highs states k from to counts relays scratch)
     (order order′ places places′ numbers ends table table′ : List ℕ)
-    (made : Prepared n k lows highs order order′ places places′ numbers ends table table′)
+    (made : Prepared n k lows highs states order order′ places places′ numbers ends table table′)
     (a b : List ℕ) (lent : RouteArrays n lows order places numbers a b) where
-  relays-same : relayAt order′ ≡ relayAt (orderOf n lows highs)
-  relays-same = ap relayAt (made .scanned .theOrder) ∙ front-relays (orderOf n lows highs) order (lent .noOrder)
+  relays-same : relayAt order′ ≡ relayAt (orderOf n lows highs states)
+  relays-same = ap relayAt (made .scanned .theOrder) ∙ front-relays (orderOf n lows highs states) order (lent .noOrder)
 
   abbrev P : ℕ
-  P = placeOf (orderOf n lows highs) from
+  P = placeOf (orderOf n lows highs states) from
 
   abbrev Q : ℕ
-  Q = placeOf (orderOf n lows highs) to
+  Q = placeOf (orderOf n lows highs states) to
 
   abbrev look : ℕ → ℕ → Entry
   look = tableEntry table′ ends n
 
   abbrev routes : List (List ℕ)
-  routes = routesOf n lows highs k from to
+  routes = routesOf n lows highs states k from to
 
   abbrev all : Written
   all = betweenIn a b look k P Q order′ counts relays
 
-  over-places : answerIn a b look k P Q order′ counts relays links ≡ treeAnswer n lows highs k from to counts relays links
+  over-places : answerIn a b look k P Q order′ counts relays links ≡ treeAnswer n lows highs states k from to counts relays links
   unfolding answerIn treeAnswer
   over-places = go (oneTreeIn look k P Q) refl
     where
-      tree : oneTreeIn look k P Q ≡ oneTreeOf n lows highs k from to
+      tree : oneTreeIn look k P Q ≡ oneTreeOf n lows highs states k from to
       tree =
-          tree-tested n lows highs k from to (asked .accepted) (asked .one) (asked .few) (asked .source) (asked .goal) (asked .differ)
+          tree-tested n lows highs states k from to (asked .accepted) (asked .one) (asked .few) (asked .source) (asked .goal) (asked .differ)
           table table′ ends (made .theTable)
 
       go : (test : Bool) → oneTreeIn look k P Q ≡ test
           → pick (oneTreeIn look k P Q)
           (answered (all .countList) (all .relayList) (linksBetween a b look k P Q links) (done (all .upto ∷ [])))
           (answered counts relays links (refused 13 0))
-          ≡ pick (oneTreeOf n lows highs k from to)
+          ≡ pick (oneTreeOf n lows highs states k from to)
           (answered (overwrite (map length routes) counts) (overwrite (joinAll routes) relays)
-          (sets links 0 (joinAll (oversOf n lows highs k from to))) (done (length (joinAll routes) ∷ [])))
+          (sets links 0 (joinAll (oversOf n lows highs states k from to))) (done (length (joinAll routes) ∷ [])))
           (answered counts relays links (refused 13 0))
       go true e =
           rw (← tree, e)
           (ap₂ (λ (w : Written) (l : List ℕ). answered (w .countList) (w .relayList) l (done (w .upto ∷ [])))
-          (routes-written n lows highs k from to (asked .accepted) (asked .one) (asked .few) (asked .source) (asked .goal) (asked .differ)
+          (routes-written n lows highs states k from to (asked .accepted) (asked .one) (asked .few) (asked .source) (asked .goal) (asked .differ)
           table table′ ends (made .theTable) e order′ counts relays relays-same a b (lent .noA) (lent .noB) (asked .countRoom) (asked .relayRoom))
-          (links-written n lows highs k from to (asked .accepted) (asked .one) (asked .few) (asked .source) (asked .goal) (asked .differ)
+          (links-written n lows highs states k from to (asked .accepted) (asked .one) (asked .few) (asked .source) (asked .goal) (asked .differ)
           table table′ ends (made .theTable) e order′ counts relays relays-same a b (lent .noA) (lent .noB) (asked .countRoom) (asked .relayRoom) links))
       go false e = rw (← tree, e)
 
   pub answers-tree : (p q : ℕ) (result : Answered) → p ≡ getD places′ from 0 → q ≡ getD places′ to 0
-      → result ≡ answerIn a b look k p q order′ counts relays links → result ≡ treeAnswer n lows highs k from to counts relays links
+      → result ≡ answerIn a b look k p q order′ counts relays links → result ≡ treeAnswer n lows highs states k from to counts relays links
   answers-tree p q result ep eq e =
-      let atP : p ≡ P = ep ∙ place-entry n lows highs places places′ (made .scanned .thePlaces) from (asked .source) in
-      let atQ : q ≡ Q = eq ∙ place-entry n lows highs places places′ (made .scanned .thePlaces) to (asked .goal) in
+      let atP : p ≡ P = ep ∙ place-entry n lows highs states places places′ (made .scanned .thePlaces) from (asked .source .0) in
+      let atQ : q ≡ Q = eq ∙ place-entry n lows highs states places places′ (made .scanned .thePlaces) to (asked .goal .0) in
       e ∙ ap (λ (x : ℕ). answerIn a b look k x q order′ counts relays links) atP
       ∙ ap (λ (x : ℕ). answerIn a b look k P x order′ counts relays links) atQ ∙ over-places
 
@@ -150,11 +151,11 @@ module _ (n : ℕ) (lows highs : List ℕ) (k from to : ℕ) (counts relays link
       → (0 < p) × (p ≤ n) × (0 < q) × (q ≤ n) × (k ≤ 32)
       × (priorStart + (2 * n + 1) < length a) × (priorStart + (2 * n + 1) < length b)
   places-some p q ep eq =
-      let atP : p ≡ P = ep ∙ place-entry n lows highs places places′ (made .scanned .thePlaces) from (asked .source) in
-      let atQ : q ≡ Q = eq ∙ place-entry n lows highs places places′ (made .scanned .thePlaces) to (asked .goal) in
-      let placedP = relay-placed n lows highs from (asked .source) in
-      let placedQ = relay-placed n lows highs to (asked .goal) in
-      omega (arith, atP, atQ, placedP .0, placedP .1, placedQ .0, placedQ .1, asked .few, lent .noA .room, lent .noB .room)
+      let atP : p ≡ P = ep ∙ place-entry n lows highs states places places′ (made .scanned .thePlaces) from (asked .source .0) in
+      let atQ : q ≡ Q = eq ∙ place-entry n lows highs states places places′ (made .scanned .thePlaces) to (asked .goal .0) in
+      let placedP = relay-placed n lows highs states from (asked .source) in
+      let placedQ = relay-placed n lows highs states to (asked .goal) in
+      omega (arith, atP, atQ, placedP .0, placedP .1, placedQ .0, placedQ .1, asked .few, serving-few n states, lent .noA .room, lent .noB .room)
 
 -- A list cleared as far as it goes, which was as long as another.
 pub clear-whole : (old mid last : List ℕ) → length mid ≡ length old → last ≡ replicate (length mid) 0 ++ drop (length mid) mid
@@ -164,11 +165,11 @@ clear-whole old mid last e clear =
     clear ∙ rw (drop-length mid) (append-nil (replicate (length mid) 0)) ∙ ap (λ (x : ℕ). replicate x 0) e
 
 -- What preparing asks, after the front of scratch is cleared.
-pub prepare-asks : (n : ℕ) (lows highs : List ℕ) (k from to : ℕ) (counts relays scratch scratch′ order places numbers a b : List ℕ)
-    → Routable n lows highs k from to counts relays scratch → RouteArrays n lows order places numbers a b
+pub prepare-asks : (n : ℕ) (lows highs states : List ℕ) (k from to : ℕ) (counts relays scratch scratch′ order places numbers a b : List ℕ)
+    → Routable n lows highs states k from to counts relays scratch → RouteArrays n lows order places numbers a b
     → scratch′ ≡ replicate (k * n) 0 ++ drop (k * n) scratch → length scratch′ ≡ length scratch
-    → Scannable n lows highs order places numbers × ((k * n ≤ length scratch′) × ((j : ℕ) → j < k * n → getD scratch′ j 0 ≡ 0))
-prepare-asks n lows highs k from to counts relays scratch scratch′ order places numbers a b asked lent clear long = (
+    → Scannable n lows highs states order places numbers × ((k * n ≤ length scratch′) × ((j : ℕ) → j < k * n → getD scratch′ j 0 ≡ 0))
+prepare-asks n lows highs states k from to counts relays scratch scratch′ order places numbers a b asked lent clear long = (
   record { accepted = asked .accepted; relayRoom = lent .relayRoom; placeRoom = lent .placeRoom; forestRoom = lent .linkRoom },
   (omega (arith, asked .scratchRoom), cleared (k * n) scratch clear .0),
 )

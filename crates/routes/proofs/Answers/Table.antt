@@ -20,27 +20,27 @@ use Rattle.forests.specs.Left.{leftIndex, LeftTable}
 use Rattle.forests.proofs.LeftTableLaws.{code-some, code-none}
 use Rattle.routes.specs.Side.{linkEntry, tableEntry}
 
-module _ (n k : ℕ) (lows highs : List ℕ) (ok : Accepted n lows highs) (old table ends : List ℕ)
-    (made : LeftTable n k lows highs old table ends) where
+module _ (n k : ℕ) (lows highs states : List ℕ) (ok : Accepted n lows highs states) (old table ends : List ℕ)
+    (made : LeftTable n k lows highs states old table ends) where
   -- Where there is a neighbour.
-  table-entry : (i v : ℕ) → 1 ≤ i → i ≤ k → 0 < leftOf n lows highs i v → tableEntry table ends n i v ≡ entryOf n lows highs i v
+  table-entry : (i v : ℕ) → 1 ≤ i → i ≤ k → 0 < leftOf n lows highs states i v → tableEntry table ends n i v ≡ entryOf n lows highs states i v
   unfolding tableEntry linkEntry leftOf
   table-entry i v one le some =
-      let entry : Entry = entryOf n lows highs i v in
-      let below : leftOf n lows highs i v < v = left-laws n lows highs .below i v some in
-      let range = leftOf-range n lows highs i v some in
-      let place : entry .place ≡ leftOf n lows highs i v = entry-place n lows highs i v in
+      let entry : Entry = entryOf n lows highs states i v in
+      let below : leftOf n lows highs states i v < v = left-laws n lows highs states .below i v some in
+      let range = leftOf-range n lows highs states i v some in
+      let place : entry .place ≡ leftOf n lows highs states i v = entry-place n lows highs states i v in
       let code : getD table (leftIndex n i v) 0 ≡ suc (entry .link) =
       made .entry i v one le (omega arith) (omega (arith, range)) ∙ code-some entry (omega arith) in
-      let link = entry-link n lows highs ok i v some in
+      let link = entry-link n lows highs states ok i v some in
       let end : getD ends (entry .link) 0 ≡ entry .place =
-      made .earlierEnd (entry .link) (link .within) (omega (arith, link .forest))
-      ∙ entry-earlier-in (orderOf n lows highs) lows highs (base-arranged n lows highs ok) i v (entry .link) link ∙ sym place in
+      made .earlierEnd (entry .link) (link .within) (omega (arith, link .forest)) (omega (arith, link .forest))
+      ∙ entry-earlier-in (orderOf n lows highs states) lows highs (base-arranged n lows highs states ok) i v (entry .link) link ∙ sym place in
       rw (ne-eqb i 0 (λ e. omega arith), ne-eqb v 0 (λ e. omega arith), le-ltb n v (omega (arith, range)), code)
       (ap (λ (x : ℕ). record { place = x; link = entry .link }) end)
 
   -- Where there is none.
-  table-none : (i v : ℕ) → 1 ≤ i → i ≤ k → leftOf n lows highs i v ≡ 0 → tableEntry table ends n i v .place ≡ 0
+  table-none : (i v : ℕ) → 1 ≤ i → i ≤ k → leftOf n lows highs states i v ≡ 0 → tableEntry table ends n i v .place ≡ 0
   unfolding tableEntry linkEntry
   table-none i v one le off =
       rw (ne-eqb i 0 (λ e. omega arith))
@@ -52,23 +52,23 @@ module _ (n k : ℕ) (lows highs : List ℕ) (ok : Accepted n lows highs) (old t
       (λ past. rw (lt-ltb n v past))
       (λ within.
       let code : getD table (leftIndex n i v) 0 ≡ 0 =
-      made .entry i v one le (omega arith) (omega arith) ∙ code-none (entryOf n lows highs i v) (entry-place n lows highs i v ∙ off) in
+      made .entry i v one le (omega arith) (omega arith) ∙ code-none (entryOf n lows highs states i v) (entry-place n lows highs states i v ∙ off) in
       rw (le-ltb n v (omega arith), code)))))
 
-  pub table-left : (i v : ℕ) → 1 ≤ i → i ≤ k → tableEntry table ends n i v .place ≡ leftOf n lows highs i v
+  pub table-left : (i v : ℕ) → 1 ≤ i → i ≤ k → tableEntry table ends n i v .place ≡ leftOf n lows highs states i v
   table-left i v one le =
-      by-cases (decLt 0 (leftOf n lows highs i v))
-      (λ some. ap (λ (e : Entry). e .place) (table-entry i v one le some) ∙ entry-place n lows highs i v)
+      by-cases (decLt 0 (leftOf n lows highs states i v))
+      (λ some. ap (λ (e : Entry). e .place) (table-entry i v one le some) ∙ entry-place n lows highs states i v)
       (λ none.
-      let off : leftOf n lows highs i v ≡ 0 = omega arith in
+      let off : leftOf n lows highs states i v ≡ 0 = omega arith in
       table-none i v one le off ∙ sym off)
 
   -- Its link is the one between the two places.
   pub table-link : (i v : ℕ) → 1 ≤ i → i ≤ k → 0 < tableEntry table ends n i v .place
       → tableEntry table ends n i v .link
-      ≡ placeLink (orderOf n lows highs) lows highs (tableEntry table ends n i v .place) v
+      ≡ placeLink (orderOf n lows highs states) lows highs (tableEntry table ends n i v .place) v
   unfolding entryOf
   table-link i v one le some =
-      let same : tableEntry table ends n i v ≡ entryOf n lows highs i v = table-entry i v one le (omega (arith, table-left i v one le)) in
-      subst (λ (e : Entry). e .link ≡ placeLink (orderOf n lows highs) lows highs (e .place) v) (sym same)
-      (look-gives (orderOf n lows highs) lows highs (base-arranged n lows highs ok) i v (subst (λ (e : Entry). 0 < e .place) same some))
+      let same : tableEntry table ends n i v ≡ entryOf n lows highs states i v = table-entry i v one le (omega (arith, table-left i v one le)) in
+      subst (λ (e : Entry). e .link ≡ placeLink (orderOf n lows highs states) lows highs (e .place) v) (sym same)
+      (look-gives (orderOf n lows highs states) lows highs (base-arranged n lows highs states ok) i v (subst (λ (e : Entry). 0 < e .place) same some))

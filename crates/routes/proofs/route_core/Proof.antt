@@ -19,9 +19,9 @@ enum-told c = search needs
 
 wish-check-requires : tie.Need-wish-check-requires
 wish-check-requires c κs =
-    let start = c .before .before .before .before .before .before .before .before .before in
+    let start = c .before .before .before .before .before .before .before .before .before .before in
     let a = start .args in
-    accepted (a .n) (a .lows .now) (a .highs .now)
+    accepted (a .n) (a .lows .now) (a .highs .now) (a .states .now)
     (sym (c .before .before .table-check .ensures) ∙ ap checkOutcome (c .enum-told .given .1)) .few
 
 enum-known-refusal-2 : tie.Need-enum-known-refusal-2
@@ -36,9 +36,9 @@ route-accepted-requires c κs =
     let atWishCheck = atEnumTold2 .before .before in
     let atEnumTold = atWishCheck .before in
     let atTableCheck = atEnumTold .before .before in
-    let start = atTableCheck .before .before .before .before .before .before .before in
+    let start = atTableCheck .before .before .before .before .before .before .before .before in
     let a = start .args in
-    wish-passed (a .asked) (a .n) (a .lows .now) (a .highs .now) (a .k) (a .from) (a .to) (a .counts .now) (a .relays .now)
+    wish-passed (a .asked) (a .n) (a .lows .now) (a .highs .now) (a .states .now) (a .k) (a .from) (a .to) (a .counts .now) (a .relays .now)
     (a .links .now) (a .scratch .now)
     (sym (atTableCheck .table-check .ensures) ∙ ap checkOutcome (atEnumTold .enum-told .given .1))
     (sym (atWishCheck .wish-check .ensures) ∙ ap checkOutcome (atEnumTold2 .enum-told2 .given .1))
@@ -46,9 +46,9 @@ route-accepted-requires c κs =
 returns : tie.Need-returns
 returns c =
     let atTableCheck = c .before .before .before in
-    let start = atTableCheck .before .before .before .before .before .before .before in
+    let start = atTableCheck .before .before .before .before .before .before .before .before in
     let a = start .args in
-    table-refused (a .asked) (a .n) (a .lows .now) (a .highs .now) (a .k) (a .from) (a .to) (a .counts .now) (a .relays .now)
+    table-refused (a .asked) (a .n) (a .lows .now) (a .highs .now) (a .states .now) (a .k) (a .from) (a .to) (a .counts .now) (a .relays .now)
     (a .links .now) (a .scratch .now)
     (c .before .refusal .given .0 .0) (sym (ap checkOutcome (c .before .refusal .given .1)) ∙ atTableCheck .table-check .ensures)
 
@@ -57,9 +57,9 @@ returns-2 c =
     let atWishCheck = c .before .before .before in
     let atEnumTold = atWishCheck .before in
     let atTableCheck = atEnumTold .before .before in
-    let start = atTableCheck .before .before .before .before .before .before .before in
+    let start = atTableCheck .before .before .before .before .before .before .before .before in
     let a = start .args in
-    wish-refused (a .asked) (a .n) (a .lows .now) (a .highs .now) (a .k) (a .from) (a .to) (a .counts .now) (a .relays .now)
+    wish-refused (a .asked) (a .n) (a .lows .now) (a .highs .now) (a .states .now) (a .k) (a .from) (a .to) (a .counts .now) (a .relays .now)
     (a .links .now) (a .scratch .now)
     (sym (atTableCheck .table-check .ensures) ∙ ap checkOutcome (atEnumTold .enum-told .given .1))
     (c .before .refusal2 .given .0 .0) (sym (ap checkOutcome (c .before .refusal2 .given .1)) ∙ atWishCheck .wish-check .ensures)
@@ -83,15 +83,15 @@ returns-3 c =
     let atWishCheck = atEnumTold2 .before .before in
     let atEnumTold = atWishCheck .before in
     let atTableCheck = atEnumTold .before .before in
-    let start = atTableCheck .before .before .before .before .before .before .before in
+    let start = atTableCheck .before .before .before .before .before .before .before .before in
     let a = start .args in
     let called = atRouteAccepted .route-accepted in
-    route-answered (a .asked) (a .n) (a .lows .now) (a .highs .now) (a .k) (a .from) (a .to) (a .counts .now) (a .relays .now)
+    route-answered (a .asked) (a .n) (a .lows .now) (a .highs .now) (a .states .now) (a .k) (a .from) (a .to) (a .counts .now) (a .relays .now)
     (a .links .now) (a .scratch .now)
     (sym (atTableCheck .table-check .ensures) ∙ ap checkOutcome (atEnumTold .enum-told .given .1))
     (sym (atWishCheck .wish-check .ensures) ∙ ap checkOutcome (atEnumTold2 .enum-told2 .given .1))
-    (routeOutcome (called .result)) (called .last .1 .1 .1 .1 .1 .1 .0) (called .last .1 .1 .1 .1 .1 .1 .1 .0)
-    (called .last .1 .1 .1 .1 .1 .1 .1 .1 .0) (called .last .1 .1 .1 .1 .1 .1 .1 .1 .1 .0)
+    (routeOutcome (called .result)) (called .last .1 .1 .1 .1 .1 .1 .1 .0) (called .last .1 .1 .1 .1 .1 .1 .1 .1 .0)
+    (called .last .1 .1 .1 .1 .1 .1 .1 .1 .1 .0) (called .last .1 .1 .1 .1 .1 .1 .1 .1 .1 .1 .0)
     (called .ensures .0) (called .ensures .1)
 
 pub route-core-spec : {M : Type 1} → statement M

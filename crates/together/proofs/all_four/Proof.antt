@@ -48,7 +48,7 @@ returns c =
     let split = atSplit .split .ensures in
     let cut = atCut .cut .ensures in
     let route = atRoute .route .ensures in
-    let demand = together _ _ _ _ _ _ _ _ _ _ _ _ _ _ _ _ _ _ _ _
+    let demand = together _ _ _ _ _ _ _ _ _ _ _ _ _ _ _ _ _ _ _ _ _
     (order .1 .0) (order .1 .1) (split .1) (cut .1) (route .0) (route .1 .0) (route .1 .1 .0) in
     (order .0, (order .1 .0, (order .1 .1, (split .0, (split .1, (cut .0, (cut .1, (route .0, (route .1 .0, (route .1 .1 .0, (route .1 .1 .1, demand)))))))))))
 

@@ -11,14 +11,16 @@ scan-requires c κs = search needs
 left-table-requires : tie.Need-left-table-requires
 left-table-requires c κs =
     let atScan = c .before .before .before .before .before .before .before .before .before in
-    let start = atScan .before .before .before .before .before .before .before .before .before .before in
+    let start = atScan .before .before .before .before .before .before .before .before .before .before .before in
     let a = start .args in
     let s = atScan .scan in
     let asked = start .pre .0 in
-    table-asks (a .n) (a .k) (a .lows .now) (a .highs .now) (a .order .now) (s .last .1 .1 .1 .0) (a .places .now) (s .last .1 .1 .1 .1 .0)
-    (a .numbers .now) (s .last .1 .1 .1 .1 .1 .0) (a .table .now) (asked .accepted) (s .ensures)
-    (omega (arith, s .kept .1 .1 .1 .1 .0, asked .placeRoom)) (omega (arith, s .kept .1 .1 .1 .1 .1 .0, asked .forestRoom))
-    (start .pre .1 .0) (start .pre .1 .1)
+    let input =
+    table-asks (a .n) (a .k) (a .lows .now) (a .highs .now) (a .states .now) (a .order .now) (s .last .1 .1 .1 .1 .0) (a .places .now)
+    (s .last .1 .1 .1 .1 .1 .0) (a .numbers .now) (s .last .1 .1 .1 .1 .1 .1 .0) (a .table .now) (asked .accepted) (s .ensures)
+    (omega (arith, s .kept .1 .1 .1 .1 .1 .0, asked .placeRoom)) (omega (arith, s .kept .1 .1 .1 .1 .1 .1 .0, asked .forestRoom))
+    (start .pre .1 .0) (start .pre .1 .1) in
+    (a .states .now, input)
 
 same-length : tie.Need-same-length
 same-length c = search needs
@@ -35,8 +37,17 @@ same-length-4 c = search needs
 returns : tie.Need-returns
 returns c =
     let atLeft = c .before .before .before .before in
-    let s = atLeft .before .before .before .before .before .before .before .before .before .before .scan in
-    record { numbered = s .last .1 .1 .1 .1 .1 .0; scanned = s .ensures; theTable = atLeft .left-table .ensures }
+    let atScan = atLeft .before .before .before .before .before .before .before .before .before .before in
+    let start = atScan .before .before .before .before .before .before .before .before .before .before .before in
+    let a = start .args in
+    let s = atScan .scan in
+    let asked = start .pre .0 in
+    let input =
+    table-asks (a .n) (a .k) (a .lows .now) (a .highs .now) (a .states .now) (a .order .now) (s .last .1 .1 .1 .1 .0) (a .places .now)
+    (s .last .1 .1 .1 .1 .1 .0) (a .numbers .now) (s .last .1 .1 .1 .1 .1 .1 .0) (a .table .now) (asked .accepted) (s .ensures)
+    (omega (arith, s .kept .1 .1 .1 .1 .1 .0, asked .placeRoom)) (omega (arith, s .kept .1 .1 .1 .1 .1 .1 .0, asked .forestRoom))
+    (start .pre .1 .0) (start .pre .1 .1) in
+    record { numbered = s .last .1 .1 .1 .1 .1 .1 .0; scanned = s .ensures; theTable = atLeft .left-table .ensures (a .states .now) input }
 
 pub prepare-spec : {M : Type 1} → statement M
 prepare-spec =

@@ -11,7 +11,7 @@ route-small-requires : tie.Need-route-small-requires
 route-small-requires c κs =
     let case = c .before .before .before .before in
     let small = small-sizes _ _ (case .before .is-small .ensures) (case .if1 .taken) in
-    (c .before .before .before .before .before .before .before .before .before .before .before .before .pre, small .0, small .1)
+    (c .before .before .before .before .before .before .before .before .before .before .before .before .before .pre, small .0, small .1)
 
 route-large-requires : tie.Need-route-large-requires
 route-large-requires c κs = search needs

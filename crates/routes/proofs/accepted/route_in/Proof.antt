@@ -16,23 +16,23 @@ clear-requires c κs = search needs
 prepare-requires : tie.Need-prepare-requires
 prepare-requires c κs =
     let atClear = c .before .before .before .before .before .before in
-    let start = atClear .before .before .before .before .before .before .before .before .before .before .before .before .before in
+    let start = atClear .before .before .before .before .before .before .before .before .before .before .before .before .before .before in
     let a = start .args in
-    prepare-asks (a .n) (a .lows .now) (a .highs .now) (a .k) (a .from) (a .to) (a .counts .now) (a .relays .now) (a .scratch .now)
+    prepare-asks (a .n) (a .lows .now) (a .highs .now) (a .states .now) (a .k) (a .from) (a .to) (a .counts .now) (a .relays .now) (a .scratch .now)
     (atClear .clear .last .0) (a .order .now) (a .places .now) (a .numbers .now) (a .a .now) (a .b .now) (start .pre .0) (start .pre .1)
     (atClear .clear .ensures) (atClear .clear .kept .0)
 
 place-of-requires : tie.Need-place-of-requires
 place-of-requires c κs =
     let atPrepare = c .before .before .before .before .before .before .before .before .before in
-    let start = atPrepare .before .before .before .before .before .before .before .before .before .before .before .before .before .before .before .before .before .before .before .before in
-    omega (arith, start .pre .0 .source, start .pre .1 .placeRoom, atPrepare .prepare .kept .1 .1 .1 .1 .1 .0)
+    let start = atPrepare .before .before .before .before .before .before .before .before .before .before .before .before .before .before .before .before .before .before .before .before .before in
+    omega (arith, start .pre .0 .source .0, start .pre .1 .placeRoom, atPrepare .prepare .kept .1 .1 .1 .1 .1 .1 .0)
 
 place-of-requires-2 : tie.Need-place-of-requires-2
 place-of-requires-2 c κs =
     let atPrepare = c .before .before .before .before .before .before .before .before .before .before .before in
-    let start = atPrepare .before .before .before .before .before .before .before .before .before .before .before .before .before .before .before .before .before .before .before .before in
-    omega (arith, start .pre .0 .goal, start .pre .1 .placeRoom, atPrepare .prepare .kept .1 .1 .1 .1 .1 .0)
+    let start = atPrepare .before .before .before .before .before .before .before .before .before .before .before .before .before .before .before .before .before .before .before .before .before in
+    omega (arith, start .pre .0 .goal .0, start .pre .1 .placeRoom, atPrepare .prepare .kept .1 .1 .1 .1 .1 .1 .0)
 
 answer-requires : tie.Need-answer-requires
 answer-requires c κs =
@@ -40,13 +40,13 @@ answer-requires c κs =
     let atPlaceOf = atPlaceOf2 .before .before in
     let atPrepare = atPlaceOf .before .before .before .before .before .before .before .before .before .before in
     let atClear = atPrepare .before .before .before .before .before .before .before in
-    let start = atClear .before .before .before .before .before .before .before .before .before .before .before .before .before in
+    let start = atClear .before .before .before .before .before .before .before .before .before .before .before .before .before .before in
     let a = start .args in
     let made = atPrepare .prepare in
-    places-some (a .n) (a .lows .now) (a .highs .now) (a .k) (a .from) (a .to) (a .counts .now) (a .relays .now) (a .links .now) (a .scratch .now)
+    places-some (a .n) (a .lows .now) (a .highs .now) (a .states .now) (a .k) (a .from) (a .to) (a .counts .now) (a .relays .now) (a .links .now) (a .scratch .now)
     (start .pre .0)
-    (a .order .now) (made .last .1 .1 .1 .1 .0) (a .places .now) (made .last .1 .1 .1 .1 .1 .0)
-    (a .numbers .now) (made .last .1 .1 .1 .1 .1 .1 .0) (atClear .clear .last .0) (made .last .1 .1 .1 .1 .1 .1 .1 .0) (made .ensures) (a .a .now) (a .b .now) (start .pre .1)
+    (a .order .now) (made .last .1 .1 .1 .1 .1 .0) (a .places .now) (made .last .1 .1 .1 .1 .1 .1 .0)
+    (a .numbers .now) (made .last .1 .1 .1 .1 .1 .1 .1 .0) (atClear .clear .last .0) (made .last .1 .1 .1 .1 .1 .1 .1 .1 .0) (made .ensures) (a .a .now) (a .b .now) (start .pre .1)
     (atPlaceOf .place-of .result .0) (atPlaceOf2 .place-of2 .result .0)
     (atPlaceOf .place-of .ensures) (atPlaceOf2 .place-of2 .ensures)
 
@@ -54,7 +54,7 @@ clear-requires-2 : tie.Need-clear-requires-2
 clear-requires-2 c κs = search needs
 
 same-length : tie.Need-same-length
-same-length c = c .before .before .before .before .before .before .before .before .before .before .before .before .before .before .before .before .before .before .before .before .before .before .before .before .before .before .before .before .before .before .before .before .before .before .before .prepare .kept .1 .1 .1 .1 .0
+same-length c = c .before .before .before .before .before .before .before .before .before .before .before .before .before .before .before .before .before .before .before .before .before .before .before .before .before .before .before .before .before .before .before .before .before .before .before .prepare .kept .1 .1 .1 .1 .1 .0
 
 same-length-2 : tie.Need-same-length-2
 same-length-2 c = search needs
@@ -81,7 +81,7 @@ same-length-9 : tie.Need-same-length-9
 same-length-9 c =
     let atPrepare = c .before .before .before .before .before .before .before .before .before .before .before .before .before .before .before .before .before .before .before .before .before .before .before .before .before .before .before .before .before .before .before .before .before .before .before in
     let atClear = atPrepare .before .before .before .before .before .before .before in
-    c .before .before .clear2 .kept .0 ∙ atPrepare .prepare .kept .1 .1 .1 .1 .1 .1 .1 .0 ∙ atClear .clear .kept .0
+    c .before .before .clear2 .kept .0 ∙ atPrepare .prepare .kept .1 .1 .1 .1 .1 .1 .1 .1 .0 ∙ atClear .clear .kept .0
 
 returns : tie.Need-returns
 returns c =
@@ -90,20 +90,20 @@ returns c =
     let atPlaceOf = atPlaceOf2 .before .before in
     let atPrepare = atPlaceOf .before .before .before .before .before .before .before .before .before .before in
     let atClear = atPrepare .before .before .before .before .before .before .before in
-    let start = atClear .before .before .before .before .before .before .before .before .before .before .before .before .before in
+    let start = atClear .before .before .before .before .before .before .before .before .before .before .before .before .before .before in
     let a = start .args in
     let made = atPrepare .prepare in (
-      answers-tree (a .n) (a .lows .now) (a .highs .now) (a .k) (a .from) (a .to) (a .counts .now) (a .relays .now) (a .links .now) (a .scratch .now)
+      answers-tree (a .n) (a .lows .now) (a .highs .now) (a .states .now) (a .k) (a .from) (a .to) (a .counts .now) (a .relays .now) (a .links .now) (a .scratch .now)
           (start .pre .0)
-          (a .order .now) (made .last .1 .1 .1 .1 .0) (a .places .now) (made .last .1 .1 .1 .1 .1 .0)
-          (a .numbers .now) (made .last .1 .1 .1 .1 .1 .1 .0) (atClear .clear .last .0) (made .last .1 .1 .1 .1 .1 .1 .1 .0) (made .ensures)
+          (a .order .now) (made .last .1 .1 .1 .1 .1 .0) (a .places .now) (made .last .1 .1 .1 .1 .1 .1 .0)
+          (a .numbers .now) (made .last .1 .1 .1 .1 .1 .1 .1 .0) (atClear .clear .last .0) (made .last .1 .1 .1 .1 .1 .1 .1 .1 .0) (made .ensures)
           (a .a .now) (a .b .now) (start .pre .1)
           (atPlaceOf .place-of .result .0) (atPlaceOf2 .place-of2 .result .0)
           (answered (atAnswer .answer .last .1 .1 .1 .1 .1 .1 .1 .1 .1 .0) (atAnswer .answer .last .1 .1 .1 .1 .1 .1 .1 .1 .1 .1 .0)
           (atAnswer .answer .last .1 .1 .1 .1 .1 .1 .1 .1 .1 .1 .1 .0) (routeOutcome (atAnswer .answer .result)))
           (atPlaceOf .place-of .ensures) (atPlaceOf2 .place-of2 .ensures) (atAnswer .answer .ensures),
-      clear-whole (a .scratch .now) (made .last .1 .1 .1 .1 .1 .1 .1 .0) (c .before .before .clear2 .last .0)
-          (made .kept .1 .1 .1 .1 .1 .1 .1 .0 ∙ atClear .clear .kept .0) (c .before .before .clear2 .ensures),
+      clear-whole (a .scratch .now) (made .last .1 .1 .1 .1 .1 .1 .1 .1 .0) (c .before .before .clear2 .last .0)
+          (made .kept .1 .1 .1 .1 .1 .1 .1 .1 .0 ∙ atClear .clear .kept .0) (c .before .before .clear2 .ensures),
     )
 
 pub route-in-spec : {M : Type 1} → statement M

@@ -45,8 +45,8 @@ route-in-requires c κs =
     let atNoLinks = atNoPaths .before in
     let atNoRelays2 = atNoLinks .before in
     let atNoRelays = atNoRelays2 .before in
-    let s = atNoRelays .before .before .before .before .before .before .before in
-    let t = accepted (s .args .n) (s .args .lows .now) (s .args .highs .now) (s .pre .accepted) in (
+    let s = atNoRelays .before .before .before .before .before .before .before .before in
+    let t = accepted (s .args .n) (s .args .lows .now) (s .args .highs .now) (s .args .states .now) (s .pre .accepted) in (
       s .pre,
       route-arrays 1000 3000 (priorStart + 2002) (s .args .n) (t .few) (t .short) (omega (arith, t .few))
           (atNoRelays .relay-copies .ensures) (atNoRelays2 .relay-copies2 .ensures) (atNoLinks .link-zeros .ensures)

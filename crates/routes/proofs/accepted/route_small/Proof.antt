@@ -44,7 +44,7 @@ route-in-requires c κs =
     let atFewLinks = atFewPaths .before in
     let atFewRelays2 = atFewLinks .before in
     let atFewRelays = atFewRelays2 .before in
-    let s = atFewRelays .before .before .before .before .before .before .before in (
+    let s = atFewRelays .before .before .before .before .before .before .before .before in (
       s .pre .0,
       route-arrays 128 384 (priorStart + 258) (s .args .n) (s .pre .1) (s .pre .2) (omega (arith, s .pre .1))
           (atFewRelays .few-relay-copies .ensures) (atFewRelays2 .few-relay-copies2 .ensures) (atFewLinks .few-link-zeros .ensures)
