@@ -136,13 +136,33 @@ counts-few {n} {lows} {highs} {states} {counts} k ok within at j h touch =
           weight-few n lows highs states ok (suc k) y f later,
         ))
 
--- All relays in service wait.
-pub all-started : {n start : ℕ} {lows highs states first nexts counts counts′ bits bits′ relays places forests : List ℕ}
+-- All relays in service wait, and the list of relays begins with the first.
+pub all-started : {n start : ℕ} {lows highs states first nexts counts counts′ bits bits′ relays relays′ places forests : List ℕ}
     → Startable n start lows highs states first nexts counts bits relays places forests
-    → length counts′ ≡ length counts → StartCounts n states counts′ → Buckets counts′ bits′
-    → Started n lows highs states first nexts counts′ bits′ relays places forests
-all-started can long waiting sorted =
-    record { lists = can .lists; countRoom = omega (arith, can .countRoom); startCounts = waiting; sorted = sorted }
+    → length counts′ ≡ length counts → StartCounts n states counts′ → Buckets counts′ bits′ → length relays′ ≡ length relays
+    → Started n lows highs states first nexts counts′ bits′ relays′ places forests
+all-started can long waiting sorted kept =
+    let lists = can .lists in
+    record {
+      lists =
+          record {
+            scannable =
+                record {
+                  accepted = lists .scannable .accepted;
+                  relayRoom = omega (arith, lists .scannable .relayRoom);
+                  placeRoom = lists .scannable .placeRoom;
+                  forestRoom = lists .scannable .forestRoom;
+                };
+            heads = lists .heads;
+            few = lists .few;
+            chained = lists .chained;
+            noPlaces = lists .noPlaces;
+            noForests = lists .noForests;
+          };
+      countRoom = omega (arith, can .countRoom);
+      startCounts = waiting;
+      sorted = sorted;
+    }
 
 module _ {n : ℕ} {lows highs states first nexts counts bits relays places forests : List ℕ}
     (can : Started n lows highs states first nexts counts bits relays places forests)
@@ -168,6 +188,14 @@ module _ {n : ℕ} {lows highs states first nexts counts bits relays places fore
         go (yes h) true e = let one : getD counts r 0 ≡ 1 = can .startCounts .waiting r h ∙ rw e in omega arith
         go (yes h) false e = let none : getD counts r 0 ≡ 0 = can .startCounts .waiting r h ∙ rw e in omega arith
         go (no h) b e = omega (arith, can .startCounts .rest r (omega arith))
+
+    -- Where no relay is placed yet, the list of relays begins as it did.
+    pub first-stays : {counts′ relays′ places′ forests′ : List ℕ} (k : ℕ) → k ≡ 0
+        → ScannedTo n lows highs states k counts′ relays relays′ places places′ forests forests′ → getD relays′ 0 0 ≡ getD relays 0 0
+    unfolding placedAfter overwrite
+    first-stays {relays′ = relays′} k none at =
+        let same : relays′ ≡ relays = at .relaysAt ∙ ap (λ (j : ℕ). overwrite (placed n lows highs states j) relays) none in
+        ap (λ (l : List ℕ). getD l 0 0) same
 
     pub relays-long : {counts′ relays′ places′ forests′ : List ℕ} (k : ℕ) → k ≤ turnsOf n states
         → ScannedTo n lows highs states k counts′ relays relays′ places places′ forests forests′ → length relays′ ≡ length relays

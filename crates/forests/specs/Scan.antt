@@ -3,7 +3,7 @@ use Prim.Native.Nat.{ℕ, suc, _-_, _≤_, _<_}
 use mathlib.Core.Bool.{Bool, true, false, _&&_}
 use mathlib.Core.List.{List}
 use mathlib.Core.Path.{_≡_}
-use lib.Dec.{leb}
+use lib.Dec.{ltb, leb}
 use lib.ListN.{length, getD, set}
 use Rattle.definitions.specs.Outcome.{pick}
 use Rattle.definitions.specs.Lists.{overwrite, has, position}
@@ -132,6 +132,10 @@ pub record Started (n : ℕ) (lows highs states first nexts counts bits relays p
   pub countRoom : length first ≤ length counts
   pub startCounts : StartCounts n states counts
   pub sorted : Buckets counts bits
+
+-- The list of relays before the first is placed: it begins with x, if any is.
+unfoldable pub begunWith : (turns x : ℕ) (relays : List ℕ) → List ℕ
+begunWith turns x relays = pick (ltb 0 turns) (set relays 0 x) relays
 
 -- What the scan does.
 pub record Scanned (n : ℕ) (lows highs states relays relays′ places places′ forests forests′ : List ℕ) : Type 0 where

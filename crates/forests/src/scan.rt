@@ -24,7 +24,7 @@ ghost use Rattle.definitions.specs.Network.{Accepted};
 ghost use Rattle.definitions.specs.Order.{orderOf, placesOf};
 ghost use Rattle.definitions.specs.Forests.{forestsOf};
 ghost use Rattle.forests.specs.Buckets.{columnWords, mostColumns, NoBits, Leads};
-ghost use Rattle.forests.specs.Scan.{ChainArrays, Prepared, Startable, Scannable, isSmall, Scanned};
+ghost use Rattle.forests.specs.Scan.{begunWith, ChainArrays, Prepared, Startable, Scannable, isSmall, Scanned};
 
 // The place of a relay, from the list of places.
 pub fn place_of(places: &[u16], r: Relay) -> Place
@@ -45,6 +45,16 @@ fn put(x: Relay, v: Place, relays: &mut [u16], places: &mut [u16])
     let r = x.0 as usize;
     relays[at] = x.0;
     places[r] = v.0;
+}
+
+// The list of relays begins with x, if any relay is to be placed.
+fn begin(turns: u16, x: Relay, relays: &mut [u16])
+    requires { ⌜ turns ≤ length (now relays) ⌝ }
+    ensures { λ _. ⌜ now (relays .exit) ≡ begunWith turns (x .0) (now (relays .entry)) ⌝ }
+{
+    if 0 < turns {
+        relays[0] = x.0;
+    }
 }
 
 // The relay that gets place v: the first is given, and then it is the one that leads.
@@ -79,12 +89,13 @@ fn place_all(
         (now (relays .exit)) (now (places .entry)) (now (places .exit)) (now (forests .entry)) (now (forests .exit)) ⌝ }
 {
     let turns = start_counts(n, states, counts, bits);
+    begin(turns, start, relays);
     let columns = columns_of(n);
     let mut v = 0;
     let mut most = 1;
     while v < turns {
         v += 1;
-        let x = next_relay(Place(v), start, columns, most, bits);
+        let x = next_relay(Place(v), Relay(relays[0]), columns, most, bits);
         put(x, Place(v), relays, places);
         most = walk(x, lows, highs, first, nexts, counts, bits, forests) + 1;
     }

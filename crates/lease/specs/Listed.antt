@@ -44,13 +44,13 @@ line-read input wish behind e =
     e ∙ ap (λ (values : List ℕ). reads values behind) (keep-number wish (read-line keepForm input 0 wish behind keep-line (omega arith) e .0))
 
 pub keep-asked : (input wish : List ℕ) (behind : ℕ) (network : Network) → scanForm input keepForm 0 ≡ reads wish behind
-    → readNetwork (drop behind input) 3000 3000 ≡ done network → KeepAsked input (getD wish 0 0) network
+    → readNetwork (drop behind input) 3000 3000 1000 ≡ done network → KeepAsked input (getD wish 0 0) network
 keep-asked input wish behind network e read =
     record {
       behind = behind;
       line = line-read input wish behind e;
       read = read;
-      accepted = written-read (drop behind input) 3000 3000 network read .1;
+      accepted = written-read (drop behind input) 3000 3000 1000 network read .1;
     }
 
 -- The list of a network cut to k.
@@ -60,7 +60,8 @@ leaseOf k network =
       k = k;
       lows = network .lows;
       highs = network .highs;
-      marks = marksOf (network .relays) (network .lows) (network .highs) k;
+      states = network .states;
+      marks = marksOf (network .relays) (network .lows) (network .highs) (network .states) k;
     }
 
 -- A list that is printed: what was asked, and that Cut answered.
@@ -76,12 +77,12 @@ pub listed-links : (input : List ℕ) (lease : Lease) → leased input ≡ done 
 unfolding leased leaseFor
 listed-links input lease e =
     let (wish, p, wished, after) = on-scan-done 1 (scanForm input keepForm 0) _ lease e in
-    let (network, read, last) = done-then (readNetwork (drop p input) 3000 3000) _ lease after in
+    let (network, read, last) = done-then (readNetwork (drop p input) 3000 3000 1000) _ lease after in
     let n = network .relays in
     let k = getD wish 0 0 in
     let asked = keep-asked input wish p network wished read in
-    let (kept, cut, given) = done-then (cutAnswer n (network .lows) (network .highs) k (room 3000)) _ lease last in
-    let passed = cut-passed n (network .lows) (network .highs) k (room 3000) kept (asked .accepted) cut in
+    let (kept, cut, given) = done-then (cutAnswer n (network .lows) (network .highs) (network .states) k (room 3000)) _ lease last in
+    let passed = cut-passed n (network .lows) (network .highs) (network .states) k (room 3000) kept (asked .accepted) cut in
     record {
       k = k;
       network = network;

@@ -22,12 +22,12 @@ use Rattle.lease.specs.Listed.{leaseOf, line-read, keep-asked, listed-li
 use Rattle.lease.specs.KeptLinks.{lease-holds}
 
 -- The refusals that are printed.
-lease-printable : (k : ℕ) (network : Network) → Accepted (network .relays) (network .lows) (network .highs)
+lease-printable : (k : ℕ) (network : Network) → Accepted (network .relays) (network .lows) (network .highs) (network .states)
     → RefusedAs Printable (leaseFor k network)
 unfolding leaseFor
 lease-printable k network good =
-    then-as Printable (cutAnswer (network .relays) (network .lows) (network .highs) k (room 3000)) _
-    (cut-printable (network .relays) (network .lows) (network .highs) k good) (λ _ _. tt)
+    then-as Printable (cutAnswer (network .relays) (network .lows) (network .highs) (network .states) k (room 3000)) _
+    (cut-printable (network .relays) (network .lows) (network .highs) (network .states) k good) (λ _ _. tt)
 
 pub leased-printable : (input : List ℕ) → RefusedAs Printable (leased input)
 unfolding leased span keepForm
@@ -43,7 +43,7 @@ module _ (input : List ℕ) (number place : ℕ) where
   cut-first k network asked e = go (refused-then cut _ number place e)
     where
       cut : Outcome (List ℕ)
-      cut = cutAnswer (network .relays) (network .lows) (network .highs) k (room 3000)
+      cut = cutAnswer (network .relays) (network .lows) (network .highs) (network .states) k (room 3000)
 
       go : (cut ≡ refused number place)
           ⊎ ((first : List ℕ) × (cut ≡ done first) × (done (leaseOf k network) ≡ refused number place)) → KeepRefusal input number place
@@ -54,11 +54,11 @@ module _ (input : List ℕ) (number place : ℕ) where
           absurd (omega arith)
 
   read-first : (wish : List ℕ) (p : ℕ) → scanForm input keepForm 0 ≡ reads wish p
-      → andThen (readNetwork (drop p input) 3000 3000) (leaseFor (getD wish 0 0)) ≡ refused number place → KeepRefusal input number place
-  read-first wish p wished e = go (refused-then (readNetwork (drop p input) 3000 3000) _ number place e)
+      → andThen (readNetwork (drop p input) 3000 3000 1000) (leaseFor (getD wish 0 0)) ≡ refused number place → KeepRefusal input number place
+  read-first wish p wished e = go (refused-then (readNetwork (drop p input) 3000 3000 1000) _ number place e)
     where
-      go : (readNetwork (drop p input) 3000 3000 ≡ refused number place)
-          ⊎ ((network : Network) × (readNetwork (drop p input) 3000 3000 ≡ done network)
+      go : (readNetwork (drop p input) 3000 3000 1000 ≡ refused number place)
+          ⊎ ((network : Network) × (readNetwork (drop p input) 3000 3000 1000 ≡ done network)
           × (leaseFor (getD wish 0 0) network ≡ refused number place))
           → KeepRefusal input number place
       go (inl read) = inText (line-read input wish p wished) read
@@ -70,7 +70,7 @@ module _ (input : List ℕ) (number place : ℕ) where
     where
       go : ((scanForm input keepForm 0 ≡ departs place) × (number ≡ 1))
           ⊎ ((wish : List ℕ) × (p : ℕ) × (scanForm input keepForm 0 ≡ reads wish p)
-          × (andThen (readNetwork (drop p input) 3000 3000) (leaseFor (getD wish 0 0)) ≡ refused number place))
+          × (andThen (readNetwork (drop p input) 3000 3000 1000) (leaseFor (getD wish 0 0)) ≡ refused number place))
           → KeepRefusal input number place
       go (inl departed) = rw (departed .1) (inLine (departed .0))
       go (inr found) = read-first (found .0) (found .1) (found .2) (found .3)
@@ -97,7 +97,7 @@ lease-promise input = go (leased input) refl
           network = network;
           asked = found .asked;
           holds =
-              subst (LeaseHolds (network .relays) (network .lows) (network .highs) (found .k))
+              subst (LeaseHolds (network .relays) (network .lows) (network .highs) (network .states) (found .k))
               (sym (ap (printed leaseText) e ∙ ap leaseText (found .leaseIs)))
-              (lease-holds (network .relays) (network .lows) (network .highs) (found .k) (found .asked .accepted) (found .some));
+              (lease-holds (network .relays) (network .lows) (network .highs) (network .states) (found .k) (found .asked .accepted) (found .some));
         })

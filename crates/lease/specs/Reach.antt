@@ -14,7 +14,7 @@ leased-reach : (n : ℕ) (input : List ℕ) → inputRoom ≤ n → leased (take
 unfolding leased span keepForm inputRoom
 leased-reach n input h = front-reach keepForm (λ wish. leaseFor (getD wish 0 0)) n input (omega arith)
 
--- The line in front has at most 12 bytes, and behind it the reader needs at most 45,040.
+-- The line in front has at most 12 bytes, and behind it the reader needs at most 54,934.
 pub keep-reach : (n : ℕ) (input : List ℕ) → inputRoom ≤ n → keepText (take n input) ≡ keepText input
 unfolding keepText
 keep-reach n input h = rw (leased-reach n input h)

@@ -14,6 +14,7 @@ use stages::keep_network;
 use text::scan::NumberScan;
 
 mod front;
+mod idle;
 mod print;
 pub mod rooms;
 mod stages;

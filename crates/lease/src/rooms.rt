@@ -4,7 +4,7 @@ ghost use Rattle.definitions.specs.Lease.{leaseRoom};
 ghost use Rattle.definitions.specs.Plan.{room};
 
 // The bytes for everything that is printed.
-pub const OUTPUT: usize = 66050;
+pub const OUTPUT: usize = 66067;
 
 pub fn output() -> [u8; OUTPUT]
     ensures { λ r. ⌜ r ≡ room leaseRoom ⌝ }

@@ -16,16 +16,24 @@ use text::ReadAnswer;
 use text::read;
 
 // Cut, and the list with its marks.
-fn keep_cut(output: &mut [u8], n: u16, lows: &[u16], highs: &[u16], k: u16) -> usize
-    requires { ⌜ Accepted n (now lows) (now highs) ⌝ }
-    requires { ⌜ length (printed leaseText (leaseFor k (networkOf n (now lows) (now highs)))) ≤ length (now output) ⌝ }
-    ensures { λ r. ⌜ Put (now (output .entry)) 0 (printed leaseText (leaseFor k (networkOf n (now (lows .entry)) (now (highs .entry)))))
+fn keep_cut(output: &mut [u8], n: u16, lows: &[u16], highs: &[u16], states: &[u16], k: u16) -> usize
+    requires { ⌜ Accepted n (now lows) (now highs) (now states) ⌝ }
+    requires { ⌜ length (printed leaseText (leaseFor k (networkOf n (now lows) (now highs) (now states)))) ≤ length (now output) ⌝ }
+    ensures { λ r. ⌜ Put (now (output .entry)) 0 (printed leaseText (leaseFor k (networkOf n (now (lows .entry)) (now (highs .entry)) (now (states .entry)))))
         (now (output .exit)) r ⌝ }
 {
     let mut marks = rooms::links();
-    match cut(n, lows, highs, k, &mut marks) {
+    match cut(n, lows, highs, states, k, &mut marks) {
         CutAnswer::Refused(refusal) => put_refusal(output, refusal),
-        CutAnswer::Kept(kept) => put_list(output, k as usize, lows, highs, &marks, kept as usize),
+        CutAnswer::Kept(kept) => put_list(
+            output,
+            k as usize,
+            lows,
+            highs,
+            states,
+            &marks,
+            kept as usize,
+        ),
     }
 }
 
@@ -36,11 +44,20 @@ pub(crate) fn keep_network(output: &mut [u8], text: &[u8], k: u16) -> usize
 {
     let mut lows = rooms::links();
     let mut highs = rooms::links();
-    match read(text, &mut lows, &mut highs) {
+    let mut states = rooms::states();
+    match read(text, &mut lows, &mut highs, &mut states) {
         ReadAnswer::Refused(refusal) => put_refusal(output, refusal),
         ReadAnswer::Table(n, m) => {
             let size = m as usize;
-            keep_cut(output, n, &lows[..size], &highs[..size], k)
+            let relays = n as usize;
+            keep_cut(
+                output,
+                n,
+                &lows[..size],
+                &highs[..size],
+                &states[..relays],
+                k,
+            )
         }
     }
 }

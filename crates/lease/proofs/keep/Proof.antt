@@ -26,7 +26,7 @@ put-refusal-requires c κs =
     let atKeepLine = c .before .before .before .before in
     let start = atKeepLine .before .before in
     let a = start .args in
-    let bound : length (printed leaseText (leased (now (a .input)))) ≤ 66050 = keep-length (now (a .input)) in
+    let bound : length (printed leaseText (leased (now (a .input)))) ≤ 66067 = keep-length (now (a .input)) in
     let line = fits-as _ _ _ _
     (line-departed (now (a .input)) _ (sym (atKeepLine .keep-line .ensures) ∙ ap numberGives (c .before .before .p .given .1))) bound in
     omega arith
@@ -58,7 +58,7 @@ keep-network-requires c κs =
     let atKeepLine = atK .before .before in
     let start = atKeepLine .before .before in
     let a = start .args in
-    let bound : length (printed leaseText (leased (now (a .input)))) ≤ 66050 = keep-length (now (a .input)) in
+    let bound : length (printed leaseText (leased (now (a .input)))) ≤ 66067 = keep-length (now (a .input)) in
     let lines = fits-as _ _ _ _
     (line-taken (now (a .input)) _ _ (sym (atKeepLine .keep-line .ensures) ∙ ap numberGives (atK .k .given .1)) .1) bound in
     omega arith

@@ -27,10 +27,10 @@ put-refusal-requires c κs =
     let atRefusal = c .before .before in
     let atCut = atRefusal .before .before .before in
     let atLinks = atCut .before .before in
-    let start = atLinks .before .before .before .before in
+    let start = atLinks .before .before .before .before .before in
     let a = start .args in
-    fits-as _ _ _ _ (cut-refused (a .n) (now (a .lows)) (now (a .highs)) (a .k) (atRefusal .refusal .given .0 .0)
-    (cut-rooms (a .n) (now (a .lows)) (now (a .highs)) (a .k) _ (atLinks .links .ensures) _
+    fits-as _ _ _ _ (cut-refused (a .n) (now (a .lows)) (now (a .highs)) (now (a .states)) (a .k) (atRefusal .refusal .given .0 .0)
+    (cut-rooms (a .n) (now (a .lows)) (now (a .highs)) (now (a .states)) (a .k) _ (atLinks .links .ensures) _
     (sym (atCut .cut .ensures .0) ∙ ap cutOutcome (atRefusal .refusal .given .1)))) (start .pre .1)
 
 enum-known-kept : tie.Need-enum-known-kept
@@ -47,11 +47,11 @@ put-list-requires c κs =
     let atKept = c .before .before .before in
     let atCut = atKept .before .before .before in
     let atLinks = atCut .before .before in
-    let start = atLinks .before .before .before .before in
+    let start = atLinks .before .before .before .before .before in
     let a = start .args in
-    let marked = cut-marked (a .n) (now (a .lows)) (now (a .highs)) (a .k) _ _ _ (start .pre .0) (atLinks .links .ensures)
+    let marked = cut-marked (a .n) (now (a .lows)) (now (a .highs)) (now (a .states)) (a .k) _ _ _ (start .pre .0) (atLinks .links .ensures)
     (sym (atCut .cut .ensures .0) ∙ ap cutOutcome (atKept .kept .given .1)) (atCut .cut .ensures .1) in
-    ((marked .inHighs, marked .inMarks, marked .few), rw (marked .lines) at (start .pre .1))
+    ((marked .inHighs, marked .inMarks, marked .inStates), (marked .few, rw (marked .lines) at (start .pre .1)))
 
 same-length : tie.Need-same-length
 same-length c = search needs
@@ -62,10 +62,10 @@ returns c =
     let atRefusal = c .before .before .before .before .before in
     let atCut = atRefusal .before .before .before in
     let atLinks = atCut .before .before in
-    let start = atLinks .before .before .before .before in
+    let start = atLinks .before .before .before .before .before in
     let a = start .args in
-    put-as _ _ _ _ _ _ (cut-refused (a .n) (now (a .lows)) (now (a .highs)) (a .k) (atRefusal .refusal .given .0 .0)
-    (cut-rooms (a .n) (now (a .lows)) (now (a .highs)) (a .k) _ (atLinks .links .ensures) _
+    put-as _ _ _ _ _ _ (cut-refused (a .n) (now (a .lows)) (now (a .highs)) (now (a .states)) (a .k) (atRefusal .refusal .given .0 .0)
+    (cut-rooms (a .n) (now (a .lows)) (now (a .highs)) (now (a .states)) (a .k) _ (atLinks .links .ensures) _
     (sym (atCut .cut .ensures .0) ∙ ap cutOutcome (atRefusal .refusal .given .1)))) (c .before .before .put-refusal .ensures)
 
 same-length-2 : tie.Need-same-length-2
@@ -76,9 +76,9 @@ returns-2 c =
     let atKept = c .before .before .before .before .before .before in
     let atCut = atKept .before .before .before in
     let atLinks = atCut .before .before in
-    let start = atLinks .before .before .before .before in
+    let start = atLinks .before .before .before .before .before in
     let a = start .args in
-    let marked = cut-marked (a .n) (now (a .lows)) (now (a .highs)) (a .k) _ _ _ (start .pre .0) (atLinks .links .ensures)
+    let marked = cut-marked (a .n) (now (a .lows)) (now (a .highs)) (now (a .states)) (a .k) _ _ _ (start .pre .0) (atLinks .links .ensures)
     (sym (atCut .cut .ensures .0) ∙ ap cutOutcome (atKept .kept .given .1)) (atCut .cut .ensures .1) in
     rw (marked .lines) (c .before .before .put-list .ensures)
 
