@@ -22,26 +22,38 @@ use Rattle.definitions.specs.Verify.{behindOr}
 use Rattle.lists.specs.Outcomes.{not-refused, refuse-not, then-done}
 use Rattle.lists.specs.SameOutcomes.{done-same, done-then, refused-then}
 use Rattle.lists.specs.Ranges.{below, above, inside}
-use Rattle.theory.specs.Accepted.{accepted}
+use Rattle.theory.specs.Accepted.{accepted, accepted-states}
 use Rattle.text_theory.specs.RoundTrip.{on-scan-done}
 use Rattle.sheet.specs.Planned.{cut-passed}
 use Rattle.sheet_check.specs.Summary.{summary, summaryOf}
-use Rattle.sheet_check.specs.Walks.{LinesAt, RoutesWalked}
+use Rattle.sheet_check.specs.Walks.{EndsKnown, LinesAt, RoutesWalked}
 use Rattle.sheet_check.specs.Answers.{afterCheck}
 
+-- The ends of an accepted network's links have a state.
+pub ends-known : (n : ℕ) (lows highs states : List ℕ) → Accepted n lows highs states → EndsKnown lows highs states
+ends-known n lows highs states table =
+    let proper = accepted n lows highs states table in
+    let known = accepted-states n lows highs states table in
+    record {
+      even = proper .even;
+      low = λ i less. omega (arith, proper .ordered i less, proper .below i less, known .long);
+      high = λ i less. omega (arith, proper .below i less, known .long);
+    }
+
 -- Cut with a list that is long enough.
-pub cut-answers : (n : ℕ) (lows highs : List ℕ) (k : ℕ) (marks : List ℕ) → Accepted n lows highs → 1 ≤ k → k ≤ 32 → marks ≡ room 3000
-    → cutAnswer n lows highs k marks ≡ done (count (eqb 1) (marksOf n lows highs k) ∷ [])
+pub cut-answers : (n : ℕ) (lows highs states : List ℕ) (k : ℕ) (marks : List ℕ) → Accepted n lows highs states → 1 ≤ k → k ≤ 32
+    → marks ≡ room 3000
+    → cutAnswer n lows highs states k marks ≡ done (count (eqb 1) (marksOf n lows highs states k) ∷ [])
 unfolding cutAnswer room
-cut-answers n lows highs k marks table some few lent =
-    let last = done (total (marksOf n lows highs k) ∷ []) in
+cut-answers n lows highs states k marks table some few lent =
+    let last = done (total (marksOf n lows highs states k) ∷ []) in
     let long : length marks ≡ 3000 = ap length lent ∙ length-replicate {A = ℕ} 3000 0 in
-    let short : length lows ≤ 3000 = accepted n lows highs table .short in
-    let answered : cutAnswer n lows highs k marks ≡ last =
-    then-done (tableCheck n lows highs) _ [] table
+    let short : length lows ≤ 3000 = accepted n lows highs states table .short in
+    let answered : cutAnswer n lows highs states k marks ≡ last =
+    then-done (tableCheck n lows highs states) _ [] table
     ∙ refuse-not (outside 1 32 k) 9 0 _ (inside 1 32 k some few)
     ∙ refuse-not (ltb (length marks) (length lows)) 12 0 last (le-ltb (length marks) (length lows) (omega (arith, long, short))) in
-    answered ∙ ap done (cut-passed n lows highs k marks (total (marksOf n lows highs k) ∷ []) table answered .counted)
+    answered ∙ ap done (cut-passed n lows highs states k marks (total (marksOf n lows highs states k) ∷ []) table answered .counted)
 
 -- An answer that is one count is that count, and is no refusal.
 pub kept-is : (x y : ℕ) → done (x ∷ []) ≡ done (y ∷ []) → x ≡ y
@@ -141,20 +153,20 @@ summed text from to k routes kept first e =
     }
 
 -- A text that departs from the form.
-pub departs-there : (n : ℕ) (lows highs text : List ℕ) (number place : ℕ) → summaryOf text ≡ refused number place
-    → refused number place ≡ afterCheck n lows highs text
+pub departs-there : (n : ℕ) (lows highs states text : List ℕ) (number place : ℕ) → summaryOf text ≡ refused number place
+    → refused number place ≡ afterCheck n lows highs states text
 unfolding summaryOf afterCheck andThen
-departs-there n lows highs text number place e =
+departs-there n lows highs states text number place e =
     go (refused-then (readSheet text) (summary (behindOr (scanForm text sheetForm 0) 0)) number place e)
   where
     go : (readSheet text ≡ refused number place)
         ⊎ ((sheet : Sheet) × (readSheet text ≡ done sheet)
         × (summary (behindOr (scanForm text sheetForm 0) 0) sheet ≡ refused number place))
-        → refused number place ≡ afterCheck n lows highs text
+        → refused number place ≡ afterCheck n lows highs states text
     go (inl there) = sym (rw there)
     go (inr found) = let never = found .2 in let z : _≡_ {A = ℕ} 0 1 = cc in absurd (omega arith)
 
-module _ (n : ℕ) (lows highs text : List ℕ) (from to k routes kept first : ℕ)
+module _ (n : ℕ) (lows highs states text : List ℕ) (from to k routes kept first : ℕ)
     (said : summaryOf text ≡ done (from ∷ to ∷ k ∷ routes ∷ kept ∷ first ∷ [])) where
   abbrev here : Summed text from to k routes kept first
   here = summed text from to k routes kept first said
@@ -163,61 +175,67 @@ module _ (n : ℕ) (lows highs text : List ℕ) (from to k routes kept first : �
   abbrev tests : Bool
   tests =
       eqb routes k
-      && (routesHold n lows highs from to (eqb from) false (here .sheet .routes) (here .sheet .overs)
-      && eqb kept (count (eqb 1) (marksOf n lows highs k)))
+      && (routesHold n lows highs states from to (eqb from) false (here .sheet .routes) (here .sheet .overs)
+      && eqb kept (count (eqb 1) (marksOf n lows highs states k)))
 
-  says : afterCheck n lows highs text ≡ refuseIf (outside 1 32 k) 15 0 (done (yesOrNo tests))
+  says : afterCheck n lows highs states text ≡ refuseIf (outside 1 32 k) 15 0 (done (yesOrNo tests))
   unfolding afterCheck sheetHolds
   says =
       then-done (readSheet text) _ (here .sheet) (here .read)
       ∙ rw (here .many, here .fromIs, here .toIs, here .kIs, here .keptIs)
 
-  refuses : outside 1 32 k ≡ true → refused 15 0 ≡ afterCheck n lows highs text
+  refuses : outside 1 32 k ≡ true → refused 15 0 ≡ afterCheck n lows highs states text
   unfolding refuseIf
   refuses e = sym (says ∙ rw e)
 
-  pub too-few : k < 1 → refused 15 0 ≡ afterCheck n lows highs text
+  pub too-few : k < 1 → refused 15 0 ≡ afterCheck n lows highs states text
   too-few h = refuses (below 1 32 k h)
 
-  pub too-many : 1 ≤ k → 32 < k → refused 15 0 ≡ afterCheck n lows highs text
+  pub too-many : 1 ≤ k → 32 < k → refused 15 0 ≡ afterCheck n lows highs states text
   too-many some h = refuses (above 1 32 k some h)
 
   module _ (some : 1 ≤ k) (few : k ≤ 32) where
-    answers : (b : Bool) → tests ≡ b → done (pick b 1 0 ∷ []) ≡ afterCheck n lows highs text
+    answers : (b : Bool) → tests ≡ b → done (pick b 1 0 ∷ []) ≡ afterCheck n lows highs states text
     unfolding yesOrNo
     answers b e = sym (says ∙ refuse-not (outside 1 32 k) 15 0 _ (inside 1 32 k some few) ∙ rw e)
 
-    pub other-count : (routes ≡ k → ⊥) → done (0 ∷ []) ≡ afterCheck n lows highs text
+    pub other-count : (routes ≡ k → ⊥) → done (0 ∷ []) ≡ afterCheck n lows highs states text
     other-count differ = answers false (rw (ne-eqb routes k differ))
 
     module _ (same : routes ≡ k) where
       -- What the second pass said is the test of the routes.
-      walked : (r : Bool) → RoutesWalked n lows highs text from to (eqb from) routes first r
-          → routesHold n lows highs from to (eqb from) false (here .sheet .routes) (here .sheet .overs) ≡ r
+      walked : (r : Bool) → RoutesWalked n lows highs states text from to (eqb from) routes first r
+          → routesHold n lows highs states from to (eqb from) false (here .sheet .routes) (here .sheet .overs) ≡ r
       walked r all = sym (all (here .sheet .routes) (here .sheet .overs) (here .many) (here .lines))
 
-      pub routes-fail : (r : Bool) → RoutesWalked n lows highs text from to (eqb from) routes first r → r ≡ false
-          → done (0 ∷ []) ≡ afterCheck n lows highs text
+      pub routes-fail : (r : Bool) → RoutesWalked n lows highs states text from to (eqb from) routes first r → r ≡ false
+          → done (0 ∷ []) ≡ afterCheck n lows highs states text
       routes-fail r all fails = answers false (rw (eq-eqb routes k same, walked r all, fails))
 
-      module _ (r : Bool) (all : RoutesWalked n lows highs text from to (eqb from) routes first r) (holds : r ≡ true)
-          (found : ℕ) (counted : found ≡ count (eqb 1) (marksOf n lows highs k)) where
-        pub other-kept : (found ≡ kept → ⊥) → done (0 ∷ []) ≡ afterCheck n lows highs text
+      module _ (r : Bool) (all : RoutesWalked n lows highs states text from to (eqb from) routes first r) (holds : r ≡ true)
+          (found : ℕ) (counted : found ≡ count (eqb 1) (marksOf n lows highs states k)) where
+        pub other-kept : (found ≡ kept → ⊥) → done (0 ∷ []) ≡ afterCheck n lows highs states text
         other-kept differ =
             answers false
-            (rw (eq-eqb routes k same, walked r all, holds, ne-eqb kept (count (eqb 1) (marksOf n lows highs k)) (λ e. differ (counted ∙ sym e))))
+            (rw (
+              eq-eqb routes k same,
+              walked r all,
+              holds,
+              ne-eqb kept (count (eqb 1) (marksOf n lows highs states k)) (λ e. differ (counted ∙ sym e)),
+            ))
 
-        pub all-hold : found ≡ kept → done (1 ∷ []) ≡ afterCheck n lows highs text
+        pub all-hold : found ≡ kept → done (1 ∷ []) ≡ afterCheck n lows highs states text
         all-hold e =
             answers true
-            (rw (eq-eqb routes k same, walked r all, holds, eq-eqb kept (count (eqb 1) (marksOf n lows highs k)) (sym e ∙ counted)))
+            (rw (eq-eqb routes k same, walked r all, holds, eq-eqb kept (count (eqb 1) (marksOf n lows highs states k)) (sym e ∙ counted)))
 
 -- The table check comes first.
-module _ (n : ℕ) (lows highs text : List ℕ) where
-  pub table-refused : (number place : ℕ) → tableCheck n lows highs ≡ refused number place → refused number place ≡ sheetAnswer n lows highs text
+module _ (n : ℕ) (lows highs states text : List ℕ) where
+  pub table-refused : (number place : ℕ) → tableCheck n lows highs states ≡ refused number place
+      → refused number place ≡ sheetAnswer n lows highs states text
   unfolding sheetAnswer andThen
   table-refused number place e = sym (rw e)
 
-  pub table-passed : Accepted n lows highs → afterCheck n lows highs text ≡ sheetAnswer n lows highs text
+  pub table-passed : Accepted n lows highs states → afterCheck n lows highs states text ≡ sheetAnswer n lows highs states text
   unfolding sheetAnswer afterCheck andThen
   table-passed e = sym (rw e)

@@ -85,10 +85,10 @@ unfolding printed verdictText
 fails-line put = record { put = put; fits = omega arith }
 
 -- A table that was read goes to the sheet.
-pub table-then : (network text : List ℕ) (n m : ℕ) (lows highs : List ℕ) → ReadTable network n m lows highs
-    → readBackFrom network text ≡ sheetAnswer n (take m lows) (take m highs) text
+pub table-then : (network text : List ℕ) (n m : ℕ) (lows highs states : List ℕ) → ReadTable network n m lows highs states
+    → readBackFrom network text ≡ sheetAnswer n (take m lows) (take m highs) (take n states) text
 unfolding readBackFrom
-table-then network text n m lows highs table = then-done (readNetwork network 3000 3000) _ _ (table .read)
+table-then network text n m lows highs states table = then-done (readNetwork network 3000 3000 1000) _ _ (table .read)
 
 -- The two parts of the input.
 pub whole-line : (input before after : List ℕ) (next size : ℕ) → size ≡ networkSize input → 52 ≤ length before

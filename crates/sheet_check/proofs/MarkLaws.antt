@@ -1,16 +1,16 @@
 -- The relays met as marks: none yet, one more, and one step of a walk way by way through its code. Assumes nothing.
 use Prim.Native.Nat.{ℕ, _/_, _%_, _≤_, _<_}
-use mathlib.Core.Bool.{Bool, true, false, _&&_, _||_, not, false≢true}
+use mathlib.Core.Bool.{Bool, true, false, _&&_, _||_, not, false≢true, true≢false}
 use mathlib.Core.List.{List}
 use mathlib.Core.Path.{_≡_, refl, sym, _∙_, ap, fun-ext}
 use native.Mathlib.Omega.{arith}
 use lib.Dec.{eqb, ltb}
 use lib.ListN.{length, replicate, length-replicate, List·getD-eq-default}
 use borrow.Author.Tests.{ltb-true, ltb-false, lt-ltb, le-ltb, eq-eqb, ne-eqb}
-use Rattle.definitions.specs.Network.{joins}
+use Rattle.definitions.specs.Network.{joins, linkServes}
 use Rattle.definitions.specs.SheetTest.{alsoMet, stepHolds, metAt}
 use Rattle.lists.specs.Bitmap.{marked, mark, marked-mark, marked-none, no-bit, length-mark}
-use Rattle.lists.specs.Tests.{eqb-sym}
+use Rattle.lists.specs.Tests.{eqb-sym, and-both}
 use Rattle.sheet_check.specs.Walks.{MarkRoom, Stepped}
 
 -- Marking a relay is meeting it.
@@ -38,41 +38,59 @@ from-met marks from e small =
     mark-meets marks from (ap length e ∙ length-replicate {A = ℕ} 1024 0) small
     ∙ fun-ext λ x. ap (λ (l : List ℕ). marked l x || eqb x from) e ∙ ap (λ (b : Bool). b || eqb x from) (none-marked 1024 x) ∙ eqb-sym x from
 
-module _ (n : ℕ) (lows highs : List ℕ) (to a b l : ℕ) (marks : List ℕ) (room : MarkRoom marks) where
+-- A link that does not join the two fails the step, whatever its ends are.
+not-both : (p q r : Bool) → (p && q) ≡ false → (p && (q && r)) ≡ false
+not-both true true r e = absurd (true≢false e)
+not-both true false r e = refl
+not-both false q r e = refl
+
+module _ (n : ℕ) (lows highs states : List ℕ) (to a b l : ℕ) (marks : List ℕ) (room : MarkRoom marks) where
   -- A step that does not hold leaves the marks.
-  stops : stepHolds n lows highs to (marked marks) a b l ≡ false → Stepped n lows highs to a b l marks marks false
+  stops : stepHolds n lows highs states to (marked marks) a b l ≡ false → Stepped n lows highs states to a b l marks marks false
   stops e = record { holds = sym e; met = λ no. absurd (false≢true no); room = room }
 
-  pub not-joined : (ltb l (length lows) && joins lows highs a b l) ≡ false → Stepped n lows highs to a b l marks marks false
+  pub not-joined : (ltb l (length lows) && joins lows highs a b l) ≡ false → Stepped n lows highs states to a b l marks marks false
   unfolding stepHolds
-  not-joined e = stops (rw e)
+  not-joined e = stops (rw (not-both (ltb l (length lows)) (joins lows highs a b l) (linkServes lows highs states l) e))
 
   module _ (joined : (ltb l (length lows) && joins lows highs a b l) ≡ true) where
-    pub from-end : a ≡ to → Stepped n lows highs to a b l marks marks false
+    both : (ltb l (length lows) ≡ true) × (joins lows highs a b l ≡ true)
+    both = and-both (ltb l (length lows)) (joins lows highs a b l) joined
+
+    -- The link is one of the table.
+    pub link-there : l < length lows
+    link-there = ltb-true l (length lows) (both .0)
+
+    pub not-serving : linkServes lows highs states l ≡ false → Stepped n lows highs states to a b l marks marks false
     unfolding stepHolds
-    from-end same = stops (rw (joined, eq-eqb a to same))
+    not-serving e = stops (rw (both .0, both .1, e))
 
-    module _ (inner : a ≡ to → ⊥) where
-      pub not-below : n ≤ b → Stepped n lows highs to a b l marks marks false
+    module _ (serving : linkServes lows highs states l ≡ true) where
+      pub from-end : a ≡ to → Stepped n lows highs states to a b l marks marks false
       unfolding stepHolds
-      not-below h = stops (rw (joined, ne-eqb a to inner, le-ltb b n h))
+      from-end same = stops (rw (both .0, both .1, serving, eq-eqb a to same))
 
-      module _ (below : b < n) where
-        pub to-end : b ≡ to → Stepped n lows highs to a b l marks marks true
-        unfolding stepHolds metAt
-        to-end same =
-            record {
-              holds = sym (rw (joined, ne-eqb a to inner, lt-ltb b n below, eq-eqb b to same));
-              met = λ _. sym (rw (eq-eqb b to same));
-              room = room;
-            }
+      module _ (inner : a ≡ to → ⊥) where
+        pub not-below : n ≤ b → Stepped n lows highs states to a b l marks marks false
+        unfolding stepHolds
+        not-below h = stops (rw (both .0, both .1, serving, ne-eqb a to inner, le-ltb b n h))
 
-        pub to-relay : (b ≡ to → ⊥) → b < 65536 → (r : Bool) (after : List ℕ) → r ≡ not (marked marks b) → after ≡ mark marks b
-            → Stepped n lows highs to a b l marks after r
-        unfolding stepHolds metAt
-        to-relay other small r after fresh e =
-            record {
-              holds = fresh ∙ sym (rw (joined, ne-eqb a to inner, lt-ltb b n below, ne-eqb b to other));
-              met = λ _. ap marked e ∙ mark-meets marks b room small ∙ sym (rw (ne-eqb b to other));
-              room = ap length e ∙ mark-room marks b room;
-            }
+        module _ (below : b < n) where
+          pub to-end : b ≡ to → Stepped n lows highs states to a b l marks marks true
+          unfolding stepHolds metAt
+          to-end same =
+              record {
+                holds = sym (rw (both .0, both .1, serving, ne-eqb a to inner, lt-ltb b n below, eq-eqb b to same));
+                met = λ _. sym (rw (eq-eqb b to same));
+                room = room;
+              }
+
+          pub to-relay : (b ≡ to → ⊥) → b < 65536 → (r : Bool) (after : List ℕ) → r ≡ not (marked marks b) → after ≡ mark marks b
+              → Stepped n lows highs states to a b l marks after r
+          unfolding stepHolds metAt
+          to-relay other small r after fresh e =
+              record {
+                holds = fresh ∙ sym (rw (both .0, both .1, serving, ne-eqb a to inner, lt-ltb b n below, ne-eqb b to other));
+                met = λ _. ap marked e ∙ mark-meets marks b room small ∙ sym (rw (ne-eqb b to other));
+                room = ap length e ∙ mark-room marks b room;
+              }

@@ -19,15 +19,15 @@ use Rattle.sheet_check.proofs.FormLaws.{firstRelay}
 use Rattle.sheet_check.proofs.NumberLaws.{route-numbers, route-reads-first, over-numbers, over-reads-first}
 use Rattle.sheet_check.proofs.WalkLaws.{walk-failed}
 
-module _ (n : ℕ) (lows highs text : List ℕ) (from to p q : ℕ) (marks : List ℕ) where
+module _ (n : ℕ) (lows highs states text : List ℕ) (from to p q : ℕ) (marks : List ℕ) where
   -- No route stands there.
   pub no-route : (u : ℕ) → scanForm text firstRelay p ≡ departs u → MarkRoom marks
-      → RouteWalked n lows highs text from to p q marks marks 0
+      → RouteWalked n lows highs states text from to p q marks marks 0
   no-route u first room =
       record { walked = λ route over s t line links. absurd (route-reads-first text p u route s first line); room = room }
 
   pub no-links : (u : ℕ) → scanWord text (bytes "(over") q ≡ departs u → MarkRoom marks
-      → RouteWalked n lows highs text from to p q marks marks 0
+      → RouteWalked n lows highs states text from to p q marks marks 0
   no-links u first room =
       record { walked = λ route over s t line links. absurd (over-reads-first text q u over t first links); room = room }
 
@@ -35,16 +35,16 @@ module _ (n : ℕ) (lows highs text : List ℕ) (from to p q : ℕ) (marks : Lis
       (word : scanWord text (bytes "(over") q ≡ reads [] t) where
     -- The walk along the route is the one from these offsets on.
     route-is : (route over : List ℕ) (u v : ℕ) → scanNumbers text routeFront p ≡ reads route u → scanNumbers text overFront q ≡ reads over v
-        → walkRoute n lows highs from to (marked marks) route over
-        ≡ pick (eqb first from) (walkFrom n lows highs text to (marked marks) 0 first s t) (record { steps = 0; met = marked marks })
+        → walkRoute n lows highs states from to (marked marks) route over
+        ≡ pick (eqb first from) (walkFrom n lows highs states text to (marked marks) 0 first s t) (record { steps = 0; met = marked marks })
     unfolding walkRoute walkFrom
     route-is route over u v line links =
         let all : suc (length text) - 0 ≡ suc (length text) = omega arith in
         rw (route-numbers text p first s route u relay line, over-numbers text q t over v word links, all)
 
     pub starts-here : first ≡ from → (steps : ℕ) (after : List ℕ)
-        → Walked (walkFrom n lows highs text to (marked marks) 0 first s t) steps after
-        → RouteWalked n lows highs text from to p q marks after steps
+        → Walked (walkFrom n lows highs states text to (marked marks) 0 first s t) steps after
+        → RouteWalked n lows highs states text from to p q marks after steps
     starts-here same steps after walked =
         record {
           walked = λ route over u v line links.
@@ -53,7 +53,7 @@ module _ (n : ℕ) (lows highs text : List ℕ) (from to p q : ℕ) (marks : Lis
           room = walked .room;
         }
 
-    pub starts-elsewhere : (first ≡ from → ⊥) → MarkRoom marks → RouteWalked n lows highs text from to p q marks marks 0
+    pub starts-elsewhere : (first ≡ from → ⊥) → MarkRoom marks → RouteWalked n lows highs states text from to p q marks marks 0
     starts-elsewhere differ room =
         record {
           walked = λ route over u v line links.
@@ -62,17 +62,17 @@ module _ (n : ℕ) (lows highs text : List ℕ) (from to p q : ℕ) (marks : Lis
         }
 
 -- So many routes are left from offset p on, and what is said of them is said of all.
-pub record RoutesLeft (n : ℕ) (lows highs text : List ℕ) (from to : ℕ) (met : ℕ → Bool) (direct : Bool) (p count : ℕ) (whole : Bool) : Type 0 where
+pub record RoutesLeft (n : ℕ) (lows highs states text : List ℕ) (from to : ℕ) (met : ℕ → Bool) (direct : Bool) (p count : ℕ) (whole : Bool) : Type 0 where
   pub routes : List (List ℕ)
   pub overs : List (List ℕ)
   pub many : length routes ≡ count
   pub lines : LinesAt text p routes overs
-  pub same : whole ≡ routesHold n lows highs from to met direct routes overs
+  pub same : whole ≡ routesHold n lows highs states from to met direct routes overs
 
 -- The same where the test of single steps and the number are said otherwise.
-pub turned : {n : ℕ} {lows highs text : List ℕ} {from to : ℕ} {met : ℕ → Bool} {one other : Bool} {p fewer count : ℕ} {whole : Bool}
-    → other ≡ one → fewer ≡ count → RoutesLeft n lows highs text from to met one p fewer whole
-    → RoutesLeft n lows highs text from to met other p count whole
+pub turned : {n : ℕ} {lows highs states text : List ℕ} {from to : ℕ} {met : ℕ → Bool} {one other : Bool} {p fewer count : ℕ} {whole : Bool}
+    → other ≡ one → fewer ≡ count → RoutesLeft n lows highs states text from to met one p fewer whole
+    → RoutesLeft n lows highs states text from to met other p count whole
 turned e f left =
     record {
       routes = left .routes;
@@ -83,7 +83,7 @@ turned e f left =
     }
 
 -- The first of them, and the others.
-record FirstRoute (n : ℕ) (lows highs text : List ℕ) (from to : ℕ) (met : ℕ → Bool) (direct : Bool) (p count : ℕ) (whole : Bool) : Type 0 where
+record FirstRoute (n : ℕ) (lows highs states text : List ℕ) (from to : ℕ) (met : ℕ → Bool) (direct : Bool) (p count : ℕ) (whole : Bool) : Type 0 where
   route : List ℕ
   over : List ℕ
   routes : List (List ℕ)
@@ -94,11 +94,11 @@ record FirstRoute (n : ℕ) (lows highs text : List ℕ) (from to : ℕ) (met : 
   links : scanNumbers text overFront at ≡ reads over next
   lines : LinesAt text next routes overs
   many : length routes ≡ count
-  same : whole ≡ routesHold n lows highs from to met direct (route ∷ routes) (over ∷ overs)
+  same : whole ≡ routesHold n lows highs states from to met direct (route ∷ routes) (over ∷ overs)
 
-module _ (n : ℕ) (lows highs text : List ℕ) (from to : ℕ) (met : ℕ → Bool) (direct : Bool) (p count : ℕ) (whole : Bool) where
+module _ (n : ℕ) (lows highs states text : List ℕ) (from to : ℕ) (met : ℕ → Bool) (direct : Bool) (p count : ℕ) (whole : Bool) where
   abbrev Left : Type 0
-  Left = RoutesLeft n lows highs text from to met direct p count whole
+  Left = RoutesLeft n lows highs states text from to met direct p count whole
 
   -- None are left.
   pub none-left : Left → count ≡ 0 → whole ≡ true
@@ -106,17 +106,17 @@ module _ (n : ℕ) (lows highs text : List ℕ) (from to : ℕ) (met : ℕ → B
   none-left left none = go (left .routes) (left .overs) (left .many) (left .lines) (left .same)
     where
       go : (routes overs : List (List ℕ)) → length routes ≡ count → LinesAt text p routes overs
-          → whole ≡ routesHold n lows highs from to met direct routes overs → whole ≡ true
+          → whole ≡ routesHold n lows highs states from to met direct routes overs → whole ≡ true
       go [] [] many lines same = same
       go [] (over ∷ overs) many lines same = absurd lines
       go (route ∷ routes) overs many lines same = absurd (omega arith)
 
-  first-route : Left → 0 < count → FirstRoute n lows highs text from to met direct p (count - 1) whole
+  first-route : Left → 0 < count → FirstRoute n lows highs states text from to met direct p (count - 1) whole
   first-route left some = go (left .routes) (left .overs) (left .many) (left .lines) (left .same)
     where
       go : (routes overs : List (List ℕ)) → length routes ≡ count → LinesAt text p routes overs
-          → whole ≡ routesHold n lows highs from to met direct routes overs
-          → FirstRoute n lows highs text from to met direct p (count - 1) whole
+          → whole ≡ routesHold n lows highs states from to met direct routes overs
+          → FirstRoute n lows highs states text from to met direct p (count - 1) whole
       go [] overs many lines same = absurd (omega arith)
       go (route ∷ routes) [] many lines same = absurd lines
       go (route ∷ routes) (over ∷ overs) many lines same =
@@ -135,7 +135,7 @@ module _ (n : ℕ) (lows highs text : List ℕ) (from to : ℕ) (met : ℕ → B
           }
 
   -- Its two lines are there.
-  two-there : (first : FirstRoute n lows highs text from to met direct p (count - 1) whole) → twoLines text p ≡ reads (first .at ∷ []) (first .next)
+  two-there : (first : FirstRoute n lows highs states text from to met direct p (count - 1) whole) → twoLines text p ≡ reads (first .at ∷ []) (first .next)
   unfolding twoLines after
   two-there first = rw (first .line, first .links)
 
@@ -148,8 +148,8 @@ module _ (n : ℕ) (lows highs text : List ℕ) (from to : ℕ) (met : ℕ → B
   -- What was said of the first route, walked over the marks.
   module _ (marks : List ℕ) (known : met ≡ marked marks) (left : Left) (some : 0 < count) (q next : ℕ)
       (there : twoLines text p ≡ reads (q ∷ []) next) (steps : ℕ) (later : List ℕ)
-      (walked : RouteWalked n lows highs text from to p q marks later steps) where
-    abbrev first : FirstRoute n lows highs text from to met direct p (count - 1) whole
+      (walked : RouteWalked n lows highs states text from to p q marks later steps) where
+    abbrev first : FirstRoute n lows highs states text from to met direct p (count - 1) whole
     first = first-route left some
 
     same-offsets : (q ≡ first .at) × (next ≡ first .next)
@@ -157,9 +157,9 @@ module _ (n : ℕ) (lows highs text : List ℕ) (from to : ℕ) (met : ℕ → B
         let both = sym there ∙ two-there first in
         (cc, cc)
 
-    along : Walked (walkRoute n lows highs from to met (first .route) (first .over)) steps later
+    along : Walked (walkRoute n lows highs states from to met (first .route) (first .over)) steps later
     along =
-        subst (λ (f : ℕ → Bool). Walked (walkRoute n lows highs from to f (first .route) (first .over)) steps later) (sym known)
+        subst (λ (f : ℕ → Bool). Walked (walkRoute n lows highs states from to f (first .route) (first .over)) steps later) (sym known)
         (walked .walked (first .route) (first .over) (first .at) (first .next) (first .line)
         (ap (scanNumbers text overFront) (same-offsets .0) ∙ first .links))
 
@@ -169,7 +169,7 @@ module _ (n : ℕ) (lows highs text : List ℕ) (from to : ℕ) (met : ℕ → B
         first .same ∙ rw (← along .taken, bad)
 
     pub left-next : goodSteps steps direct ≡ true
-        → RoutesLeft n lows highs text from to (marked later) (direct || eqb steps 1) next (count - 1) whole
+        → RoutesLeft n lows highs states text from to (marked later) (direct || eqb steps 1) next (count - 1) whole
     unfolding routesHold goodSteps
     left-next good =
         let positive : steps ≡ 0 → ⊥ = eqb-false steps 0 (not-true (eqb steps 0) (and-both (not (eqb steps 0)) (not (eqb steps 1 && direct)) good .0)) in

@@ -22,9 +22,9 @@ walked-to e same room = record { taken = same ∙ sym (ap (λ (w : Walk). w .ste
 pub walk-failed : {w : Walk} {met : ℕ → Bool} {marks : List ℕ} → w ≡ record { steps = 0; met = met } → MarkRoom marks → Walked w 0 marks
 walk-failed e room = record { taken = sym (ap (λ (w : Walk). w .steps) e); met = λ some. absurd (omega (arith, some)); room = room }
 
-module _ (n : ℕ) (lows highs text : List ℕ) (to : ℕ) (met : ℕ → Bool) (steps a p q : ℕ) where
+module _ (n : ℕ) (lows highs states text : List ℕ) (to : ℕ) (met : ℕ → Bool) (steps a p q : ℕ) where
   abbrev here : Walk
-  here = walkFrom n lows highs text to met steps a p q
+  here = walkFrom n lows highs states text to met steps a p q
 
   abbrev left : ℕ
   left = suc (length text) - steps
@@ -63,12 +63,12 @@ module _ (n : ℕ) (lows highs text : List ℕ) (to : ℕ) (met : ℕ → Bool) 
         rw (next, one-at text p (relay .0) (relay .1) (relay .2) (length text - steps), none-at text q (both .1) (suc (length text - steps)))
 
     module _ (b s l t : ℕ) (relay : ANumber text p b s) (link : ANumber text q l t) where
-      pub walk-fails : stepHolds n lows highs to met a b l ≡ false → here ≡ failed
+      pub walk-fails : stepHolds n lows highs states to met a b l ≡ false → here ≡ failed
       unfolding walkFrom walk
       walk-fails e = rw (next, one-at text p b s relay (length text - steps), one-at text q l t link (length text - steps), e)
 
-      pub walk-steps : (later : ℕ → Bool) → later ≡ metAt to met b → stepHolds n lows highs to met a b l ≡ true
-          → here ≡ walkFrom n lows highs text to later (steps + 1) b s t
+      pub walk-steps : (later : ℕ → Bool) → later ≡ metAt to met b → stepHolds n lows highs states to met a b l ≡ true
+          → here ≡ walkFrom n lows highs states text to later (steps + 1) b s t
       unfolding walkFrom walk
       walk-steps later known e =
           let same : suc (length text) - suc steps ≡ length text - steps = omega arith in

@@ -18,13 +18,13 @@ sheetOutcome Holds = done (1 ∷ [])
 sheetOutcome Fails = done (0 ∷ [])
 
 -- What is said of a sheet's text once the table check is passed.
-unfoldable pub afterCheck : (n : ℕ) (lows highs text : List ℕ) → Answer
-afterCheck n lows highs text =
+unfoldable pub afterCheck : (n : ℕ) (lows highs states text : List ℕ) → Answer
+afterCheck n lows highs states text =
     andThen (readSheet text) λ sheet.
     refuseIf (outside 1 32 (sheet .k)) 15 0
-    (done (yesOrNo (sheetHolds n lows highs sheet)))
+    (done (yesOrNo (sheetHolds n lows highs states sheet)))
 
 -- The same, for a text of the form that says this.
-abbrev pub Judged : (n : ℕ) (lows highs text : List ℕ) (from to k routes kept first : ℕ) (answer : Answer) → Type 0
-Judged n lows highs text from to k routes kept first answer =
-    summaryOf text ≡ done (from ∷ to ∷ k ∷ routes ∷ kept ∷ first ∷ []) → answer ≡ afterCheck n lows highs text
+abbrev pub Judged : (n : ℕ) (lows highs states text : List ℕ) (from to k routes kept first : ℕ) (answer : Answer) → Type 0
+Judged n lows highs states text from to k routes kept first answer =
+    summaryOf text ≡ done (from ∷ to ∷ k ∷ routes ∷ kept ∷ first ∷ []) → answer ≡ afterCheck n lows highs states text

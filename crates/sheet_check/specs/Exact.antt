@@ -10,7 +10,7 @@ use Rattle.definitions.specs.Outcome.{done}
 use Rattle.definitions.specs.Lists.{outside}
 use Rattle.definitions.specs.Network.{tableCheck, Accepted}
 use Rattle.definitions.specs.Plan.{Sheet}
-use Rattle.definitions.specs.Demand.{AnyLink}
+use Rattle.definitions.specs.Demand.{InService}
 use Rattle.definitions.specs.SheetHolds.{SheetHolds}
 use Rattle.definitions.specs.SheetForm.{readSheet}
 use Rattle.definitions.specs.SheetTest.{sheetHolds, yesOrNo, sheetAnswer}
@@ -33,38 +33,38 @@ unfolding yesOrNo
 said-no true e = let z : _≡_ {A = ℕ} 0 1 = ap (λ (l : List ℕ). getD l 0 0) e in absurd (omega arith)
 said-no false e = refl
 
-module _ (n : ℕ) (lows highs text : List ℕ) where
+module _ (n : ℕ) (lows highs states text : List ℕ) where
   -- An answer that is given has a sheet behind it, and is what the test says of that sheet;
-  answered : (values : List ℕ) → sheetAnswer n lows highs text ≡ done values
-      → ReadBack n lows highs text (λ sheet. values ≡ yesOrNo (sheetHolds n lows highs sheet))
+  answered : (values : List ℕ) → sheetAnswer n lows highs states text ≡ done values
+      → ReadBack n lows highs states text (λ sheet. values ≡ yesOrNo (sheetHolds n lows highs states sheet))
   unfolding sheetAnswer
   answered values e =
-      let (first, checked, after) = done-then (tableCheck n lows highs) _ values e in
+      let (first, checked, after) = done-then (tableCheck n lows highs states) _ values e in
       let (sheet, read, last) = done-then (readSheet text) _ values after in
-      let fifteen = not-refused (outside 1 32 (sheet .k)) 15 0 (done (yesOrNo (sheetHolds n lows highs sheet))) values last in
+      let fifteen = not-refused (outside 1 32 (sheet .k)) 15 0 (done (yesOrNo (sheetHolds n lows highs states sheet))) values last in
       let range = inside-range 1 32 (sheet .k) (fifteen .0) in
       record {
-        accepted = check-accepts n lows highs first checked;
+        accepted = check-accepts n lows highs states first checked;
         sheet = sheet;
         read = read;
         some = range .0;
         few = range .1;
-        so = sym (done-same (yesOrNo (sheetHolds n lows highs sheet)) values (fifteen .1));
+        so = sym (done-same (yesOrNo (sheetHolds n lows highs states sheet)) values (fifteen .1));
       }
 
   -- and where there is such a sheet, that is the answer.
-  answer-is : (claim : Sheet → Type 0) (back : ReadBack n lows highs text claim)
-      → sheetAnswer n lows highs text ≡ done (yesOrNo (sheetHolds n lows highs (back .sheet)))
+  answer-is : (claim : Sheet → Type 0) (back : ReadBack n lows highs states text claim)
+      → sheetAnswer n lows highs states text ≡ done (yesOrNo (sheetHolds n lows highs states (back .sheet)))
   unfolding sheetAnswer
   answer-is claim back =
-      then-done (tableCheck n lows highs) _ [] (back .accepted)
+      then-done (tableCheck n lows highs states) _ [] (back .accepted)
       ∙ then-done (readSheet text) _ (back .sheet) (back .read)
       ∙ refuse-not (outside 1 32 (back .sheet .k)) 15 0 _ (inside 1 32 (back .sheet .k) (back .some) (back .few))
 
   -- The sheet that was read, with what follows from the claim about it.
   claimed : (claim other : Sheet → Type 0)
-      → ((sheet : Sheet) → Accepted n lows highs → 1 ≤ sheet .k → sheet .k ≤ 32 → claim sheet → other sheet)
-      → ReadBack n lows highs text claim → ReadBack n lows highs text other
+      → ((sheet : Sheet) → Accepted n lows highs states → 1 ≤ sheet .k → sheet .k ≤ 32 → claim sheet → other sheet)
+      → ReadBack n lows highs states text claim → ReadBack n lows highs states text other
   claimed claim other follows back =
       record {
         accepted = back .accepted;
@@ -76,39 +76,43 @@ module _ (n : ℕ) (lows highs text : List ℕ) where
       }
 
   -- Yes is said exactly where there is a sheet that holds, and no exactly where there is one that does not.
-  pub said-exactly : SaidExactly n lows highs text
+  pub said-exactly : SaidExactly n lows highs states text
   unfolding yesOrNo
   said-exactly =
       record {
         yes = (
           λ e.
               claimed _ _
-              (λ sheet ok some few so. holds-exactly n lows highs ok sheet some few .0 (said-yes (sheetHolds n lows highs sheet) so))
+              (λ sheet ok some few so.
+              holds-exactly n lows highs states ok sheet some few .0 (said-yes (sheetHolds n lows highs states sheet) so))
               (answered (1 ∷ []) e),
           λ back.
               answer-is _ back
-              ∙ said true (back .sheet) (holds-exactly n lows highs (back .accepted) (back .sheet) (back .some) (back .few) .1 (back .so)),
+              ∙ said true (back .sheet)
+              (holds-exactly n lows highs states (back .accepted) (back .sheet) (back .some) (back .few) .1 (back .so)),
         );
         no = (
           λ e.
               claimed _ _
               (λ sheet ok some few so holds.
-              clash (holds-exactly n lows highs ok sheet some few .1 holds) (said-no (sheetHolds n lows highs sheet) so))
+              clash (holds-exactly n lows highs states ok sheet some few .1 holds) (said-no (sheetHolds n lows highs states sheet) so))
               (answered (0 ∷ []) e),
           λ back.
               answer-is _ back
               ∙ said false (back .sheet)
-              (denied (back .sheet) (holds-exactly n lows highs (back .accepted) (back .sheet) (back .some) (back .few) .0) (back .so)),
+              (denied (back .sheet) (holds-exactly n lows highs states (back .accepted) (back .sheet) (back .some) (back .few) .0) (back .so)),
         );
       }
     where
-      said : (b : Bool) (sheet : Sheet) → sheetHolds n lows highs sheet ≡ b → done (yesOrNo (sheetHolds n lows highs sheet)) ≡ done (yesOrNo b)
+      said : (b : Bool) (sheet : Sheet) → sheetHolds n lows highs states sheet ≡ b
+          → done (yesOrNo (sheetHolds n lows highs states sheet)) ≡ done (yesOrNo b)
       said b sheet e = ap (λ (c : Bool). done (yesOrNo c)) e
 
-      denied : (sheet : Sheet) → (sheetHolds n lows highs sheet ≡ true → SheetHolds n lows highs AnyLink sheet)
-          → (SheetHolds n lows highs AnyLink sheet → ⊥) → sheetHolds n lows highs sheet ≡ false
-      denied sheet right never = go (sheetHolds n lows highs sheet) refl
+      denied : (sheet : Sheet)
+          → (sheetHolds n lows highs states sheet ≡ true → SheetHolds n lows highs states (InService lows highs states) sheet)
+          → (SheetHolds n lows highs states (InService lows highs states) sheet → ⊥) → sheetHolds n lows highs states sheet ≡ false
+      denied sheet right never = go (sheetHolds n lows highs states sheet) refl
         where
-          go : (b : Bool) → sheetHolds n lows highs sheet ≡ b → b ≡ false
+          go : (b : Bool) → sheetHolds n lows highs states sheet ≡ b → b ≡ false
           go true e = absurd (never (right e))
           go false e = refl

@@ -10,7 +10,7 @@ use Rattle.text.specs.Put.{Put}
 -- A sheet's text read back with a network's text.
 unfoldable pub readBackFrom : (network text : List ℕ) → Answer
 readBackFrom network text =
-    andThen (readNetwork network 3000 3000) λ w. sheetAnswer (w .relays) (w .lows) (w .highs) text
+    andThen (readNetwork network 3000 3000 1000) λ w. sheetAnswer (w .relays) (w .lows) (w .highs) (w .states) text
 
 -- A line was written from the first byte on, and it is no longer than the program's output.
 pub record LinePut (before line after : List ℕ) (next : ℕ) : Type 0 where

@@ -1,6 +1,7 @@
 -- The promise of a sheet that is read back, `ReadBackPromise`. Rests on the planner's own promise, `SheetPromise`: what it prints
 -- for a wish that is not refused is a sheet that holds.
-use Prim.Native.Nat.{ℕ}
+use Prim.Native.Nat.{ℕ, _<_}
+use mathlib.Core.Bool.{Bool, true, false}
 use mathlib.Core.List.{List, [], _∷_, _++_}
 use mathlib.Core.Logic.{_⊎_, inl, inr}
 use mathlib.Core.Path.{_≡_, refl, sym, _∙_, ap, subst}
@@ -8,10 +9,12 @@ use native.Mathlib.Omega.{arith}
 use lib.ListN.{length, getD, drop}
 use lib.Seq.{take-append-seam, drop-append-seam}
 use Rattle.definitions.specs.Outcome.{done}
+use Rattle.definitions.specs.Network.{linkServes}
+use Rattle.definitions.specs.Forests.{marksOf}
 use Rattle.definitions.specs.Form.{bytes, reads, writeForm}
 use Rattle.definitions.specs.Text.{Network, readNetwork}
 use Rattle.definitions.specs.Plan.{sheetForm, refusedForm, Sheet, planned, sheetText, printed, planText}
-use Rattle.definitions.specs.Demand.{LinkOf, AnyLink, AlongFrom, Along, RouteHolds}
+use Rattle.definitions.specs.Demand.{LinkOf, InService, Kept, AlongFrom, Along, RouteHolds}
 use Rattle.definitions.specs.SheetHolds.{SheetHolds}
 use Rattle.definitions.specs.SheetPromise.{Asked, SheetPrinted, RefusalPrinted}
 use Rattle.definitions.specs.SheetTest.{sheetAnswer}
@@ -19,47 +22,63 @@ use Rattle.definitions.specs.Verify.{networkSize, verified, verdictText, verify
 use Rattle.definitions.specs.ReadBackPromise.{ReadBackPromise}
 use Rattle.lists.specs.Outcomes.{then-done}
 use Rattle.lists.specs.SameOutcomes.{done-same}
+use Rattle.theory.specs.Columns.{no-mark, mark-entry}
 use Rattle.text_theory.specs.NetworkFront.{network-front}
 use Rattle.sheet.specs.Promise.{sheet-promise}
 use Rattle.sheet_check.specs.Exact.{said-exactly}
 use Rattle.sheet_check.specs.Written.{written-yes}
 
--- A sheet that holds along the links that the property picks holds along links of the table.
-module _ (lows highs : List ℕ) (picked : ℕ → Type 0) where
-  any-from : (a : ℕ) (rest : List ℕ) → AlongFrom (LinkOf lows highs picked) a rest → AlongFrom (LinkOf lows highs AnyLink) a rest
-  any-from a [] along = tt
-  any-from a (b ∷ rest) along =
+-- A sheet that holds along links that the property picks, all of them with both ends in service, holds along links in service.
+module _ (lows highs states : List ℕ) (picked : ℕ → Type 0)
+    (serving : (i : ℕ) → i < length lows → picked i → InService lows highs states i) where
+  serving-from : (a : ℕ) (rest : List ℕ) → AlongFrom (LinkOf lows highs picked) a rest
+      → AlongFrom (LinkOf lows highs (InService lows highs states)) a rest
+  serving-from a [] along = tt
+  serving-from a (b ∷ rest) along =
       let l = along .0 in
-      ((l .0, l .1, l .2, tt), any-from b rest (along .1))
+      ((l .0, l .1, l .2, serving (l .0) (l .1) (l .3)), serving-from b rest (along .1))
 
-  any-along : (route : List ℕ) → Along (LinkOf lows highs picked) route → Along (LinkOf lows highs AnyLink) route
-  any-along [] along = tt
-  any-along (a ∷ rest) along = any-from a rest along
+  serving-along : (route : List ℕ) → Along (LinkOf lows highs picked) route → Along (LinkOf lows highs (InService lows highs states)) route
+  serving-along [] along = tt
+  serving-along (a ∷ rest) along = serving-from a rest along
 
-  any-route : (from to : ℕ) (route : List ℕ) → RouteHolds lows highs picked from to route → RouteHolds lows highs AnyLink from to route
-  any-route from to route holds =
+  serving-route : (from to : ℕ) (route : List ℕ) → RouteHolds lows highs picked from to route
+      → RouteHolds lows highs (InService lows highs states) from to route
+  serving-route from to route holds =
       record {
         long = holds .long;
         starts = holds .starts;
         ends = holds .ends;
-        along = any-along route (holds .along);
+        along = serving-along route (holds .along);
         noRepeat = holds .noRepeat;
       }
 
-  any-sheet : (n : ℕ) (sheet : Sheet) → SheetHolds n lows highs picked sheet → SheetHolds n lows highs AnyLink sheet
-  any-sheet n sheet holds =
+  serving-sheet : (n : ℕ) (sheet : Sheet) → SheetHolds n lows highs states picked sheet
+      → SheetHolds n lows highs states (InService lows highs states) sheet
+  serving-sheet n sheet holds =
       record {
         some = holds .some;
         few = holds .few;
         many = holds .many;
         differ = holds .differ;
-        each = λ i less. any-route (sheet .from) (sheet .to) (getD (sheet .routes) i []) (holds .each i less);
+        each = λ i less. serving-route (sheet .from) (sheet .to) (getD (sheet .routes) i []) (holds .each i less);
         below = holds .below;
         apart = holds .apart;
         manyOvers = holds .manyOvers;
         over = holds .over;
         kept = holds .kept;
       }
+
+-- A kept link has both ends in service.
+kept-serves : (n : ℕ) (lows highs states : List ℕ) (k i : ℕ) → i < length lows → Kept (marksOf n lows highs states k) i
+    → InService lows highs states i
+kept-serves n lows highs states k i less kept = go (linkServes lows highs states i) refl
+  where
+    go : (b : Bool) → linkServes lows highs states i ≡ b → b ≡ true
+    go true e = refl
+    go false e =
+        let none = no-mark n lows highs states k i less e (marksOf n lows highs states k) (mark-entry n lows highs states k) in
+        absurd (omega (arith, none, kept))
 
 -- One input asks for one network.
 reads-same : (values others : List ℕ) (p q : ℕ) → reads values p ≡ reads others q → p ≡ q
@@ -71,7 +90,7 @@ one-network input from to k from′ to′ k′ network other asked again =
     let same : asked .behind ≡ again .behind =
     reads-same (from ∷ to ∷ k ∷ []) (from′ ∷ to′ ∷ k′ ∷ []) (asked .behind) (again .behind) (sym (asked .wish) ∙ again .wish) in
     done-same network other
-    (sym (asked .read) ∙ ap (λ (p : ℕ). readNetwork (drop p input) 3000 3000) same ∙ again .read)
+    (sym (asked .read) ∙ ap (λ (p : ℕ). readNetwork (drop p input) 3000 3000 1000) same ∙ again .read)
 
 -- A sheet and the line of a refusal part at the second byte.
 sheet-second : (sheet : Sheet) → getD (sheetText sheet) 1 0 ≡ 115
@@ -85,33 +104,35 @@ refused-second values = refl
 -- What the planner prints for a wish that is not refused is answered with yes,
 printed-answer : (input : List ℕ) (from to k : ℕ) (network : Network) (sheet : Sheet) → Asked input from to k network
     → planned input ≡ done sheet
-    → sheetAnswer (network .relays) (network .lows) (network .highs) (planText input) ≡ done (1 ∷ [])
+    → sheetAnswer (network .relays) (network .lows) (network .highs) (network .states) (planText input) ≡ done (1 ∷ [])
 unfolding planText printed
 printed-answer input from to k network sheet asked e = go (sheet-promise input)
   where
     go : SheetPrinted input ⊎ RefusalPrinted input
-        → sheetAnswer (network .relays) (network .lows) (network .highs) (planText input) ≡ done (1 ∷ [])
+        → sheetAnswer (network .relays) (network .lows) (network .highs) (network .states) (planText input) ≡ done (1 ∷ [])
     go (inl found) =
         let other = found .network in
-        subst (λ (net : Network). sheetAnswer (net .relays) (net .lows) (net .highs) (planText input) ≡ done (1 ∷ []))
+        subst (λ (net : Network). sheetAnswer (net .relays) (net .lows) (net .highs) (net .states) (planText input) ≡ done (1 ∷ []))
         (one-network input _ _ _ from to k other network (found .asked) asked)
-        (ap (sheetAnswer (other .relays) (other .lows) (other .highs)) (found .text)
-        ∙ written-yes (other .relays) (other .lows) (other .highs) (found .asked .accepted) (found .sheet)
-        (any-sheet (other .lows) (other .highs) _ (other .relays) (found .sheet) (found .holds)))
+        (ap (sheetAnswer (other .relays) (other .lows) (other .highs) (other .states)) (found .text)
+        ∙ written-yes (other .relays) (other .lows) (other .highs) (other .states) (found .asked .accepted) (found .sheet)
+        (serving-sheet (other .lows) (other .highs) (other .states) _
+        (kept-serves (other .relays) (other .lows) (other .highs) (other .states) (found .sheet .k))
+        (other .relays) (found .sheet) (found .holds)))
     go (inr found) =
         let values = found .number ∷ found .place ∷ [] in
         let same : sheetText sheet ≡ writeForm refusedForm values = sym (ap (printed sheetText) e) ∙ found .text in
         absurd (omega (arith, sheet-second sheet, refused-second values, ap (λ (l : List ℕ). getD l 1 0) same))
 
 -- and behind a network text, a sheet that is answered with yes gets the line for yes.
-line-holds : (text sheetBytes : List ℕ) (network : Network) → readNetwork text 3000 3000 ≡ done network
-    → sheetAnswer (network .relays) (network .lows) (network .highs) sheetBytes ≡ done (1 ∷ [])
+line-holds : (text sheetBytes : List ℕ) (network : Network) → readNetwork text 3000 3000 1000 ≡ done network
+    → sheetAnswer (network .relays) (network .lows) (network .highs) (network .states) sheetBytes ≡ done (1 ∷ [])
     → verifyText (text ++ sheetBytes) ≡ bytes "(holds)\n"
 unfolding verifyText verified verdictText printed
 line-holds text sheetBytes network read answered =
-    let size : networkSize (text ++ sheetBytes) ≡ length text = network-front text 3000 3000 network read sheetBytes in
+    let size : networkSize (text ++ sheetBytes) ≡ length text = network-front text 3000 3000 1000 network read sheetBytes in
     rw (size, take-append-seam text sheetBytes, drop-append-seam text sheetBytes)
-    (ap (printed verdictText) (then-done (readNetwork text 3000 3000) _ network read ∙ answered))
+    (ap (printed verdictText) (then-done (readNetwork text 3000 3000 1000) _ network read ∙ answered))
 
 -- Yes is said exactly where the sheet holds, and of every sheet that the program prints.
 pub read-back-promise : ReadBackPromise

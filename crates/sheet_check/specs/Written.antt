@@ -13,7 +13,7 @@ use Rattle.definitions.specs.Network.{Accepted}
 use Rattle.definitions.specs.Forests.{marksOf}
 use Rattle.definitions.specs.Over.{OverFrom, OverHolds}
 use Rattle.definitions.specs.Plan.{Sheet, sheetText}
-use Rattle.definitions.specs.Demand.{AnyLink}
+use Rattle.definitions.specs.Demand.{InService}
 use Rattle.definitions.specs.SheetHolds.{SheetHolds}
 use Rattle.definitions.specs.SheetTest.{sheetAnswer}
 use Rattle.lists.specs.Cases.{has-here, has-there}
@@ -63,10 +63,11 @@ lines-fit (route ∷ routes) (over ∷ overs) even fits =
     let first = fits 0 (omega arith) in
     (first .0, first .1, first .2, first .3, lines-fit routes overs (omega arith) (λ i less. fits (suc i) (omega arith)))
 
-module _ (n : ℕ) (lows highs : List ℕ) (ok : Accepted n lows highs) (sheet : Sheet) (holds : SheetHolds n lows highs AnyLink sheet) where
+module _ (n : ℕ) (lows highs states : List ℕ) (ok : Accepted n lows highs states) (sheet : Sheet)
+    (holds : SheetHolds n lows highs states (InService lows highs states) sheet) where
   line-fits : (i : ℕ) → i < sheet .k → LineFits (getD (sheet .routes) i []) (getD (sheet .overs) i [])
   line-fits i less =
-      let proper = accepted n lows highs ok in
+      let proper = accepted n lows highs states ok in
       let route = getD (sheet .routes) i [] in
       let over = getD (sheet .overs) i [] in
       let long = holds .each i less .long in
@@ -77,7 +78,7 @@ module _ (n : ℕ) (lows highs : List ℕ) (ok : Accepted n lows highs) (sheet :
   -- All its numbers have at most four digits.
   sheet-fits : SheetFits sheet
   sheet-fits =
-      let proper = accepted n lows highs ok in
+      let proper = accepted n lows highs states ok in
       let route = getD (sheet .routes) 0 [] in
       let least : 0 < sheet .k = omega (arith, holds .some) in
       let first = holds .each 0 least in
@@ -92,8 +93,8 @@ module _ (n : ℕ) (lows highs : List ℕ) (ok : Accepted n lows highs) (sheet :
             omega (
               arith,
               holds .kept,
-              count-length (eqb 1) (marksOf n lows highs (sheet .k)),
-              length-marks n lows highs (sheet .k),
+              count-length (eqb 1) (marksOf n lows highs states (sheet .k)),
+              length-marks n lows highs states (sheet .k),
               proper .short,
             );
         lines =
@@ -102,9 +103,9 @@ module _ (n : ℕ) (lows highs : List ℕ) (ok : Accepted n lows highs) (sheet :
       }
 
   -- Its text is answered with yes.
-  pub written-yes : sheetAnswer n lows highs (sheetText sheet) ≡ done (1 ∷ [])
+  pub written-yes : sheetAnswer n lows highs states (sheetText sheet) ≡ done (1 ∷ [])
   written-yes =
-      said-exactly n lows highs (sheetText sheet) .yes .1
+      said-exactly n lows highs states (sheetText sheet) .yes .1
       (record {
         accepted = ok;
         sheet = sheet;

@@ -19,6 +19,7 @@ use walk::routes_hold;
 
 mod form;
 pub mod line;
+mod link;
 mod walk;
 
 // Whether a sheet holds, or a refusal.
@@ -29,13 +30,13 @@ pub enum SheetAnswer {
 }
 
 // How many links Cut keeps.
-fn kept_count(n: u16, lows: &[u16], highs: &[u16], k: u16) -> u16
-    requires { ⌜ Accepted n (now lows) (now highs) ⌝ }
+fn kept_count(n: u16, lows: &[u16], highs: &[u16], states: &[u16], k: u16) -> u16
+    requires { ⌜ Accepted n (now lows) (now highs) (now states) ⌝ }
     requires { ⌜ (1 ≤ k) × (k ≤ 32) ⌝ }
-    ensures { λ r. ⌜ r ≡ count (eqb 1) (marksOf n (now (lows .entry)) (now (highs .entry)) k) ⌝ }
+    ensures { λ r. ⌜ r ≡ count (eqb 1) (marksOf n (now (lows .entry)) (now (highs .entry)) (now (states .entry)) k) ⌝ }
 {
     let mut marks = rooms::links();
-    match cut(n, lows, highs, k, &mut marks) {
+    match cut(n, lows, highs, states, k, &mut marks) {
         CutAnswer::Refused(_) => 0,
         CutAnswer::Kept(kept) => kept,
     }
@@ -46,6 +47,7 @@ fn judge(
     n: u16,
     lows: &[u16],
     highs: &[u16],
+    states: &[u16],
     text: &[u8],
     from: u16,
     to: u16,
@@ -54,8 +56,9 @@ fn judge(
     kept: u16,
     first: usize,
 ) -> SheetAnswer
-    requires { ⌜ Accepted n (now lows) (now highs) ⌝ }
-    ensures { λ r. ⌜ Judged n (now (lows .entry)) (now (highs .entry)) (now (text .entry)) from to k routes kept first (sheetOutcome r) ⌝ }
+    requires { ⌜ Accepted n (now lows) (now highs) (now states) ⌝ }
+    ensures { λ r. ⌜ Judged n (now (lows .entry)) (now (highs .entry)) (now (states .entry)) (now (text .entry))
+        from to k routes kept first (sheetOutcome r) ⌝ }
 {
     if k < 1 {
         return SheetAnswer::Refused(Refusal::SheetCount);
@@ -66,34 +69,46 @@ fn judge(
     if routes != k as usize {
         return SheetAnswer::Fails;
     }
-    if !routes_hold(n, lows, highs, text, from, to, routes, first) {
+    if !routes_hold(n, lows, highs, states, text, from, to, routes, first) {
         return SheetAnswer::Fails;
     }
-    if kept_count(n, lows, highs, k) != kept {
+    if kept_count(n, lows, highs, states, k) != kept {
         return SheetAnswer::Fails;
     }
     SheetAnswer::Holds
 }
 
 // A sheet's text, with an accepted network.
-fn read_sheet(n: u16, lows: &[u16], highs: &[u16], text: &[u8]) -> SheetAnswer
-    requires { ⌜ Accepted n (now lows) (now highs) ⌝ }
-    ensures { λ r. ⌜ sheetOutcome r ≡ afterCheck n (now (lows .entry)) (now (highs .entry)) (now (text .entry)) ⌝ }
+fn read_sheet(n: u16, lows: &[u16], highs: &[u16], states: &[u16], text: &[u8]) -> SheetAnswer
+    requires { ⌜ Accepted n (now lows) (now highs) (now states) ⌝ }
+    ensures { λ r. ⌜ sheetOutcome r ≡ afterCheck n (now (lows .entry)) (now (highs .entry)) (now (states .entry)) (now (text .entry)) ⌝ }
 {
     match sheet_form(text) {
         Form::Departs(p) => SheetAnswer::Refused(Refusal::SheetForm(p)),
         Form::Reads(from, to, k, routes, kept, first) => {
-            judge(n, lows, highs, text, from, to, k, routes, kept, first)
+            judge(
+                n,
+                lows,
+                highs,
+                states,
+                text,
+                from,
+                to,
+                k,
+                routes,
+                kept,
+                first,
+            )
         }
     }
 }
 
 // Reads a sheet back with its network.
-pub fn check_sheet(n: u16, lows: &[u16], highs: &[u16], text: &[u8]) -> SheetAnswer
-    ensures { λ r. ⌜ sheetOutcome r ≡ sheetAnswer n (now (lows .entry)) (now (highs .entry)) (now (text .entry)) ⌝ }
+pub fn check_sheet(n: u16, lows: &[u16], highs: &[u16], states: &[u16], text: &[u8]) -> SheetAnswer
+    ensures { λ r. ⌜ sheetOutcome r ≡ sheetAnswer n (now (lows .entry)) (now (highs .entry)) (now (states .entry)) (now (text .entry)) ⌝ }
 {
-    match table_check(n, lows, highs) {
+    match table_check(n, lows, highs, states) {
         Check::Refused(refusal) => SheetAnswer::Refused(refusal),
-        Check::Accepted => read_sheet(n, lows, highs, text),
+        Check::Accepted => read_sheet(n, lows, highs, states, text),
     }
 }

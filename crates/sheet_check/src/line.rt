@@ -60,12 +60,20 @@ fn put_any(output: &mut [u8], refusal: Refusal) -> usize
 }
 
 // The line for a sheet that is read back with this table.
-fn put_line(output: &mut [u8], n: u16, lows: &[u16], highs: &[u16], text: &[u8]) -> usize
+fn put_line(
+    output: &mut [u8],
+    n: u16,
+    lows: &[u16],
+    highs: &[u16],
+    states: &[u16],
+    text: &[u8],
+) -> usize
     requires { ⌜ 52 ≤ length (now output) ⌝ }
     ensures { λ r. ⌜ LinePut (now (output .entry))
-        (printed verdictText (sheetAnswer n (now (lows .entry)) (now (highs .entry)) (now (text .entry)))) (now (output .exit)) r ⌝ }
+        (printed verdictText (sheetAnswer n (now (lows .entry)) (now (highs .entry)) (now (states .entry)) (now (text .entry))))
+        (now (output .exit)) r ⌝ }
 {
-    match check_sheet(n, lows, highs, text) {
+    match check_sheet(n, lows, highs, states, text) {
         SheetAnswer::Refused(refusal) => put_any(output, refusal),
         SheetAnswer::Holds => put::put_word(output, 0, b"(holds)\n"),
         SheetAnswer::Fails => put::put_word(output, 0, b"(fails)\n"),
@@ -80,11 +88,20 @@ pub(crate) fn put_read_back(output: &mut [u8], network: &[u8], text: &[u8]) -> u
 {
     let mut lows = rooms::links();
     let mut highs = rooms::links();
-    match read(network, &mut lows, &mut highs) {
+    let mut states = rooms::states();
+    match read(network, &mut lows, &mut highs, &mut states) {
         ReadAnswer::Refused(refusal) => put_any(output, refusal),
         ReadAnswer::Table(n, m) => {
             let size = m as usize;
-            put_line(output, n, &lows[..size], &highs[..size], text)
+            let relays = n as usize;
+            put_line(
+                output,
+                n,
+                &lows[..size],
+                &highs[..size],
+                &states[..relays],
+                text,
+            )
         }
     }
 }

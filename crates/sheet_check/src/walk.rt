@@ -1,16 +1,17 @@
 // The routes of a sheet whose form is kept, walked relay by relay and link by link. The relays met so far are marked, a bit for each
 // number that a relay can have.
-ghost use mathlib.Core.Bool.{_&&_, _||_, not};
+ghost use mathlib.Core.Bool.{_||_, not};
 ghost use mathlib.Core.Path.{_≡_};
-ghost use lib.Dec.{eqb, ltb};
-ghost use lib.ListN.{length, replicate};
-ghost use Rattle.definitions.specs.Network.{joins};
+ghost use lib.Dec.{eqb};
+ghost use lib.ListN.{replicate};
 ghost use Rattle.definitions.specs.Outcome.{pick};
 ghost use Rattle.definitions.specs.SheetTest.{goodSteps};
 ghost use Rattle.lists.specs.Bitmap.{marked, mark};
-ghost use Rattle.sheet_check.specs.Walks.{NextHolds, MarkRoom, Stepped, Walked, RouteWalked, RoutesWalked, walkFrom};
+ghost use Rattle.sheet_check.specs.Walks.{NextHolds, EndsKnown, MarkRoom, Stepped, Walked, RouteWalked, RoutesWalked, walkFrom};
 use crate::form::TwoLines;
 use crate::form::two_lines;
+use crate::link::link_joins;
+use crate::link::link_serves;
 use text::scan;
 use text::scan::NumberScan;
 use text::scan::WordScan;
@@ -43,49 +44,27 @@ fn meet(relay: u16, marks: &mut [u64]) -> bool
     (bits >> bit) % 2 != 1
 }
 
-// Whether a link with these ends is the pair a b.
-fn is_pair(low: u16, high: u16, a: u16, b: u16) -> bool
-    ensures { λ r. ⌜ r ≡ (eqb low a && eqb high b) ⌝ }
-{
-    if low != a {
-        return false;
-    }
-    high == b
-}
-
-// Whether link l of the table joins a and b.
-fn link_joins(lows: &[u16], highs: &[u16], a: u16, b: u16, l: u16) -> bool
-    requires { ⌜ length (now lows) ≡ length (now highs) ⌝ }
-    ensures { λ r. ⌜ r ≡ (ltb l (length (now (lows .entry))) && joins (now (lows .entry)) (now (highs .entry)) a b l) ⌝ }
-{
-    let i = l as usize;
-    if lows.len() <= i {
-        return false;
-    }
-    let low = lows[i];
-    let high = highs[i];
-    if is_pair(low, high, a, b) {
-        return true;
-    }
-    is_pair(low, high, b, a)
-}
-
 // One step, from relay a to relay b over link l.
 fn step(
     n: u16,
     lows: &[u16],
     highs: &[u16],
+    states: &[u16],
     to: u16,
     a: u16,
     b: u16,
     l: u16,
     marks: &mut [u64],
 ) -> bool
-    requires { ⌜ length (now lows) ≡ length (now highs) ⌝ }
+    requires { ⌜ EndsKnown (now lows) (now highs) (now states) ⌝ }
     requires { ⌜ MarkRoom (now marks) ⌝ }
-    ensures { λ r. ⌜ Stepped n (now (lows .entry)) (now (highs .entry)) to a b l (now (marks .entry)) (now (marks .exit)) r ⌝ }
+    ensures { λ r. ⌜ Stepped n (now (lows .entry)) (now (highs .entry)) (now (states .entry)) to a b l
+        (now (marks .entry)) (now (marks .exit)) r ⌝ }
 {
     if !link_joins(lows, highs, a, b, l) {
+        return false;
+    }
+    if !link_serves(lows, highs, states, l) {
         return false;
     }
     if a == to {
@@ -128,6 +107,7 @@ fn walk(
     n: u16,
     lows: &[u16],
     highs: &[u16],
+    states: &[u16],
     text: &[u8],
     to: u16,
     first: u16,
@@ -135,10 +115,10 @@ fn walk(
     links: usize,
     marks: &mut [u64],
 ) -> usize
-    requires { ⌜ length (now lows) ≡ length (now highs) ⌝ }
+    requires { ⌜ EndsKnown (now lows) (now highs) (now states) ⌝ }
     requires { ⌜ MarkRoom (now marks) ⌝ }
-    ensures { λ r. ⌜ Walked (walkFrom n (now (lows .entry)) (now (highs .entry)) (now (text .entry)) to (marked (now (marks .entry))) 0 first relays links)
-        r (now (marks .exit)) ⌝ }
+    ensures { λ r. ⌜ Walked (walkFrom n (now (lows .entry)) (now (highs .entry)) (now (states .entry)) (now (text .entry)) to
+        (marked (now (marks .entry))) 0 first relays links) r (now (marks .exit)) ⌝ }
 {
     let mut a = first;
     let mut p = relays;
@@ -153,7 +133,7 @@ fn walk(
                 return 0;
             }
             NextStep::Step(b, s, l, t) => {
-                if !step(n, lows, highs, to, a, b, l, marks) {
+                if !step(n, lows, highs, states, to, a, b, l, marks) {
                     return 0;
                 }
                 a = b;
@@ -171,6 +151,7 @@ fn route_steps(
     n: u16,
     lows: &[u16],
     highs: &[u16],
+    states: &[u16],
     text: &[u8],
     from: u16,
     to: u16,
@@ -178,9 +159,9 @@ fn route_steps(
     links: usize,
     marks: &mut [u64],
 ) -> usize
-    requires { ⌜ length (now lows) ≡ length (now highs) ⌝ }
+    requires { ⌜ EndsKnown (now lows) (now highs) (now states) ⌝ }
     requires { ⌜ MarkRoom (now marks) ⌝ }
-    ensures { λ r. ⌜ RouteWalked n (now (lows .entry)) (now (highs .entry)) (now (text .entry)) from to relays links
+    ensures { λ r. ⌜ RouteWalked n (now (lows .entry)) (now (highs .entry)) (now (states .entry)) (now (text .entry)) from to relays links
         (now (marks .entry)) (now (marks .exit)) r ⌝ }
 {
     match scan::word_number(text, b"(route ", relays) {
@@ -189,7 +170,7 @@ fn route_steps(
             WordScan::Departs(_) => 0,
             WordScan::Reads(q) => {
                 if first == from {
-                    walk(n, lows, highs, text, to, first, p, q, marks)
+                    walk(n, lows, highs, states, text, to, first, p, q, marks)
                 } else {
                     0
                 }
@@ -226,6 +207,7 @@ fn all_routes(
     n: u16,
     lows: &[u16],
     highs: &[u16],
+    states: &[u16],
     text: &[u8],
     from: u16,
     to: u16,
@@ -233,9 +215,10 @@ fn all_routes(
     at: usize,
     marks: &mut [u64],
 ) -> bool
-    requires { ⌜ length (now lows) ≡ length (now highs) ⌝ }
+    requires { ⌜ EndsKnown (now lows) (now highs) (now states) ⌝ }
     requires { ⌜ MarkRoom (now marks) ⌝ }
-    ensures { λ r. ⌜ RoutesWalked n (now (lows .entry)) (now (highs .entry)) (now (text .entry)) from to (marked (now (marks .entry))) count at r ⌝ }
+    ensures { λ r. ⌜ RoutesWalked n (now (lows .entry)) (now (highs .entry)) (now (states .entry)) (now (text .entry)) from to
+        (marked (now (marks .entry))) count at r ⌝ }
 {
     let mut p = at;
     let mut direct = false;
@@ -246,7 +229,7 @@ fn all_routes(
                 return false;
             }
             TwoLines::Reads(q, next) => {
-                let steps = route_steps(n, lows, highs, text, from, to, p, q, marks);
+                let steps = route_steps(n, lows, highs, states, text, from, to, p, q, marks);
                 if !good_steps(steps, direct) {
                     return false;
                 }
@@ -264,16 +247,29 @@ pub(crate) fn routes_hold(
     n: u16,
     lows: &[u16],
     highs: &[u16],
+    states: &[u16],
     text: &[u8],
     from: u16,
     to: u16,
     count: usize,
     at: usize,
 ) -> bool
-    requires { ⌜ length (now lows) ≡ length (now highs) ⌝ }
-    ensures { λ r. ⌜ RoutesWalked n (now (lows .entry)) (now (highs .entry)) (now (text .entry)) from to (eqb from) count at r ⌝ }
+    requires { ⌜ EndsKnown (now lows) (now highs) (now states) ⌝ }
+    ensures { λ r. ⌜ RoutesWalked n (now (lows .entry)) (now (highs .entry)) (now (states .entry)) (now (text .entry)) from to
+        (eqb from) count at r ⌝ }
 {
     let mut marks = no_relays();
     meet(from, &mut marks);
-    all_routes(n, lows, highs, text, from, to, count, at, &mut marks)
+    all_routes(
+        n,
+        lows,
+        highs,
+        states,
+        text,
+        from,
+        to,
+        count,
+        at,
+        &mut marks,
+    )
 }

@@ -22,16 +22,16 @@ read-sheet-requires c κs = sym (c .before .before .table-check .ensures) ∙ ap
 returns : tie.Need-returns
 returns c =
     let atCheck = c .before .before .before in
-    let a = atCheck .before .before .before .before .args in
-    table-refused (a .n) (now (a .lows)) (now (a .highs)) (now (a .text)) _ _
+    let a = atCheck .before .before .before .before .before .args in
+    table-refused (a .n) (now (a .lows)) (now (a .highs)) (now (a .states)) (now (a .text)) _ _
     (sym (atCheck .table-check .ensures) ∙ ap checkOutcome (c .before .refusal .given .1))
 
 returns-2 : tie.Need-returns-2
 returns-2 c =
     let atCheck = c .before .before .before in
-    let a = atCheck .before .before .before .before .args in
+    let a = atCheck .before .before .before .before .before .args in
     c .read-sheet .ensures
-    ∙ table-passed (a .n) (now (a .lows)) (now (a .highs)) (now (a .text))
+    ∙ table-passed (a .n) (now (a .lows)) (now (a .highs)) (now (a .states)) (now (a .text))
     (sym (atCheck .table-check .ensures) ∙ ap checkOutcome (c .before .enum-told .given .1))
 
 pub check-sheet-spec : {M : Type 1} → statement M

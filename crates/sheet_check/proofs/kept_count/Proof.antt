@@ -25,17 +25,19 @@ enum-known-kept c = search needs
 returns : tie.Need-returns
 returns c =
     let atCut = c .before .before .before in
-    let start = atCut .before .before .before .before .before in
+    let start = atCut .before .before .before .before .before .before in
     let a = start .args in
-    let answered = cut-answers (a .n) (now (a .lows)) (now (a .highs)) (a .k) _ (start .pre .0) (start .pre .1 .0) (start .pre .1 .1) (atCut .before .before .links .ensures) in
+    let answered = cut-answers (a .n) (now (a .lows)) (now (a .highs)) (now (a .states)) (a .k) _
+    (start .pre .0) (start .pre .1 .0) (start .pre .1 .1) (atCut .before .before .links .ensures) in
     absurd (no-refusal _ _ _ (sym (ap cutOutcome (c .enum-told .given .1)) ∙ atCut .cut .ensures .0 ∙ answered))
 
 returns-2 : tie.Need-returns-2
 returns-2 c =
     let atCut = c .before .before .before .before in
-    let start = atCut .before .before .before .before .before in
+    let start = atCut .before .before .before .before .before .before in
     let a = start .args in
-    let answered = cut-answers (a .n) (now (a .lows)) (now (a .highs)) (a .k) _ (start .pre .0) (start .pre .1 .0) (start .pre .1 .1) (atCut .before .before .links .ensures) in
+    let answered = cut-answers (a .n) (now (a .lows)) (now (a .highs)) (now (a .states)) (a .k) _
+    (start .pre .0) (start .pre .1 .0) (start .pre .1 .1) (atCut .before .before .links .ensures) in
     kept-is _ _ (sym (ap cutOutcome (c .before .kept .given .1)) ∙ atCut .cut .ensures .0 ∙ answered)
 
 pub kept-count-spec : {M : Type 1} → statement M

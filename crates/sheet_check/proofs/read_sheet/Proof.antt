@@ -22,8 +22,8 @@ judge-requires c κs = search needs
 returns : tie.Need-returns
 returns c =
     let atForm = c .before .before .before in
-    let a = atForm .before .before .before .before .args in
-    departs-there (a .n) (now (a .lows)) (now (a .highs)) (now (a .text)) _ _
+    let a = atForm .before .before .before .before .before .args in
+    departs-there (a .n) (now (a .lows)) (now (a .highs)) (now (a .states)) (now (a .text)) _ _
     (sym (atForm .sheet-form .ensures) ∙ ap formGives (c .before .p .given .1))
 
 returns-2 : tie.Need-returns-2

@@ -18,19 +18,19 @@ use Rattle.sheet_check.proofs.walk.all_routes.Statement.{statement}
 use Rattle.sheet_check.proofs.walk.all_routes.Tie as tie
 
 abbrev Inv-loop : tie.InvT-loop
-Inv-loop n lows highs text from to count at marks₀ p₀ direct₀ i₀ marks p direct i =
+Inv-loop n lows highs states text from to count at marks₀ p₀ direct₀ i₀ marks p direct i =
     MarkRoom marks
     × (i ≤ count)
     × ((routes overs : List (List ℕ)) → length routes ≡ count → LinesAt text at routes overs
-    → RoutesLeft n lows highs text from to (marked marks) direct p (count - i)
-    (routesHold n lows highs from to (marked marks₀) false routes overs))
+    → RoutesLeft n lows highs states text from to (marked marks) direct p (count - i)
+    (routesHold n lows highs states from to (marked marks₀) false routes overs))
 
 abbrev μ-loop : tie.MeasureT-loop
-μ-loop n lows highs text from to count at marks₀ p₀ direct₀ i₀ marks p direct i = count - i
+μ-loop n lows highs states text from to count at marks₀ p₀ direct₀ i₀ marks p direct i = count - i
 
 loop-holds : tie.Need-loop-holds Inv-loop μ-loop
 loop-holds c = (
-  c .before .before .before .before .pre .1,
+  c .before .before .before .before .before .pre .1,
   omega arith,
   λ routes overs many lines. record { routes = routes; overs = overs; many = omega (arith, many); lines = lines; same = refl },
 )
@@ -48,10 +48,11 @@ returns : tie.Need-returns Inv-loop μ-loop
 returns c =
     let atTwo = c .before .before in
     let l = atTwo .before .before in
-    let a = l .before .before .before .before .before .args in
+    let a = l .before .before .before .before .before .before .args in
     λ routes overs many lines.
     absurd
-    (left-reads (a .n) (now (a .lows)) (now (a .highs)) (now (a .text)) (a .from) (a .to) (marked (l .loop .marks)) (l .loop .direct) (l .loop .p)
+    (left-reads (a .n) (now (a .lows)) (now (a .highs)) (now (a .states)) (now (a .text)) (a .from) (a .to)
+    (marked (l .loop .marks)) (l .loop .direct) (l .loop .p)
     (a .count - l .loop .i) _
     (l .loop .inv .2 routes overs many lines) (omega (arith, atTwo .before .loop-test .taken)) _
     (sym (atTwo .two-lines .ensures) ∙ ap twoGives (c .enum-told .given .1)))
@@ -62,7 +63,7 @@ enum-known-q c = search needs
 route-steps-requires : tie.Need-route-steps-requires Inv-loop μ-loop
 route-steps-requires c κs =
     let l = c .before .before .before .before .before .before in
-    (l .before .before .before .before .before .pre .0, l .loop .inv .0)
+    (l .before .before .before .before .before .before .pre .0, l .loop .inv .0)
 
 good-steps-requires : tie.Need-good-steps-requires Inv-loop μ-loop
 good-steps-requires c κs = tt
@@ -76,10 +77,11 @@ returns-2 c =
     let atQ = atRoute .before .before .before in
     let atTwo = atQ .before .before in
     let l = atTwo .before .before in
-    let a = l .before .before .before .before .before .args in
+    let a = l .before .before .before .before .before .before .args in
     λ routes overs many lines.
     sym
-    (left-fails (a .n) (now (a .lows)) (now (a .highs)) (now (a .text)) (a .from) (a .to) (marked (l .loop .marks)) (l .loop .direct) (l .loop .p)
+    (left-fails (a .n) (now (a .lows)) (now (a .highs)) (now (a .states)) (now (a .text)) (a .from) (a .to)
+    (marked (l .loop .marks)) (l .loop .direct) (l .loop .p)
     (a .count - l .loop .i) _
     (l .loop .marks) refl (l .loop .inv .2 routes overs many lines) (omega (arith, atTwo .before .loop-test .taken)) _ _
     (sym (atTwo .two-lines .ensures) ∙ ap twoGives (atQ .q .given .1)) _ _ (atRoute .route-steps .ensures)
@@ -101,13 +103,14 @@ loop-again c =
     let atQ = atRoute .before .before .before in
     let atTwo = atQ .before .before in
     let l = atTwo .before .before in
-    let a = l .before .before .before .before .before .args in
+    let a = l .before .before .before .before .before .before .args in
     let fewer : a .count - l .loop .i - 1 ≡ a .count - (l .loop .i + 1) = omega arith in (
       atRoute .route-steps .ensures .room,
       omega (arith, atTwo .before .loop-test .taken),
       λ routes overs many lines.
           turned (c .direct-with .ensures) fewer
-          (left-next (a .n) (now (a .lows)) (now (a .highs)) (now (a .text)) (a .from) (a .to) (marked (l .loop .marks)) (l .loop .direct) (l .loop .p)
+          (left-next (a .n) (now (a .lows)) (now (a .highs)) (now (a .states)) (now (a .text)) (a .from) (a .to)
+          (marked (l .loop .marks)) (l .loop .direct) (l .loop .p)
           (a .count - l .loop .i) _
           (l .loop .marks) refl (l .loop .inv .2 routes overs many lines) (omega (arith, atTwo .before .loop-test .taken)) _ _
           (sym (atTwo .two-lines .ensures) ∙ ap twoGives (atQ .q .given .1)) _ _ (atRoute .route-steps .ensures)
@@ -120,10 +123,11 @@ same-length-3 c = search needs
 returns-3 : tie.Need-returns-3 Inv-loop μ-loop
 returns-3 c =
     let l = c .before in
-    let a = l .before .before .before .before .before .args in
+    let a = l .before .before .before .before .before .before .args in
     λ routes overs many lines.
     sym
-    (none-left (a .n) (now (a .lows)) (now (a .highs)) (now (a .text)) (a .from) (a .to) (marked (l .loop .marks)) (l .loop .direct) (l .loop .p)
+    (none-left (a .n) (now (a .lows)) (now (a .highs)) (now (a .states)) (now (a .text)) (a .from) (a .to)
+    (marked (l .loop .marks)) (l .loop .direct) (l .loop .p)
     (a .count - l .loop .i) _
     (l .loop .inv .2 routes overs many lines) (omega (arith, c .loop-test .left)))
 

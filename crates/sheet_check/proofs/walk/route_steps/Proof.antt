@@ -40,17 +40,19 @@ walk-requires c κs = search needs
 returns : tie.Need-returns
 returns c =
     let atFirst = c .before .before in
-    let start = atFirst .before .before .before .before .before .before in
+    let start = atFirst .before .before .before .before .before .before .before in
     let a = start .args in
-    no-route (a .n) (now (a .lows)) (now (a .highs)) (now (a .text)) (a .from) (a .to) (a .relays) (a .links) (now (a .marks)) _
+    no-route (a .n) (now (a .lows)) (now (a .highs)) (now (a .states)) (now (a .text)) (a .from) (a .to)
+    (a .relays) (a .links) (now (a .marks)) _
     (sym (atFirst .word-number .ensures) ∙ ap numberGives (c .enum-told .given .1)) (start .pre .1)
 
 returns-2 : tie.Need-returns-2
 returns-2 c =
     let atWord = c .before .before in
-    let start = atWord .before .before .before .before .before .before .before .before .before .before .before in
+    let start = atWord .before .before .before .before .before .before .before .before .before .before .before .before in
     let a = start .args in
-    no-links (a .n) (now (a .lows)) (now (a .highs)) (now (a .text)) (a .from) (a .to) (a .relays) (a .links) (now (a .marks)) _
+    no-links (a .n) (now (a .lows)) (now (a .highs)) (now (a .states)) (now (a .text)) (a .from) (a .to)
+    (a .relays) (a .links) (now (a .marks)) _
     (sym (atWord .word .ensures) ∙ ap wordGives (c .enum-told2 .given .1)) (start .pre .1)
 
 same-length : tie.Need-same-length
@@ -63,9 +65,10 @@ returns-3 c =
     let atWord = atIf .before .before .before .before in
     let atRelay = atWord .before .before .before in
     let atFirst = atRelay .before .before in
-    let start = atFirst .before .before .before .before .before .before in
+    let start = atFirst .before .before .before .before .before .before .before in
     let a = start .args in
-    starts-here (a .n) (now (a .lows)) (now (a .highs)) (now (a .text)) (a .from) (a .to) (a .relays) (a .links) (now (a .marks)) _ _ _
+    starts-here (a .n) (now (a .lows)) (now (a .highs)) (now (a .states)) (now (a .text)) (a .from) (a .to)
+    (a .relays) (a .links) (now (a .marks)) _ _ _
     (sym (atFirst .word-number .ensures) ∙ ap numberGives (atRelay .first .given .1))
     (sym (atWord .word .ensures) ∙ ap wordGives (atIf .before .before .q .given .1)) (atIf .if1 .taken) _ _ (atWalk .walk .ensures)
 
@@ -74,9 +77,10 @@ returns-4 c =
     let atWord = c .before .before .before .before in
     let atRelay = atWord .before .before .before in
     let atFirst = atRelay .before .before in
-    let start = atFirst .before .before .before .before .before .before in
+    let start = atFirst .before .before .before .before .before .before .before in
     let a = start .args in
-    starts-elsewhere (a .n) (now (a .lows)) (now (a .highs)) (now (a .text)) (a .from) (a .to) (a .relays) (a .links) (now (a .marks)) _ _ _
+    starts-elsewhere (a .n) (now (a .lows)) (now (a .highs)) (now (a .states)) (now (a .text)) (a .from) (a .to)
+    (a .relays) (a .links) (now (a .marks)) _ _ _
     (sym (atFirst .word-number .ensures) ∙ ap numberGives (atRelay .first .given .1))
     (sym (atWord .word .ensures) ∙ ap wordGives (c .before .before .q .given .1)) (c .if1 .left) (start .pre .1)
 

@@ -30,10 +30,12 @@ returns : tie.Need-returns
 returns c =
     let atAll = c .before in
     let atMeet = atAll .before .before .before in
-    let a = atMeet .before .before .before .before .before .before .args in
-    subst (λ (met : ℕ → Bool). RoutesWalked (a .n) (now (a .lows)) (now (a .highs)) (now (a .text)) (a .from) (a .to) met (a .count) (a .at)
+    let start = atMeet .before .before .before .before .before .before .before in
+    let a = start .args in
+    subst (λ (met : ℕ → Bool). RoutesWalked (a .n) (now (a .lows)) (now (a .highs)) (now (a .states)) (now (a .text)) (a .from) (a .to)
+    met (a .count) (a .at)
     (atAll .all-routes .result))
-    (ap marked (atMeet .meet .ensures .1) ∙ from-met _ (a .from) (atMeet .before .before .no-relays .ensures) (omega arith))
+    (ap marked (atMeet .meet .ensures .1) ∙ from-met _ (a .from) (atMeet .before .before .no-relays .ensures) (omega (arith, start .good)))
     (atAll .all-routes .ensures)
 
 pub routes-hold-spec : {M : Type 1} → statement M

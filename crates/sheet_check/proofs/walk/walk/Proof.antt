@@ -14,15 +14,15 @@ use Rattle.sheet_check.proofs.walk.walk.Statement.{statement}
 use Rattle.sheet_check.proofs.walk.walk.Tie as tie
 
 abbrev Inv-loop : tie.InvT-loop
-Inv-loop n lows highs text to first relays links marks₀ a₀ p₀ q₀ steps₀ marks a p q steps =
+Inv-loop n lows highs states text to first relays links marks₀ a₀ p₀ q₀ steps₀ marks a p q steps =
     MarkRoom marks
-    × (walkFrom n lows highs text to (marked marks₀) 0 first relays links ≡ walkFrom n lows highs text to (marked marks) steps a p q)
+    × (walkFrom n lows highs states text to (marked marks₀) 0 first relays links ≡ walkFrom n lows highs states text to (marked marks) steps a p q)
 
 abbrev μ-loop : tie.MeasureT-loop
-μ-loop n lows highs text to first relays links marks₀ a₀ p₀ q₀ steps₀ marks a p q steps = suc (length text) - steps
+μ-loop n lows highs states text to first relays links marks₀ a₀ p₀ q₀ steps₀ marks a p q steps = suc (length text) - steps
 
 loop-holds : tie.Need-loop-holds Inv-loop μ-loop
-loop-holds c = (c .before .before .before .before .pre .1, refl)
+loop-holds c = (c .before .before .before .before .before .pre .1, refl)
 
 next-step-requires : tie.Need-next-step-requires Inv-loop μ-loop
 next-step-requires c κs = tt
@@ -40,11 +40,12 @@ returns : tie.Need-returns Inv-loop μ-loop
 returns c =
     let atNext = c .before .before .before in
     let l = atNext .before .before in
-    let a = l .before .before .before .before .before .args in
+    let a = l .before .before .before .before .before .before .args in
     let none = subst (NextHolds (now (a .text)) (l .loop .p) (l .loop .q)) (c .before .enum-told .given .1) (atNext .next-step .ensures) in
     walked-to
     (l .loop .inv .1
-    ∙ walk-ends (a .n) (now (a .lows)) (now (a .highs)) (now (a .text)) (a .to) (marked (l .loop .marks)) (l .loop .steps) (l .loop .a)
+    ∙ walk-ends (a .n) (now (a .lows)) (now (a .highs)) (now (a .states)) (now (a .text)) (a .to)
+    (marked (l .loop .marks)) (l .loop .steps) (l .loop .a)
     (l .loop .p) (l .loop .q) (none .0) (none .1))
     (c .steps-at .ensures) (l .loop .inv .0)
 
@@ -58,11 +59,12 @@ returns-2 : tie.Need-returns-2 Inv-loop μ-loop
 returns-2 c =
     let atNext = c .before .before in
     let l = atNext .before .before in
-    let a = l .before .before .before .before .before .args in
+    let a = l .before .before .before .before .before .before .args in
     let uneven = subst (NextHolds (now (a .text)) (l .loop .p) (l .loop .q)) (c .enum-told2 .given .1) (atNext .next-step .ensures) in
     walked-to
     (l .loop .inv .1
-    ∙ walk-uneven (a .n) (now (a .lows)) (now (a .highs)) (now (a .text)) (a .to) (marked (l .loop .marks)) (l .loop .steps) (l .loop .a)
+    ∙ walk-uneven (a .n) (now (a .lows)) (now (a .highs)) (now (a .states)) (now (a .text)) (a .to)
+    (marked (l .loop .marks)) (l .loop .steps) (l .loop .a)
     (l .loop .p) (l .loop .q) (atNext .before .loop-test .taken) uneven)
     refl (l .loop .inv .0)
 
@@ -72,7 +74,7 @@ enum-known-b c = search needs
 step-requires : tie.Need-step-requires Inv-loop μ-loop
 step-requires c κs =
     let l = c .before .before .before .before .before .before in
-    (l .before .before .before .before .before .pre .0, l .loop .inv .0)
+    (l .before .before .before .before .before .before .pre .0, l .loop .inv .0)
 
 same-length-3 : tie.Need-same-length-3 Inv-loop μ-loop
 same-length-3 c = search needs
@@ -83,12 +85,13 @@ returns-3 c =
     let atB = atStep .before .before .before in
     let atNext = atB .before .before in
     let l = atNext .before .before in
-    let a = l .before .before .before .before .before .args in
+    let a = l .before .before .before .before .before .before .args in
     let next = subst (NextHolds (now (a .text)) (l .loop .p) (l .loop .q)) (atB .b .given .1) (atNext .next-step .ensures) in
     let stepped = atStep .step .ensures in
     walk-failed
     (l .loop .inv .1
-    ∙ walk-fails (a .n) (now (a .lows)) (now (a .highs)) (now (a .text)) (a .to) (marked (l .loop .marks)) (l .loop .steps) (l .loop .a)
+    ∙ walk-fails (a .n) (now (a .lows)) (now (a .highs)) (now (a .states)) (now (a .text)) (a .to)
+    (marked (l .loop .marks)) (l .loop .steps) (l .loop .a)
     (l .loop .p) (l .loop .q) (atNext .before .loop-test .taken) _ _ _ _ (next .0) (next .1)
     (sym (stepped .holds) ∙ not-true _ (c .if1 .taken)))
     (stepped .room)
@@ -105,13 +108,14 @@ loop-again c =
     let atB = atStep .before .before .before in
     let atNext = atB .before .before in
     let l = atNext .before .before in
-    let a = l .before .before .before .before .before .args in
+    let a = l .before .before .before .before .before .before .args in
     let next = subst (NextHolds (now (a .text)) (l .loop .p) (l .loop .q)) (atB .b .given .1) (atNext .next-step .ensures) in
     let stepped = atStep .step .ensures in
     let holds = not-false _ (c .if1 .left) in (
       stepped .room,
       l .loop .inv .1
-          ∙ walk-steps (a .n) (now (a .lows)) (now (a .highs)) (now (a .text)) (a .to) (marked (l .loop .marks)) (l .loop .steps) (l .loop .a)
+          ∙ walk-steps (a .n) (now (a .lows)) (now (a .highs)) (now (a .states)) (now (a .text)) (a .to)
+          (marked (l .loop .marks)) (l .loop .steps) (l .loop .a)
           (l .loop .p) (l .loop .q) (atNext .before .loop-test .taken) _ _ _ _ (next .0) (next .1) _ (stepped .met holds) (sym (stepped .holds) ∙ holds),
     )
 
@@ -124,10 +128,11 @@ same-length-4 c = search needs
 returns-4 : tie.Need-returns-4 Inv-loop μ-loop
 returns-4 c =
     let l = c .before .before in
-    let a = l .before .before .before .before .before .args in
+    let a = l .before .before .before .before .before .before .args in
     walked-to
     (l .loop .inv .1
-    ∙ walk-last (a .n) (now (a .lows)) (now (a .highs)) (now (a .text)) (a .to) (marked (l .loop .marks)) (l .loop .steps) (l .loop .a)
+    ∙ walk-last (a .n) (now (a .lows)) (now (a .highs)) (now (a .states)) (now (a .text)) (a .to)
+    (marked (l .loop .marks)) (l .loop .steps) (l .loop .a)
     (l .loop .p) (l .loop .q) (omega (arith, c .before .loop-test .left)))
     (c .steps-at2 .ensures) (l .loop .inv .0)
 

@@ -1,8 +1,8 @@
--- `sheet_check::walk::is_pair` meets its contract. Assumes nothing.
+-- `sheet_check::link::is_pair` meets its contract. Assumes nothing.
 use mathlib.Core.Path.{sym}
 use borrow.Author.Tests.{eq-eqb, ne-eqb}
-use Rattle.sheet_check.proofs.walk.is_pair.Statement.{statement}
-use Rattle.sheet_check.proofs.walk.is_pair.Tie as tie
+use Rattle.sheet_check.proofs.link.is_pair.Statement.{statement}
+use Rattle.sheet_check.proofs.link.is_pair.Tie as tie
 
 returns : tie.Need-returns
 returns c =

@@ -1,4 +1,4 @@
--- `sheet_check::walk::link_joins` meets its contract: the link is there, and it is the pair one way round or the other. Assumes nothing.
+-- `sheet_check::link::link_joins` meets its contract: the link is there, and it is the pair one way round or the other. Assumes nothing.
 use mathlib.Core.Bool.{true, false, _&&_}
 use mathlib.Core.Path.{_≡_, sym, _∙_}
 use native.Mathlib.Omega.{arith}
@@ -8,8 +8,8 @@ use borrow.Author.Tests.{lt-ltb, le-ltb}
 use denote.Ref.{now}
 use Rattle.definitions.specs.Network.{isPair, joins}
 use borrow.Author.Needs.{needs}
-use Rattle.sheet_check.proofs.walk.link_joins.Statement.{statement}
-use Rattle.sheet_check.proofs.walk.link_joins.Tie as tie
+use Rattle.sheet_check.proofs.link.link_joins.Statement.{statement}
+use Rattle.sheet_check.proofs.link.link_joins.Tie as tie
 
 returns : tie.Need-returns
 returns c =
