@@ -1,14 +1,15 @@
 # For tests/launcher: what `verify` says of a sheet that fails, of each refusal, and of files and programs that are no good.
 cp "$mesh_file" "$work/m.net"
+net=m.net
 front='(sheet (from 4) (to 1) (k 2))\n'
 via2='(route 4 2 1)\n(over 5 2)\n'
 via3='(route 4 3 1)\n(over 6 3)\n'
 back='(kept 7)\n(end)\n'
 
-# reads WHAT SHEET LINE STATUS WORDS: the mesh with this sheet gets this line and status, and just these words beside it.
+# reads WHAT SHEET LINE STATUS WORDS: the network $net with this sheet gets this line and status, and just these words beside it.
 reads() {
     printf '%b' "$2" >"$work/a.sheet"
-    ask "$copy/verify" m.net a.sheet
+    ask "$copy/verify" "$net" a.sheet
     same "$1: the line" "$3"$'\n'"status $4" "$output"
     same "$1" "$5" "$words"
 }
@@ -39,6 +40,25 @@ wrong_one 'one link twice' "(sheet (from 0) (to 1) (k 2))\n(route 0 1)\n(over 0)
 wrong_one 'the count of kept links' "$front$via3$via2(kept 6)\n(end)\n" 6 'kept is 6, and that is not how many links are worth keeping for k 2; ./keep 2 m.net tells that'
 reads 'k 0' "(sheet (from 4) (to 1) (k 0))\n$back" '(refused 15 0)' 1 'verify: refused (15): a.sheet, line 1: k is 0; 1 to 32 can be asked for'
 reads 'k 33' "(sheet (from 4) (to 4) (k 33))\n$via3$back" '(refused 15 0)' 1 'verify: refused (15): a.sheet, line 1: k is 33; 1 to 32 can be asked for'
+
+# The mesh without relay 2, and without 0 and 3: a sheet that goes through a withdrawn relay fails, and that is said before its count.
+single='(sheet (from 4) (to 1) (k 1))\n'
+net=without.net
+cp "$copy/networks/mesh-without-2.net" "$work/$net"
+reads 'a sheet past the withdrawn relay' "$single$via3(kept 3)\n(end)\n" '(holds)' 0 ''
+wrong_one 'a withdrawn relay on a route' "$single$via2(kept 3)\n(end)\n" '2, route 1' 'relay 2 is withdrawn: line 9 of without.net has (out 2)'
+wrong_one 'a withdrawn relay on the second route' "$front$via3$via2$back" '4, route 2' 'relay 2 is withdrawn: line 9 of without.net has (out 2)'
+wrong_one 'a withdrawn relay further along' "(sheet (from 4) (to 0) (k 1))\n(route 4 3 1 2 0)\n(over 6 3 2 1)\n(kept 3)\n(end)\n" '2, route 1' 'relay 2 is withdrawn: line 9 of without.net has (out 2)'
+wrong_one 'a from that is withdrawn' "(sheet (from 2) (to 4) (k 1))\n(route 2 4)\n(over 5)\n(kept 3)\n(end)\n" 1 'relay 2 is withdrawn: line 9 of without.net has (out 2)'
+wrong_one 'a to that is withdrawn' "(sheet (from 4) (to 2) (k 1))\n(route 4 2)\n(over 5)\n(kept 3)\n(end)\n" 1 'relay 2 is withdrawn: line 9 of without.net has (out 2)'
+wrong_one 'a circuit of a withdrawn relay' "$single(route 4 3 1)\n(over 5 3)\n(kept 3)\n(end)\n" '3, route 1' 'from relay 4 to relay 3 it has circuit 5; the link between them is circuit 6 (without.net, line 8)'
+wrong_one 'the count of the time before' "$single$via3(kept 4)\n(end)\n" 4 'kept is 4, and that is not how many links are worth keeping for k 1; ./keep 1 without.net tells that'
+printf '%b' "${mesh%'(end)\n'}(out 0)\n(out 3)\n(end)\n" >"$work/$net"
+wrong_one 'the second of two withdrawn relays' "$single$via3(kept 2)\n(end)\n" '2, route 1' 'relay 3 is withdrawn: line 10 of without.net has (out 3)'
+wrong_one 'the first of them for an end' "(sheet (from 4) (to 0) (k 1))\n(route 4 2 0)\n(over 5 1)\n(kept 2)\n(end)\n" 1 'relay 0 is withdrawn: line 9 of without.net has (out 0)'
+reads 'a sheet past both' "$single$via2(kept 2)\n(end)\n" '(holds)' 0 ''
+reads 'a form that departs, behind out lines' "${single}x" '(refused 14 30)' 1 $'verify: refused (14): a.sheet, line 2, column 1: this is not the form that is due\n    x\n    ^\nverify: due there: a line (route A B ..) or the line (kept N)'
+net=m.net
 
 # strays WHAT SHEET PLACE LINE COLUMN CAUSE SHOWN DUE [MARK]: a sheet refused with 14, and the column of the mark where it is another.
 strays() {
@@ -94,14 +114,15 @@ network 'links that are missing in a network' "$head(link 0 1)\n" '(refused 2 39
 network 'an empty network' '' '(refused 2 1)' 'verify: refused (2): a.net, line 1, column 1: the file is empty'
 network 'a sheet for a network' "$front$back" '(refused 2 1)' 'verify: refused (2): a.net, line 1, column 2: this is a sheet; the network file is named first, the sheet second'
 network 'a network of no relay' '(net (relays 0) (links 0))\n(end)\n' '(refused 3 0)' 'verify: refused (3): a.net, line 1, announces 0 relays; 1 to 1,000 are allowed'
-network 'a network with an out line of no relay' "$head$body(out 5)\n(end)\n" '(refused 16 0)' 'verify: refused (16): a.net, line 4: (out 5) names a relay that the network does not have; it has the relays 0 to 4'
-network 'a network without its end, behind an out line' "$head$body(out 1)\n" '(refused 2 58)' 'verify: refused (2): a.net, line 5, column 1: the file ends without its last line, (end)'
-network 'a withdrawn relay on a route' "$(without "$mesh" 2)" '(fails)' 'verify: fails: a.sheet, line 4, route 2: relay 2 is withdrawn (a.net, line 9)'
-network 'a withdrawn end' "$(without "$mesh" 0 1)" '(fails)' 'verify: fails: a.sheet, line 1: relay 1 is withdrawn (a.net, line 10)'
-network 'a withdrawn relay beside the routes' "$(without "$mesh" 0)" '(fails)' 'verify: fails: a.sheet, line 6: kept is 7, and that is not how many links are worth keeping for k 2; ./keep 2 a.net tells that'
 network 'a network with a link twice' "$head(link 0 1)\n(link 0 1)\n(end)\n" '(refused 7 1)' 'verify: refused (7): a.net, line 3: (link 0 1) stands already in line 2'
 network 'a blank line behind the network' "$mesh\n" '(refused 14 0)' $'verify: refused (14): a.net, line 10, column 1: a blank line\n    \n    ^\nverify: due there: nothing, since (end) is the last line'
 network 'words behind the network' "${mesh}Regards\n" '(refused 14 0)' $'verify: refused (14): a.net, line 10, column 1: something stands behind the last line\n    Regards'
+network 'an out line behind the network' "$mesh(out 2)\n" '(refused 14 1)' $'verify: refused (14): a.net, line 10, column 1: a line (out R) stands behind (end); put it in front of that\n    (out 2)'
+network 'words behind a network with an out line' "${mesh%'(end)\n'}(out 2)\n(end)\nRegards\n" '(refused 14 0)' $'verify: refused (14): a.net, line 11, column 1: something stands behind the last line\n    Regards'
+network 'a network with an out line and without its end' "$head$body(out 2)\n" '(refused 2 58)' $'verify: refused (2): a.net, line 5, column 1: the file ends without its last line, (end)\n    \n    ^\nverify: due there: a line (out R) or the line (end)'
+network 'a network that breaks off in an out line' "$head$body(out 2" '(refused 2 55)' $'verify: refused (2): a.net, line 4, column 7: the file ends in the middle of a line\n    (out 2\n          ^\nverify: due there: a line (out R)'
+network 'a network with an out line of no relay' "$head$body(out 5)\n(end)\n" '(refused 16 0)' 'verify: refused (16): a.net, line 4: (out 5) names a relay that the network does not have; it has the relays 0 to 4'
+network 'a relay withdrawn beside the routes' "${mesh%'(end)\n'}(out 0)\n(end)\n" '(fails)' 'verify: fails: a.sheet, line 6: kept is 7, and that is not how many links are worth keeping for k 2; ./keep 2 a.net tells that'
 network 'a network of one relay' '(net (relays 1) (links 0))\n(end)\n' '(fails)' 'verify: fails: a.sheet, line 1: relay 4 is not in the network; it has relay 0 alone'
 printf '%b' "$front$via3$via2$back" >"$work/-s"
 ask "$copy/verify" m.net -s

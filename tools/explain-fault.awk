@@ -3,7 +3,7 @@
 
 !end && /^\(net / { numbers($0, value); relays = value[1] }
 !end && /^\(link / { numbers($0, value); index_of[value[1], value[2]] = links++ }
-!end && /^\(out / { numbers($0, value); out_line[value[1]] = NR }
+!end && /^\(out / { numbers($0, value); line_out[value[1]] = NR }
 !end && /^\(end/ { end = NR; next }
 end { line[NR - end] = $0 }
 
@@ -28,11 +28,11 @@ function at(where) { return ENVIRON["sheet"] ", line " where (where > 1 && where
 
 function of(count, thing) { return count " " thing (count == 1 ? "" : "s") }
 
-# Why a relay cannot be on a sheet; nothing where it can.
-function unknown(relay) {
-    if (relay in out_line) return "relay " relay " is withdrawn (" ENVIRON["network"] ", line " out_line[relay] ")"
-    if (relay < relays) return ""
-    return "relay " relay " is not in the network; it has " (relays == 1 ? "relay 0 alone" : "the relays 0 to " relays - 1)
+# Why no route goes through a relay: it is not in the network, or withdrawn. Nothing where one may.
+function closed(relay) {
+    if (relay >= relays) return "relay " relay " is not in the network; it has " (relays == 1 ? "relay 0 alone" : "the relays 0 to " relays - 1)
+    if (relay in line_out) return "relay " relay " is withdrawn: line " line_out[relay] " of " ENVIRON["network"] " has (out " relay ")"
+    return ""
 }
 
 # What is wrong first: the head, the routes one by one, and last the count of kept links.
@@ -46,7 +46,7 @@ function wrong(    route, words) {
 
 function wrong_head(    i) {
     if (head[1] == head[2]) return at(1) ": from and to are the same relay, " head[1]
-    for (i = 1; i <= 2; i++) if (unknown(head[i]) != "") return at(1) ": " unknown(head[i])
+    for (i = 1; i <= 2; i++) if (closed(head[i]) != "") return at(1) ": " closed(head[i])
     if (routes != head[3]) return at(1) ": k is " head[3] ", and the sheet has " of(routes, "route")
     return ""
 }
@@ -70,7 +70,7 @@ function wrong_relays(route, steps,    i, r) {
     if (relay[1] != head[1]) return "it starts at relay " relay[1] ", not at " head[1]
     for (i = 1; i <= steps + 1; i++) {
         r = relay[i]
-        if (unknown(r) != "") return unknown(r)
+        if (closed(r) != "") return closed(r)
         if (on[r] == route) return "relay " r " stands twice in it"
         if (on[r] && r != head[1] && r != head[2]) return "relay " r " stands on route " on[r] " too (line " 2 * on[r] ")"
         if (i > 1 && link(relay[i - 1], r) == "") return "relays " relay[i - 1] " and " r " are not linked"

@@ -6,7 +6,6 @@ END {
     again = ENVIRON["again"] + 0
     find_lines()
     find_counts()
-    find_last()
     if (number == 2 || number == 14) form()
     else if (number == 3) header("announces " of(relays, "relay") "; 1 to 1,000 are allowed")
     else if (number == 4) header("announces " of(links, "link") "; 3,000 are the most. Pass the file on to the network planners")
@@ -15,25 +14,31 @@ END {
     else if (number == 10) ends()
     else if (number == 11) refused("FROM and TO are the same relay, " ENVIRON["typed_FROM"])
     else if (number == 13) apart()
-    else if (number == 16) outs()
-    else if (number == 17) withdrawn()
+    else if (number == 16) out_lines()
+    else if (number == 17) ends_withdrawn()
     else refused("docs/DESK.md may tell more")
 }
 
-# What line 1 announces, where it is of its form.
+# What line 1 announces, where it is of its form, and the lines (out R) behind the links.
 function find_counts(    parts) {
     relays = links = ""
+    outs = 0
     if (text(1) ~ /^\(net \(relays [0-9]+\) \(links [0-9]+\)\)$/) {
         split(text(1), parts, /[^0-9]+/)
         relays = parts[2] + 0
         links = parts[3] + 0
+        find_outs()
     }
 }
 
-# The line of the end: the first one behind the links that does not begin as an out line.
-function find_last() {
-    last = links + 2
-    while (last < lines && text(last) ~ /^\(out /) last++
+# How many lines (out R) there are, the relay of each, and the first line of each relay.
+function find_outs(    line, parts) {
+    for (line = links + 2; line <= lines && text(line) ~ /^\(out [0-9]+\)$/; line++) {
+        split(text(line), parts, /[^0-9]+/)
+        outs++
+        relay_out[line] = parts[2] + 0
+        if (!(relay_out[line] in line_out)) line_out[relay_out[line]] = line
+    }
 }
 
 # How many there are of a thing.
@@ -41,11 +46,11 @@ function of(count, thing) { return (count == "" ? "another number of" : count) "
 
 function header(words) { refused(ENVIRON["file"] ", line 1, " words) }
 
-# The form of a line that the file is to have there.
+# The form of a line that the file is to have there: behind the links the second byte says which of two.
 function due(line) {
     if (line == 1) return "a line (net (relays N) (links M))"
     if (line <= links + 1) return "a line (link A B)"
-    if (line > last) return "nothing, since (end) is the last line"
+    if (text(line - 1) == "(end)") return "nothing, since (end) is the last line"
     if (place > start[line] + 1) return byte[start[line] + 1] == 111 ? "a line (out R)" : "the line (end)"
     return "a line (out R) or the line (end)"
 }
@@ -70,16 +75,32 @@ function cause(line, column,    words) {
     if (ENVIRON["command"] == "verify" && text(1) ~ /^\(sheet /) return "this is a sheet; the network file is named first, the sheet second"
     if (place >= size) return cut_short(line, column)
     if ((words = blank_cause(line, column)) != "") return words
-    if (line > last && links != "") return "something stands behind the last line"
-    if (line > 1 && (text(line) ~ /^\((end|out )/ && line <= links + 1 || text(line) ~ /^\(link / && line > links + 1)) return miscounted()
+    if (line > 1 && (words = line_cause(line)) != "") return words
     return byte_cause(column, "a network file")
 }
 
-function miscounted(    line, count) {
-    count = 0
-    for (line = 2; line <= lines; line++) if (text(line) ~ /^\(link /) count++
-    if (count == links) return "the lines (out R) stand behind all the link lines"
-    return "line 1 announces " of(links, "link") ", and the file has " of(count, "link line")
+# A cause that is a line where it does not belong, or a line (out R) with two relays, where one is seen.
+function line_cause(line) {
+    if (text(line - 1) == "(end)" && text(line) ~ /^\(out /) return "a line (out R) stands behind (end); put it in front of that"
+    if (text(line - 1) == "(end)") return "something stands behind the last line"
+    if (line <= links + 1) return text(line) ~ /^\((end|out)/ ? miscounted() : ""
+    if (text(line) ~ /^\(link /) return miscounted()
+    if (byte[place] == 32 && text(line) ~ /^\(out [0-9]+ [0-9]/) return "a line (out R) has one relay; write a line for each"
+    return ""
+}
+
+# Link lines that are too many or too few, or that stand behind lines (out R) or behind (end).
+function miscounted(    line, count, passed, mixed, words) {
+    count = passed = mixed = 0
+    for (line = 2; line <= lines; line++) {
+        if (text(line) ~ /^\(out/) passed = 1
+        if (text(line) !~ /^\(link /) continue
+        count++
+        if (passed) mixed = 1
+    }
+    words = "line 1 announces " of(links, "link") ", and the file has " of(count, "link line")
+    if (mixed) return (count == links ? "" : words "; ") "the lines (out R) go between the last link line and (end)"
+    return count == links ? "a link line stands behind (end)" : words
 }
 
 # The cause where the file ends too early.
@@ -125,48 +146,45 @@ function ends(    from, to, who) {
     refused(who " is " (who ~ /^n/ ? "" : "not ") "a relay of this network; " range())
 }
 
-# The relay of an out line.
-function out_relay(line,    parts) {
-    split(text(line), parts, /[^0-9]+/)
-    return parts[2] + 0
-}
-
-# 16: the first out line whose relay is not below n, or not above the one before.
-function outs(    line, where, relay, before) {
-    if (!again) {
-        refused(ENVIRON["file"] ": a line (out R) names a relay that the network does not have, or one that is not above that of the line before")
-        return
-    }
-    before = -1
-    for (line = links + 2; (relay = out_relay(line)) < relays && relay > before && line < last; line++) before = relay
-    where = ENVIRON["file"] ", line " line ": " text(line)
-    if (relay >= relays) refused(where " names a relay that the network does not have; " range())
-    else if (relay == before) refused(where " stands already in the line before; delete one of the two")
-    else refused(where " comes behind " text(line - 1) "; the relays withdrawn are to be in rising order")
-}
-
-# Where a relay is withdrawn; nothing where it is not, or where the file cannot be had again.
-function out_line(relay,    line) {
-    for (line = links + 2; again && line < last; line++) if (out_relay(line) == relay) return line
-    return ""
-}
-
-# 17: which end is withdrawn.
-function withdrawn(    from, to, from_line, to_line) {
-    from = ENVIRON["typed_FROM"]
-    to = ENVIRON["typed_TO"]
-    from_line = out_line(from)
-    to_line = out_line(to)
-    if (from_line != "" && to_line != "") refused("FROM " from " and TO " to " are both withdrawn (" ENVIRON["file"] ", lines " from_line " and " to_line ")")
-    else if (from_line != "") refused("FROM " from " is withdrawn (" ENVIRON["file"] ", line " from_line ")")
-    else if (to_line != "") refused("TO " to " is withdrawn (" ENVIRON["file"] ", line " to_line ")")
-    else refused("FROM " from " or TO " to " is withdrawn")
-}
-
 function apart(    k, two) {
     k = ENVIRON["typed_K"]
     two = "relays " ENVIRON["typed_FROM"] " and " ENVIRON["typed_TO"]
-    if (k + 0 == 1 && last > links + 2) refused(two " are not joined through relays in service: there is no route between them")
+    if (k + 0 == 1 && outs) refused(two " are not joined through relays in service: there is no route between them (" ENVIRON["file"] " has " of(outs, "line") " (out R))")
     else if (k + 0 == 1) refused(two " are not joined at all: there is no route between them")
     else refused(two " are not in one tree of forest " k "; ask for a smaller K (this does not mean that there are no " k " routes)")
+}
+
+# 16: the first line (out R) that is not good.
+function out_lines(    line, words) {
+    for (line = links + 2; line in relay_out; line++) {
+        words = wrong_out(line)
+        if (words == "") continue
+        refused(ENVIRON["file"] ", line " line ": " text(line) " " words)
+        return
+    }
+    refused(ENVIRON["file"] ": a line (out R) names a relay that the network does not have, stands twice or is not in rising order")
+}
+
+# What is wrong with a line (out R), where the lines before it are good.
+function wrong_out(line,    relay) {
+    relay = relay_out[line]
+    if (relay >= relays) return "names a relay that the network does not have; " range() ". Correct the number or delete the line"
+    if (line_out[relay] < line) return "stands already in line " line_out[relay] "; delete one of the two"
+    if (line > links + 2 && relay < relay_out[line - 1]) return "is not in rising order behind " text(line - 1) "; order the lines (out R) by number, the lowest first"
+    return ""
+}
+
+# 17: which ends are withdrawn.
+function ends_withdrawn(    found) {
+    found = end_withdrawn("FROM")
+    if (end_withdrawn("TO") || found) return
+    refused("FROM " ENVIRON["typed_FROM"] " or TO " ENVIRON["typed_TO"] " is withdrawn; choose another relay; or, when it is back in service, delete its line (out R) and ask again")
+}
+
+# Says of an end that it is withdrawn; gives whether it is.
+function end_withdrawn(name,    relay) {
+    relay = ENVIRON["typed_" name]
+    if (!(relay in line_out)) return 0
+    refused(name " " relay " is withdrawn: line " line_out[relay] " of " ENVIRON["file"] " has (out " relay "); choose another relay; or, when relay " relay " is back in service, delete the line and ask again")
+    return 1
 }

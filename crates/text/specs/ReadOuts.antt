@@ -179,20 +179,19 @@ module _ (text : List ℕ) (n at : ℕ) where
         ∙ end-same text n p lows highs (take next states) (take n statesThen)
         (all-served n next states told ∙ sym (s .front) ∙ sym (all-told n statesThen (omega (arith, s .same))))
 
--- All states are told, and then the end is read or refused.
-module _ (text : List ℕ) (n at : ℕ) (states statesThen : List ℕ) (room : n ≤ length states) where
-  pub states-refused : (r : Step) (refusal : Refusal) → OutsRead text n at states statesThen r → r ≡ step.Refused refusal
-      → StatesRead text n at states statesThen (step.Refused refusal)
-  states-refused r refusal outs e =
+-- A line was refused, or all states are told and the end is read or refused.
+module _ (text : List ℕ) (n at : ℕ) (states statesThen : List ℕ) (r : Step) (outs : OutsRead text n at states statesThen r) where
+  pub outs-refused : (refusal : Refusal) → r ≡ step.Refused refusal → StatesRead text n at states statesThen (step.Refused refusal)
+  outs-refused refusal e =
       record {
         follows = λ lows highs.
             outs .follows lows highs ∙ ap (λ (s : Step). onStep s (readEnd text n lows highs (take n statesThen))) e;
         same = outs .same;
       }
 
-  pub states-end : (r q : Step) (p : ℕ) → OutsRead text n at states statesThen r → r ≡ step.Next p → EndRead text p q
+  pub outs-told : (q : Step) (p : ℕ) → n ≤ length states → r ≡ step.Next p → EndRead text p q
       → StatesRead text n at states statesThen q
-  states-end r q p outs e ends =
+  outs-told q p room e ends =
       record {
         follows = λ lows highs.
             outs .follows lows highs

@@ -1,4 +1,4 @@
--- The form of a line of two numbers, and the answers of the reading functions as the definitions' `Scan`, case by case.
+-- The forms of lines of two numbers and of one, and the answers of the reading functions as the definitions' `Scan`, case by case.
 -- Assumes nothing.
 use Prim.Native.Nat.{ℕ}
 use mathlib.Core.List.{List, [], _∷_}

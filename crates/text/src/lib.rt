@@ -45,6 +45,7 @@ pub enum WriteAnswer {
 }
 
 // The length of a table's text: the words of a header line have 25 bytes, those of a link line 9, and the end line has 6.
+// The `out` lines are counted apart.
 fn text_length(n: u16, lows: &[u16], highs: &[u16], states: &[u16]) -> usize
     requires { ⌜ (length (now lows) ≡ length (now highs)) × (length (now lows) ≤ 3000) × (length (now states) ≤ 1000) ⌝ }
     ensures { λ r. ⌜ r ≡ length (textOf n (now (lows .entry)) (now (highs .entry)) (now (states .entry))) ⌝ }

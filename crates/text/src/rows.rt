@@ -1,4 +1,4 @@
-// The link lines of a text into the two lists of a table, and the end behind them.
+// The link lines of a text into the two lists of a table, and its end.
 ghost use mathlib.Core.List.{[]};
 ghost use mathlib.Core.Path.{_≡_};
 ghost use Prim.Native.Nat.{_≤_, _<_};

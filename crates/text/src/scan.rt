@@ -1,4 +1,4 @@
-// Reading from left to right: a word, a number, and a line of two numbers, from an offset on.
+// Reading from left to right: a word, a number, and lines of one and of two numbers, from an offset on.
 // Each tells the first byte that departs, or what was read and the offset behind it.
 ghost use mathlib.Core.Bool.{true};
 ghost use mathlib.Core.List.{[], _∷_};

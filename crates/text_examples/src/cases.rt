@@ -1,14 +1,15 @@
-// The texts of standard input, each with a label and with two digits for the lengths of the lists that it is read into.
+// The texts of standard input, each with a label and with the lengths of the three lists that it is read into.
 ghost use Prim.Native.Nat.{_≤_, _<_};
 ghost use lib.ListN.{length};
-ghost use Rattle.io.specs.Counts.{Counts};
 use libc::STDOUT_FILENO;
 
-// A text into two lists.
-fn read(input: &[u8], lows: &mut [u16], highs: &mut [u16]) {
-    crate::answers::show_read(text::read(input, lows, highs));
+// A text into three lists; of the states the first twelve are shown.
+fn read(input: &[u8], lows: &mut [u16], highs: &mut [u16], states: &mut [u16]) {
+    crate::answers::show_read(text::read(input, lows, highs, states));
     show::show_list(b" lows", lows);
     show::show_list(b" highs", highs);
+    let shown = crate::lists::front(12, states);
+    show::show_list(b" states", &states[..shown]);
     io::write_all(STDOUT_FILENO, b"\n");
 }
 
@@ -20,26 +21,26 @@ fn digit(byte: u8) -> usize {
     (byte - 48) as usize
 }
 
-// As many of a list's entries as are wanted, or all of them.
-fn front(wanted: usize, list: &[u16]) -> usize
-    ensures { λ r. ⌜ Counts r (now (list .entry)) ⌝ }
-{
-    if list.len() < wanted {
-        return list.len();
+// How long a list of states is to be: what a digit says, or 1,000 for a `+`.
+fn room(byte: u8) -> usize {
+    if byte == b'+' {
+        return 1000;
     }
-    wanted
+    digit(byte)
 }
 
-// A text into the fronts of two lists of nines: the head of the label has a digit for each.
+// A text into the fronts of three lists of nines: the head of the label has the length of each.
 fn read_labelled(label: &[u8], input: &[u8]) {
-    if 4 <= label.len() {
-        io::write_all(STDOUT_FILENO, &label[4..]);
+    if 6 <= label.len() {
+        io::write_all(STDOUT_FILENO, &label[6..]);
         io::write_all(STDOUT_FILENO, b":");
-        let mut lows = [9u16; 3];
-        let mut highs = [9u16; 3];
-        let a = front(digit(label[0]), &lows);
-        let b = front(digit(label[2]), &highs);
-        read(input, &mut lows[..a], &mut highs[..b]);
+        let mut lows = [9u16; 9];
+        let mut highs = [9u16; 9];
+        let mut states = crate::lists::nines();
+        let a = crate::lists::front(digit(label[0]), &lows);
+        let b = crate::lists::front(digit(label[2]), &highs);
+        let c = crate::lists::front(room(label[4]), &states);
+        read(input, &mut lows[..a], &mut highs[..b], &mut states[..c]);
     }
 }
 
@@ -87,11 +88,11 @@ pub fn read_all(input: &[u8]) {
 // Two bytes that a file of lines does not show.
 pub fn odd_bytes() {
     read_labelled(
-        b"3 3 byte 13 in front of the line end",
+        b"3 3 6 byte 13 in front of the line end",
         b"(net (relays 4) (links 0))\r\n(end)\n",
     );
     read_labelled(
-        b"3 3 a byte 0 after the end",
+        b"3 3 6 a byte 0 after the end",
         b"(net (relays 4) (links 1))\n(link 0 1)\n(end)\n\0",
     );
 }

@@ -5,9 +5,10 @@ ghost use lib.ListN.{length};
 use libc::STDOUT_FILENO;
 use text::ReadAnswer;
 
-// One outcome in short, of a text read into lists of three entries.
+// One outcome in short, of a text read into lists of three links and 1,000 states.
 fn code(input: &[u8]) {
-    match text::read(input, &mut [9u16; 3], &mut [9u16; 3]) {
+    let mut states = crate::lists::nines();
+    match text::read(input, &mut [9u16; 3], &mut [9u16; 3], &mut states) {
         ReadAnswer::Table(_, _) => {
             io::write_all(STDOUT_FILENO, b" ok");
         }
@@ -73,15 +74,19 @@ fn all_replaced(bytes: &[u8], input: &mut [u8]) {
 // A good text with numbers of one to four digits, written and then changed.
 fn change(buffer: &mut [u8]) {
     io::write_all(STDOUT_FILENO, b"to be changed:");
-    crate::tables::write_into(1000, &[0u16, 3, 33], &[3u16, 30, 333], buffer);
+    let mut states = crate::lists::ones();
+    states[3] = 0;
+    states[30] = 0;
+    states[303] = 0;
+    crate::tables::write_into(1000, &[0u16, 3, 33], &[3u16, 30, 333], &states, buffer);
     io::write_all(STDOUT_FILENO, b"prefixes:");
     prefixes(buffer);
     io::write_all(STDOUT_FILENO, b"\n");
-    all_replaced(b"\x00\xff03 ()\n\r", buffer);
+    all_replaced(b"\x00\xff03 ()\n\reo", buffer);
 }
 
 // The first bytes of a buffer, as many as that text has.
 pub fn changed_texts(buffer: &mut [u8]) {
-    let size = io::count(73, buffer);
+    let size = io::count(100, buffer);
     change(&mut buffer[..size]);
 }

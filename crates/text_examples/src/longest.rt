@@ -1,4 +1,4 @@
-// The longest text there is, written and read back.
+// The longest text there is, with every relay withdrawn, and the longest with all in service, written and read back.
 ghost use mathlib.Core.Path.{_≡_};
 ghost use Prim.Native.Nat.{_≤_, _<_};
 ghost use lib.ListN.{length};
@@ -10,10 +10,10 @@ fn no_links() -> [u16; 3000]
     [0; 3000]
 }
 
-pub fn no_bytes() -> [u8; 45039]
-    ensures { λ r. ⌜ 45039 ≡ length r ⌝ }
+pub fn no_bytes() -> [u8; 54929]
+    ensures { λ r. ⌜ 54929 ≡ length r ⌝ }
 {
-    [0; 45039]
+    [0; 54929]
 }
 
 // Different links: link i joins 100 + i / 100 and 200 + i % 100.
@@ -64,28 +64,57 @@ fn count_filled(lows: &[u16], highs: &[u16]) -> usize
     count
 }
 
-// A text read, and how many links stand in the lists afterwards.
-fn read_filled(input: &[u8], lows: &mut [u16], highs: &mut [u16])
-    requires { ⌜ (length (now lows) ≡ 3000) × (length (now highs) ≡ 3000) ⌝ }
+// 1 where a relay is in service.
+fn is_one(relay: usize, states: &[u16]) -> usize
+    requires { ⌜ (relay < 1000) × (length (now states) ≡ 1000) ⌝ }
+    ensures { λ r. ⌜ r ≤ 1 ⌝ }
 {
-    crate::answers::show_read(text::read(input, lows, highs));
-    show::show_number(b" links ", count_filled(lows, highs));
+    if states[relay] != 1 {
+        return 0;
+    }
+    1
 }
 
-// The longest text: written, the lists cleared by a text that is refused, and read back.
-fn write_and_read(buffer: &mut [u8], lows: &mut [u16], highs: &mut [u16])
-    requires { ⌜ (length (now lows) ≡ 3000) × (length (now highs) ≡ 3000) ⌝ }
+fn count_ones(states: &[u16]) -> usize
+    requires { ⌜ length (now states) ≡ 1000 ⌝ }
+{
+    let mut count: usize = 0;
+    let mut relay: usize = 0;
+    while relay < 1000 {
+        count += is_one(relay, states);
+        relay += 1;
+    }
+    count
+}
+
+// A text read, and how many links and relays in service stand in the lists afterwards.
+fn read_filled(input: &[u8], lows: &mut [u16], highs: &mut [u16], states: &mut [u16])
+    requires { ⌜ (length (now lows) ≡ 3000) × (length (now highs) ≡ 3000) × (length (now states) ≡ 1000) ⌝ }
+{
+    crate::answers::show_read(text::read(input, lows, highs, states));
+    show::show_number(b" links ", count_filled(lows, highs));
+    show::show_number(b" in service ", count_ones(states));
+}
+
+// The longest text with these states: written, the lists cleared by a text that is refused, and read back.
+fn write_and_read(buffer: &mut [u8], lows: &mut [u16], highs: &mut [u16], states: &mut [u16])
+    requires { ⌜ (length (now lows) ≡ 3000) × (length (now highs) ≡ 3000) × (length (now states) ≡ 1000) ⌝ }
 {
     fill(lows, highs);
-    crate::answers::show_written(text::write(1000, lows, highs, buffer));
-    read_filled(b"", lows, highs);
-    read_filled(buffer, lows, highs);
+    crate::answers::show_written(text::write(1000, lows, highs, states, buffer));
+    read_filled(b"", lows, highs, states);
+    read_filled(buffer, lows, highs, states);
+    io::write_all(STDOUT_FILENO, b"\n");
 }
 
 pub fn longest(buffer: &mut [u8]) {
-    io::write_all(STDOUT_FILENO, b"longest:");
     let mut lows = no_links();
     let mut highs = no_links();
-    write_and_read(buffer, &mut lows, &mut highs);
-    io::write_all(STDOUT_FILENO, b"\n");
+    io::write_all(STDOUT_FILENO, b"longest:");
+    let mut zeros = crate::lists::zeros();
+    write_and_read(buffer, &mut lows, &mut highs, &mut zeros);
+    io::write_all(STDOUT_FILENO, b"all in service:");
+    let mut ones = crate::lists::ones();
+    let size = io::count(45039, buffer);
+    write_and_read(&mut buffer[..size], &mut lows, &mut highs, &mut ones);
 }

@@ -1,8 +1,7 @@
 -- `text::outs::read_states` meets its contract: a refused line, or the end behind the last one. Assumes nothing.
 use native.Mathlib.Omega.{arith}
 use borrow.Author.Needs.{needs}
-use denote.Ref.{now}
-use Rattle.text.specs.ReadOuts.{states-refused, states-end}
+use Rattle.text.specs.ReadOuts.{outs-refused, outs-told}
 use Rattle.text.proofs.outs.read_states.Statement.{statement}
 use Rattle.text.proofs.outs.read_states.Tie as tie
 
@@ -23,18 +22,15 @@ same-length c = search needs
 
 returns : tie.Need-returns
 returns c =
-    let a = c .before .before .before .before .before .before .before .before .before .args in
-    states-refused (now (a .text)) (a .n) (a .at) (now (a .states)) _ (omega arith) _ _ (c .before .before .before .before .before .read-outs .ensures)
-    (c .before .refusal .given .1)
+    outs-refused _ _ _ _ _ _ (c .before .before .before .before .before .read-outs .ensures) _ (c .before .refusal .given .1)
 
 same-length-2 : tie.Need-same-length-2
 same-length-2 c = search needs
 
 returns-2 : tie.Need-returns-2
 returns-2 c =
-    let a = c .before .before .before .before .before .before .before .before .before .before .args in
-    states-end (now (a .text)) (a .n) (a .at) (now (a .states)) _ (omega arith) _ _ _ (c .before .before .before .before .before .before .read-outs .ensures)
-    (c .before .before .p .given .1) (c .read-end .ensures)
+    let told = c .before .before .before .before .before .before .read-outs .ensures in
+    outs-told _ _ _ _ _ _ told _ _ (omega arith) (c .before .before .p .given .1) (c .read-end .ensures)
 
 pub read-states-spec : {M : Type 1} → statement M
 read-states-spec =

@@ -1,9 +1,9 @@
--- `text_examples::cases::front` meets its contract: the count is within the list. Assumes nothing.
+-- `text_examples::lists::front` meets its contract: the count is within the list. Assumes nothing.
 use mathlib.Core.Path.{sym}
 use native.Mathlib.Omega.{arith}
 use lib.Seq.{length-take-le}
-use Rattle.text_examples.proofs.cases.front.Statement.{statement}
-use Rattle.text_examples.proofs.cases.front.Tie as tie
+use Rattle.text_examples.proofs.lists.front.Statement.{statement}
+use Rattle.text_examples.proofs.lists.front.Tie as tie
 
 returns : tie.Need-returns
 returns c = (omega arith, sym (length-take-le _ _ (omega arith)))
