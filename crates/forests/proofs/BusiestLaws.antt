@@ -13,9 +13,8 @@ use Rattle.definitions.specs.Lists.{has}
 use Rattle.definitions.specs.Network.{serves}
 use Rattle.definitions.specs.Order.{servingRelays, firstRelay}
 use Rattle.theory.specs.ServingRelays.{Serving, serving-has, serving-below, serving-serves, first-of-all, first-is}
-use Rattle.forests.specs.LinkCounts.{CountedFrom}
+use Rattle.forests.specs.LinkCounts.{ServingCounted}
 use Rattle.forests.specs.Busiest.{keyOf, servingKey, Busiest}
-use Rattle.forests.proofs.LinkCountLaws.{all-counted}
 
 -- The key that the code takes, case by case.
 pub key-serving : (r state count : ℕ) → state ≡ 1 → servingKey r state count ≡ keyOf r count
@@ -92,7 +91,7 @@ best-busiest n states counts best few b =
     lowest r h o e = omega (arith, o .key, o .serving .0, b .most r h, h .0, e)
 
 -- The relay in service with the most links, of equals the lowest, is the first of the order.
-pub busiest-first : (n : ℕ) (lows highs states counts : List ℕ) (x : ℕ) → CountedFrom lows highs states 0 counts
+pub busiest-first : (n : ℕ) (lows highs states counts : List ℕ) (x : ℕ) → ServingCounted lows highs states counts
     → Busiest n states counts x → 0 < length (servingRelays n states) → x ≡ firstRelay n lows highs states
 busiest-first n lows highs states counts x c b some =
     let among : (r : ℕ) → has (servingRelays n states) r ≡ true → Serving n states r =
@@ -101,8 +100,8 @@ busiest-first n lows highs states counts x c b some =
     let s = b .serving first (among first (first-of-all n states lows highs some)) in
     sym
     (first-is n states lows highs x (serving-has n states x s) (λ y h.
-    let own = all-counted lows highs states counts c x (s .1) in
-    let other = all-counted lows highs states counts c y (serving-serves n states y h) in (
+    let own = c x in
+    let other = c y in (
       omega (arith, own, other, b .most y (among y h)),
       λ e. b .lowest y (among y h) (omega (arith, own, other, e)),
     )))

@@ -1,12 +1,14 @@
 -- Laws that the proofs of the crate's functions share. They lead from the definitions of the order and the forests to the code:
 -- specs/ says what the scan's lists hold after each step, a law says what one part of a step does to them, and a function's proof
 -- cites the law in the code's terms.
--- First the parts of a step: chains of links, the links counted at each relay, the relay with the most of them, counts, the bits
--- that the counts stand in, both before the first step, the relay that leads in them, and the walk over the links of a relay.
+-- First the parts of a step: chains of links, counts, the links counted at each relay, those of them with a withdrawn end, the
+-- relay with the most, the bits that the counts stand in, both before the first step, the relay that leads in them, and the walk
+-- over the links of a relay.
 pub mod ChainLaws
-pub mod LinkCountLaws
-pub mod BusiestLaws
 pub mod CountLaws
+pub mod LinkCountLaws
+pub mod IdleLinkLaws
+pub mod BusiestLaws
 pub mod BucketLaws
 pub mod StartLaws
 pub mod LeadLaws
@@ -20,8 +22,8 @@ pub mod ChoiceLaws
 pub mod StepLaws
 pub mod PlaceLaws
 pub mod FinishLaws
--- Then the scan from its start to its end, in arrays that fit, with forest numbers cleared before; and the left table from what
--- it gives.
+-- Then the scan from its start to its end, in arrays that fit, with places and forest numbers cleared before; and the left table
+-- from what it gives.
 pub mod SizeLaws
 pub mod ClearLaws
 pub mod ScanLaws

@@ -137,8 +137,8 @@ counts-few {n} {lows} {highs} {states} {counts} k ok within at j h touch =
         ))
 
 -- All relays in service wait, and the list of relays begins with the first.
-pub all-started : {n start : ℕ} {lows highs states first nexts counts counts′ bits bits′ relays relays′ places forests : List ℕ}
-    → Startable n start lows highs states first nexts counts bits relays places forests
+pub all-started : {n turns start : ℕ} {lows highs states first nexts counts counts′ bits bits′ relays relays′ places forests : List ℕ}
+    → Startable n turns start lows highs states first nexts counts bits relays places forests
     → length counts′ ≡ length counts → StartCounts n states counts′ → Buckets counts′ bits′ → length relays′ ≡ length relays
     → Started n lows highs states first nexts counts′ bits′ relays′ places forests
 all-started can long waiting sorted kept =

@@ -32,6 +32,7 @@ use Rattle.forests.specs.Buckets.{
   NoBits,
   Filled,
 }
+use Rattle.forests.proofs.CountLaws.{all-serve}
 use Rattle.forests.proofs.BucketLaws.{in-word}
 
 -- The relays below r have count 1; one more has it, and still none from n on waits.
@@ -232,6 +233,11 @@ module _ (n : ℕ) (states : List ℕ) (r : ℕ) (counts : List ℕ) (below : r 
       go : Dec (getD states r 0 ≡ 0) → WithdrawnTo n states (r + 1) (pick (eqb (getD states r 0) 0) (set counts r 0) counts)
       go (yes e) = rw (eq-eqb (getD states r 0) 0 e) (withdrawn-leaves e)
       go (no e) = rw (ne-eqb (getD states r 0) 0 e) (serving-waits (omega arith))
+
+-- With all relays in service all wait.
+pub all-waiting : (n : ℕ) (states counts : List ℕ) → n ≤ turnsOf n states → AllWait n counts → StartCounts n states counts
+all-waiting n states counts all w =
+    record { room = w .room; waiting = λ r h. w .waiting r h ∙ rw (all-serve n states all r h); rest = w .rest }
 
 -- How many of the relays from r on are in service.
 unfoldable pub turnsFrom : (n : ℕ) (states : List ℕ) (r : ℕ) → ℕ

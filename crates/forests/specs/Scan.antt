@@ -119,11 +119,12 @@ pub record Cleared (n : ℕ) (lows highs states first nexts relays places forest
   pub noForests : (i : ℕ) → i < length lows → getD forests i 0 ≡ 0
 
 -- What placing all relays in service asks.
-pub record Startable (n start : ℕ) (lows highs states first nexts counts bits relays places forests : List ℕ) : Type 0 where
+pub record Startable (n turns start : ℕ) (lows highs states first nexts counts bits relays places forests : List ℕ) : Type 0 where
   pub lists : Cleared n lows highs states first nexts relays places forests
   pub countRoom : length first ≤ length counts
   pub noneBeyond : NoneBeyond n counts
   pub noBits : NoBits (length counts) bits
+  pub turned : turns ≡ turnsOf n states
   pub starts : 0 < turnsOf n states → start ≡ firstRelay n lows highs states
 
 -- The same when these relays wait.

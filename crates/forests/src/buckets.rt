@@ -148,34 +148,39 @@ fn withdraw_one(r: Relay, state: u16, counts: &mut [u16], bits: &mut [u64])
     }
 }
 
-// Withdrawn relays wait for no place. Gives how many of the first n relays are in service.
-fn withdraw(n: u16, states: &[u16], counts: &mut [u16], bits: &mut [u64]) -> u16
-    requires { ⌜ (n ≤ 1000) × ProperStates n (now states) × AllWait n (now counts) × Buckets (now counts) (now bits) ⌝ }
-    ensures { λ turns. ⌜ turns ≡ turnsOf n (now (states .entry)) ⌝ }
+// Withdrawn relays wait for no place.
+fn withdraw_each(n: u16, states: &[u16], counts: &mut [u16], bits: &mut [u64])
+    requires { ⌜ ProperStates n (now states) × AllWait n (now counts) × Buckets (now counts) (now bits) ⌝ }
     ensures { λ _. ⌜ StartCounts n (now (states .entry)) (now (counts .exit)) × Buckets (now (counts .exit)) (now (bits .exit)) ⌝ }
 {
-    let mut turns = 0;
     let mut r = 0;
     while r < n {
         let at = r as usize;
-        let state = states[at];
-        withdraw_one(Relay(r), state, counts, bits);
-        turns += state;
+        withdraw_one(Relay(r), states[at], counts, bits);
         r += 1;
     }
-    turns
 }
 
-// Those of relays 0 to n − 1 that are in service wait for their places. Gives how many they are.
-pub(crate) fn start_counts(n: u16, states: &[u16], counts: &mut [u16], bits: &mut [u64]) -> u16
-    requires { ⌜ (n ≤ 1000) × (n ≤ length (now counts)) × ProperStates n (now states) × NoneBeyond n (now counts)
-        × NoBits (length (now counts)) (now bits) ⌝ }
-    ensures { λ turns. ⌜ turns ≡ turnsOf n (now (states .entry)) ⌝ }
+// The same, where any relay is withdrawn.
+fn withdraw(n: u16, turns: u16, states: &[u16], counts: &mut [u16], bits: &mut [u64])
+    requires { ⌜ (turns ≡ turnsOf n (now states)) × ProperStates n (now states) × AllWait n (now counts)
+        × Buckets (now counts) (now bits) ⌝ }
+    ensures { λ _. ⌜ StartCounts n (now (states .entry)) (now (counts .exit)) × Buckets (now (counts .exit)) (now (bits .exit)) ⌝ }
+{
+    if turns < n {
+        withdraw_each(n, states, counts, bits);
+    }
+}
+
+// Those of relays 0 to n − 1 that are in service, so many as `turns`, wait for their places.
+pub(crate) fn start_counts(n: u16, turns: u16, states: &[u16], counts: &mut [u16], bits: &mut [u64])
+    requires { ⌜ (n ≤ length (now counts)) × (turns ≡ turnsOf n (now states)) × ProperStates n (now states)
+        × NoneBeyond n (now counts) × NoBits (length (now counts)) (now bits) ⌝ }
     ensures { λ _. ⌜ StartCounts n (now (states .entry)) (now (counts .exit)) × Buckets (now (counts .exit)) (now (bits .exit)) ⌝ }
 {
     wait_all(n, counts);
     fill_words(n, bits);
-    withdraw(n, states, counts, bits)
+    withdraw(n, turns, states, counts, bits);
 }
 
 // Relay r has one more link to a placed relay, if it waits. Gives its count before. The bit leaves a word by `^` and enters the next

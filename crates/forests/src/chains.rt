@@ -4,7 +4,7 @@ ghost use Prim.Native.Nat.{_+_, _≤_, _<_};
 ghost use mathlib.Core.Path.{_≡_};
 ghost use lib.ListN.{length, getD};
 ghost use Rattle.forests.specs.Chains.{Chainable, ChainedFrom};
-ghost use Rattle.forests.specs.LinkCounts.{Statable, moreLinks, runOn, listOn, CountedFrom};
+ghost use Rattle.forests.specs.LinkCounts.{moreLinks, runOn, listOn, CountedFrom};
 ghost use Rattle.forests.specs.Counts.{NoneBeyond};
 
 // Relay r has so many links more.
@@ -16,35 +16,32 @@ fn count_links(r: usize, more: u16, counts: &mut [u16])
     counts[r] = count + more;
 }
 
-// Relay r has so many links more, behind a run of links at `last`. Gives the run at r. The links of a table often stand in the
-// order of one end: then a run is counted in hand, and no sum waits for the store of the one before it.
-fn count_on(r: usize, more: u16, last: usize, run: u16, counts: &mut [u16]) -> u16
-    requires { ⌜ (last < length (now counts)) × (getD (now counts) last 0 + run ≤ 3000) × (more ≤ 1) ⌝ }
-    ensures { λ next. ⌜ next ≡ runOn r more last run ⌝ }
+// Relay r has one link more, behind a run of links at `last`. Gives the run at r. The links of a table often stand in the order of
+// one end: then a run is counted in hand, and no sum waits for the store of the one before it.
+fn count_on(r: usize, last: usize, run: u16, counts: &mut [u16]) -> u16
+    requires { ⌜ (last < length (now counts)) × (getD (now counts) last 0 + run ≤ 3000) ⌝ }
+    ensures { λ next. ⌜ next ≡ runOn r last run ⌝ }
     ensures { λ _. ⌜ now (counts .exit) ≡ listOn r last run (now (counts .entry)) ⌝ }
 {
     if r == last {
-        return run + more;
+        return run + 1;
     }
     count_links(last, run, counts);
-    more
+    1
 }
 
-// From the last link down, so that what stands in `first` is the next half-link; with it the links of each relay to relays in
-// service are counted: a link counts at each end as much as the state of the other.
+// From the last link down, so that what stands in `first` is the next half-link; the links at each relay are counted with it.
 pub(crate) fn link_up(
     lows: &[u16],
     highs: &[u16],
-    states: &[u16],
     first: &mut [u16],
     nexts: &mut [u16],
     counts: &mut [u16],
 )
     requires { ⌜ Chainable (now lows) (now highs) (now first) (now nexts)
-        × (length (now first) ≤ length (now counts)) × NoneBeyond 0 (now counts)
-        × Statable (now lows) (now highs) (now states) ⌝ }
+        × (length (now first) ≤ length (now counts)) × NoneBeyond 0 (now counts) ⌝ }
     ensures { λ _. ⌜ ChainedFrom (now (lows .entry)) (now (highs .entry)) 0 (now (first .exit)) (now (nexts .exit)) ⌝ }
-    ensures { λ _. ⌜ CountedFrom (now (lows .entry)) (now (highs .entry)) (now (states .entry)) 0 (now (counts .exit)) ⌝ }
+    ensures { λ _. ⌜ CountedFrom (now (lows .entry)) (now (highs .entry)) 0 (now (counts .exit)) ⌝ }
 {
     let mut i = lows.len();
     let mut last = 0;
@@ -57,8 +54,8 @@ pub(crate) fn link_up(
         let high = low + 1;
         let here = low as u16;
         let there = high as u16;
-        count_links(a, states[b], counts);
-        run = count_on(b, states[a], last, run, counts);
+        count_links(a, 1, counts);
+        run = count_on(b, last, run, counts);
         last = b;
         nexts[low] = first[a];
         nexts[high] = first[b];

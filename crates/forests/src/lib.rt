@@ -18,8 +18,10 @@ mod busiest;
 mod chains;
 pub mod clear;
 mod counts;
+mod idle;
 pub mod left;
 mod marks;
+mod relays;
 pub mod scan;
 mod walk;
 

@@ -13,18 +13,23 @@ use crate::buckets::start_counts;
 use crate::busiest::busiest;
 use crate::chains::link_up;
 use crate::clear::clear;
+use crate::idle::count_serving;
+use crate::idle::serving;
+use crate::relays::begin;
+use crate::relays::put;
 use crate::walk::walk;
 use network::Place;
 use network::Relay;
-ghost use Prim.Native.Nat.{_-_, _*_, _<_, _≤_};
+ghost use Prim.Native.Nat.{_*_, _<_, _≤_};
 ghost use mathlib.Core.Path.{_≡_};
-ghost use lib.ListN.{length, getD, set};
+ghost use lib.ListN.{length, getD};
 ghost use Rattle.definitions.specs.Lists.{overwrite};
 ghost use Rattle.definitions.specs.Network.{Accepted};
 ghost use Rattle.definitions.specs.Order.{orderOf, placesOf};
 ghost use Rattle.definitions.specs.Forests.{forestsOf};
+ghost use Rattle.forests.specs.Counts.{turnsOf};
 ghost use Rattle.forests.specs.Buckets.{columnWords, mostColumns, NoBits, Leads};
-ghost use Rattle.forests.specs.Scan.{begunWith, ChainArrays, Prepared, Startable, Scannable, isSmall, Scanned};
+ghost use Rattle.forests.specs.Scan.{ChainArrays, Prepared, Startable, Scannable, isSmall, Scanned};
 
 // The place of a relay, from the list of places.
 pub fn place_of(places: &[u16], r: Relay) -> Place
@@ -33,28 +38,6 @@ pub fn place_of(places: &[u16], r: Relay) -> Place
 {
     let at = r.0 as usize;
     Place(places[at])
-}
-
-// Relay x gets place v.
-fn put(x: Relay, v: Place, relays: &mut [u16], places: &mut [u16])
-    requires { ⌜ (0 < v .0) × (v .0 ≤ length (now relays)) × (x .0 < length (now places)) ⌝ }
-    ensures { λ _. ⌜ now (relays .exit) ≡ set (now (relays .entry)) (v .0 - 1) (x .0) ⌝ }
-    ensures { λ _. ⌜ now (places .exit) ≡ set (now (places .entry)) (x .0) (v .0) ⌝ }
-{
-    let at = (v.0 - 1) as usize;
-    let r = x.0 as usize;
-    relays[at] = x.0;
-    places[r] = v.0;
-}
-
-// The list of relays begins with x, if any relay is to be placed.
-fn begin(turns: u16, x: Relay, relays: &mut [u16])
-    requires { ⌜ turns ≤ length (now relays) ⌝ }
-    ensures { λ _. ⌜ now (relays .exit) ≡ begunWith turns (x .0) (now (relays .entry)) ⌝ }
-{
-    if 0 < turns {
-        relays[0] = x.0;
-    }
 }
 
 // The relay that gets place v: the first is given, and then it is the one that leads.
@@ -71,6 +54,7 @@ fn next_relay(v: Place, start: Relay, columns: usize, most: u16, bits: &[u64]) -
 // The relays in service get their places, first `start`; no count is greater than `most`.
 fn place_all(
     n: u16,
+    turns: u16,
     start: Relay,
     lows: &[u16],
     highs: &[u16],
@@ -83,12 +67,12 @@ fn place_all(
     places: &mut [u16],
     forests: &mut [u16],
 )
-    requires { ⌜ Startable n (start .0) (now lows) (now highs) (now states) (now first) (now nexts) (now counts) (now bits)
+    requires { ⌜ Startable n turns (start .0) (now lows) (now highs) (now states) (now first) (now nexts) (now counts) (now bits)
         (now relays) (now places) (now forests) ⌝ }
     ensures { λ _. ⌜ Scanned n (now (lows .entry)) (now (highs .entry)) (now (states .entry)) (now (relays .entry))
         (now (relays .exit)) (now (places .entry)) (now (places .exit)) (now (forests .entry)) (now (forests .exit)) ⌝ }
 {
-    let turns = start_counts(n, states, counts, bits);
+    start_counts(n, turns, states, counts, bits);
     begin(turns, start, relays);
     let columns = columns_of(n);
     let mut v = 0;
@@ -104,6 +88,7 @@ fn place_all(
 // Makes the chains. Gives the first relay of the order, any number if no relay is in service.
 fn prepare(
     n: u16,
+    turns: u16,
     lows: &[u16],
     highs: &[u16],
     states: &[u16],
@@ -111,11 +96,13 @@ fn prepare(
     nexts: &mut [u16],
     counts: &mut [u16],
 ) -> Relay
-    requires { ⌜ Accepted n (now lows) (now highs) (now states) × ChainArrays n (now lows) (now first) (now nexts) (now counts) ⌝ }
+    requires { ⌜ (turns ≡ turnsOf n (now states)) × Accepted n (now lows) (now highs) (now states)
+        × ChainArrays n (now lows) (now first) (now nexts) (now counts) ⌝ }
     ensures { λ x. ⌜ Prepared n (now (lows .entry)) (now (highs .entry)) (now (states .entry)) (now (first .exit))
         (now (nexts .exit)) (now (counts .exit)) (x .0) ⌝ }
 {
-    link_up(lows, highs, states, first, nexts, counts);
+    link_up(lows, highs, first, nexts, counts);
+    count_serving(n, turns, lows, highs, states, counts);
     busiest(n, states, counts)
 }
 
@@ -138,11 +125,13 @@ fn scan_in(
     ensures { λ _. ⌜ Scanned n (now (lows .entry)) (now (highs .entry)) (now (states .entry)) (now (relays .entry))
         (now (relays .exit)) (now (places .entry)) (now (places .exit)) (now (forests .entry)) (now (forests .exit)) ⌝ }
 {
-    let start = prepare(n, lows, highs, states, first, nexts, counts);
+    let turns = serving(n, states);
+    let start = prepare(n, turns, lows, highs, states, first, nexts, counts);
     clear(places, n as usize);
     clear(forests, lows.len());
     place_all(
         n,
+        turns,
         start,
         lows,
         highs,

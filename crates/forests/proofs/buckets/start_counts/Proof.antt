@@ -11,7 +11,7 @@ wait-all-requires c κs = search needs
 fill-words-requires : tie.Need-fill-words-requires
 fill-words-requires c κs =
     let p = c .before .before .before .before .before .before .before .before .pre in
-    record { room = λ r h. p .4 .room r (omega (arith, p .1, h)); none = p .4 .none }
+    record { room = λ r h. p .4 .room r (omega (arith, p .0, h)); none = p .4 .none }
 
 withdraw-requires : tie.Need-withdraw-requires
 withdraw-requires c κs =
@@ -19,7 +19,7 @@ withdraw-requires c κs =
     let waiting = filled .before .before .before .before in
     let start = waiting .before .before .before .before .before in
     let p = start .pre in (
-      p .0,
+      p .1,
       p .2,
       waiting .wait-all .ensures,
       start-buckets (start .args .n) (waiting .wait-all .last .1 .0) (filled .fill-words .last .1 .0)

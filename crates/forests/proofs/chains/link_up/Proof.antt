@@ -12,27 +12,27 @@ use Rattle.forests.proofs.chains.link_up.Statement.{statement}
 use Rattle.forests.proofs.chains.link_up.Tie as tie
 
 abbrev Inv-loop : tie.InvT-loop
-Inv-loop lows highs states first₀ nexts₀ counts₀ i₀ last₀ run₀ first nexts counts i last run =
+Inv-loop lows highs first₀ nexts₀ counts₀ i₀ last₀ run₀ first nexts counts i last run =
     (i ≤ length lows)
     × ChainedFrom lows highs i first nexts
-    × CountedBut lows highs states i last run counts
+    × CountedBut lows highs i last run counts
     × (last < length counts)
     × (length first ≡ length first₀)
     × (length nexts ≡ length nexts₀)
     × (length counts ≡ length counts₀)
 
 abbrev μ-loop : tie.MeasureT-loop
-μ-loop lows highs states first₀ nexts₀ counts₀ i₀ last₀ run₀ first nexts counts i last run = i
+μ-loop lows highs first₀ nexts₀ counts₀ i₀ last₀ run₀ first nexts counts i last run = i
 
 ends : (c : tie.In-loop Inv-loop μ-loop)
-    → let start = c .before .before .before .before .before .before .before .before in
+    → let start = c .before .before .before .before .before .before .before in
     let i = c .before .loop .i in
     (getD (start .args .lows .now) (i - 1) 0 < length (c .before .loop .first))
     × (getD (start .args .highs .now) (i - 1) 0 < length (c .before .loop .first))
     × (getD (start .args .lows .now) (i - 1) 0 < getD (start .args .highs .now) (i - 1) 0)
     × (length (c .before .loop .first) ≤ length (c .before .loop .counts))
 ends c =
-    let start = c .before .before .before .before .before .before .before .before in
+    let start = c .before .before .before .before .before .before .before in
     let at = c .before .loop in
     let i = at .i in
     let h : i - 1 < length (start .args .lows .now) = omega arith in
@@ -43,32 +43,13 @@ ends c =
       omega (arith, start .pre .1, at .inv .4, at .inv .6),
     )
 
--- The two ends have a state each, 0 or 1.
-known : (c : tie.In-loop Inv-loop μ-loop)
-    → let start = c .before .before .before .before .before .before .before .before in
-    let a = getD (start .args .lows .now) (c .before .loop .i - 1) 0 in
-    let b = getD (start .args .highs .now) (c .before .loop .i - 1) 0 in
-    (a < length (start .args .states .now))
-    × (b < length (start .args .states .now))
-    × (getD (start .args .states .now) a 0 ≤ 1)
-    × (getD (start .args .states .now) b 0 ≤ 1)
-known c =
-    let start = c .before .before .before .before .before .before .before .before in
-    let i = c .before .loop .i in
-    let a = getD (start .args .lows .now) (i - 1) 0 in
-    let b = getD (start .args .highs .now) (i - 1) 0 in
-    let s = start .pre .3 in
-    let high = s .within (i - 1) (omega arith) in
-    let low : a < length (start .args .states .now) = omega (arith, high, ends c .2) in
-    (low, high, s .either a low, s .either b high)
-
 loop-holds : tie.Need-loop-holds Inv-loop μ-loop
 loop-holds c =
-    let start = c .before .before .before .before .before .before in
+    let start = c .before .before .before .before .before in
     let lent = start .args in (
       omega arith,
       chained-none (start .pre .0),
-      counted-none (lent .lows .now) (lent .highs .now) (lent .states .now) (lent .counts .now) (start .pre .2),
+      counted-none (lent .lows .now) (lent .highs .now) (lent .counts .now) (start .pre .2),
       omega (arith, start .pre .0 .proper .some, start .pre .1),
       refl,
       refl,
@@ -108,50 +89,36 @@ cast-here c = omega arith
 cast-there : tie.Need-cast-there Inv-loop μ-loop
 cast-there c = omega arith
 
-mul-count-links : tie.Need-mul-count-links Inv-loop μ-loop
-mul-count-links c = omega (arith, known (c .before .before))
-
-shared-slice-read-count-links : tie.Need-shared-slice-read-count-links Inv-loop μ-loop
-shared-slice-read-count-links c = known (c .before .before .before) .1
-
 count-links-requires : tie.Need-count-links-requires Inv-loop μ-loop
 count-links-requires c κs =
-    let turn = c .before .before .before .before in
+    let turn = c .before .before .before in
     let at = turn .before .loop in
-    let start = turn .before .before .before .before .before .before .before .before in
+    let start = turn .before .before .before .before .before .before .before in
     let e = ends turn in
     let few =
-    in-list-few (start .args .lows .now) (start .args .highs .now) (start .args .states .now) (at .counts) (at .i) (at .last) (at .run)
-    (at .inv .2) (start .pre .0 .proper .short) (getD (start .args .lows .now) (at .i - 1) 0) in
-    (omega (arith, e .0, e .3), omega (arith, few, turn .loop-test .taken, known turn .3))
-
-mul-count-on : tie.Need-mul-count-on Inv-loop μ-loop
-mul-count-on c = omega (arith, known (c .before .before .before .before .before .before .before))
-
-shared-slice-read-count-on : tie.Need-shared-slice-read-count-on Inv-loop μ-loop
-shared-slice-read-count-on c = known (c .before .before .before .before .before .before .before .before) .0
+    in-list-few (start .args .lows .now) (start .args .highs .now) (at .counts) (at .i) (at .last) (at .run) (at .inv .2)
+    (start .pre .0 .proper .short) (getD (start .args .lows .now) (at .i - 1) 0) in
+    (omega (arith, e .0, e .3), omega (arith, few, turn .loop-test .taken))
 
 count-on-requires : tie.Need-count-on-requires Inv-loop μ-loop
 count-on-requires c κs =
-    let once = c .before .before .before .before in
-    let turn = once .before .before .before .before .before in
+    let once = c .before .before .before in
+    let turn = once .before .before .before .before in
     let at = turn .before .loop in
-    let start = turn .before .before .before .before .before .before .before .before in
+    let start = turn .before .before .before .before .before .before .before in
     let e = ends turn in (
       omega (arith, at .inv .3, once .count-links .kept),
       rw (once .count-links .ensures)
-          (behind-few (start .args .lows .now) (start .args .highs .now) (start .args .states .now) (at .counts) (at .i) (at .last)
-          (at .run) (at .inv .2) (start .pre .0 .proper .short) (getD (start .args .lows .now) (at .i - 1) 0)
-          (getD (start .args .states .now) (getD (start .args .highs .now) (at .i - 1) 0) 0) (omega (arith, e .0, e .3))
-          (known turn .3) (turn .loop-test .taken) (at .inv .0)),
-      known turn .2,
+          (behind-few (start .args .lows .now) (start .args .highs .now) (at .counts) (at .i) (at .last) (at .run) (at .inv .2)
+          (start .pre .0 .proper .short) (getD (start .args .lows .now) (at .i - 1) 0) (omega (arith, e .0, e .3))
+          (turn .loop-test .taken) (at .inv .0)),
     )
 
 mul-nexts : tie.Need-mul-nexts Inv-loop μ-loop
-mul-nexts c = omega (arith, ends (c .before .before .before .before .before .before .before .before .before .before .before .before))
+mul-nexts c = omega (arith, ends (c .before .before .before .before .before .before .before .before .before .before))
 
 slice-read-nexts : tie.Need-slice-read-nexts Inv-loop μ-loop
-slice-read-nexts c = ends (c .before .before .before .before .before .before .before .before .before .before .before .before .before) .0
+slice-read-nexts c = ends (c .before .before .before .before .before .before .before .before .before .before .before) .0
 
 mul-nexts-2 : tie.Need-mul-nexts-2 Inv-loop μ-loop
 mul-nexts-2 c = omega arith
@@ -160,10 +127,10 @@ slice-write-nexts : tie.Need-slice-write-nexts Inv-loop μ-loop
 slice-write-nexts c = omega arith
 
 mul-nexts-3 : tie.Need-mul-nexts-3 Inv-loop μ-loop
-mul-nexts-3 c = omega (arith, ends (c .before .before .before .before .before .before .before .before .before .before .before .before .before))
+mul-nexts-3 c = omega (arith, ends (c .before .before .before .before .before .before .before .before .before .before .before))
 
 slice-read-nexts-2 : tie.Need-slice-read-nexts-2 Inv-loop μ-loop
-slice-read-nexts-2 c = ends (c .before .before .before .before .before .before .before .before .before .before .before .before .before .before) .1
+slice-read-nexts-2 c = ends (c .before .before .before .before .before .before .before .before .before .before .before .before) .1
 
 mul-nexts-4 : tie.Need-mul-nexts-4 Inv-loop μ-loop
 mul-nexts-4 c = omega arith
@@ -172,27 +139,27 @@ slice-write-nexts-2 : tie.Need-slice-write-nexts-2 Inv-loop μ-loop
 slice-write-nexts-2 c = simp length-set (omega arith)
 
 mul-first : tie.Need-mul-first Inv-loop μ-loop
-mul-first c = omega (arith, ends (c .before .before .before .before .before .before .before .before .before .before .before .before .before .before))
+mul-first c = omega (arith, ends (c .before .before .before .before .before .before .before .before .before .before .before .before))
 
 slice-write-first : tie.Need-slice-write-first Inv-loop μ-loop
-slice-write-first c = ends (c .before .before .before .before .before .before .before .before .before .before .before .before .before .before) .0
+slice-write-first c = ends (c .before .before .before .before .before .before .before .before .before .before .before .before) .0
 
 mul-first-2 : tie.Need-mul-first-2 Inv-loop μ-loop
-mul-first-2 c = omega (arith, ends (c .before .before .before .before .before .before .before .before .before .before .before .before .before .before))
+mul-first-2 c = omega (arith, ends (c .before .before .before .before .before .before .before .before .before .before .before .before))
 
 slice-write-first-2 : tie.Need-slice-write-first-2 Inv-loop μ-loop
-slice-write-first-2 c = simp length-set (ends (c .before .before .before .before .before .before .before .before .before .before .before .before .before .before) .1)
+slice-write-first-2 c = simp length-set (ends (c .before .before .before .before .before .before .before .before .before .before .before .before) .1)
 
 loop-less : tie.Need-loop-less Inv-loop μ-loop
-loop-less c = let turn = c .before .before .before .before .before .before .before .before .before .before .before .before .before .before in omega (arith, turn .loop-test .taken)
+loop-less c = let turn = c .before .before .before .before .before .before .before .before .before .before .before .before in omega (arith, turn .loop-test .taken)
 
 loop-again : tie.Need-loop-again Inv-loop μ-loop
 loop-again c =
     let both = c .before .before .before .before in
-    let once = both .before .before .before .before .before in
-    let turn = once .before .before .before .before .before in
+    let once = both .before .before .before .before in
+    let turn = once .before .before .before .before in
     let at = turn .before .loop in
-    let start = turn .before .before .before .before .before .before .before .before in
+    let start = turn .before .before .before .before .before .before .before in
     let i = at .i in
     let e = ends turn in
     let some : 0 < i = turn .loop-test .taken in
@@ -200,8 +167,8 @@ loop-again c =
       omega (arith, at .inv .0),
       chained-more i (i - 1) (at .inv .1) (omega arith) (at .inv .0) (e .2) (e .1),
       rw (both .count-on .ensures .0, both .count-on .ensures .1, once .count-links .ensures)
-          (counted-more (start .args .lows .now) (start .args .highs .now) (start .args .states .now) (at .counts) i (at .last) (at .run)
-          (at .inv .2) (start .pre .0 .proper .short) (i - 1) (omega arith) (at .inv .0) (e .2) below (at .inv .3) (start .pre .3)),
+          (counted-more (start .args .lows .now) (start .args .highs .now) (at .counts) i (at .last) (at .run) (at .inv .2)
+          (start .pre .0 .proper .short) (i - 1) (omega arith) (at .inv .0) (e .2) below (at .inv .3)),
       omega (arith, below, both .count-on .kept, once .count-links .kept),
       simp length-set (at .inv .4),
       simp length-set (at .inv .5),
@@ -211,10 +178,10 @@ loop-again c =
 count-links-requires-2 : tie.Need-count-links-requires-2 Inv-loop μ-loop
 count-links-requires-2 c κs =
     let at = c .before .before .loop in
-    let start = c .before .before .before .before .before .before .before .before .before in
+    let start = c .before .before .before .before .before .before .before .before in
     let few =
-    in-hand-few (start .args .lows .now) (start .args .highs .now) (start .args .states .now) (at .counts) (at .i) (at .last) (at .run)
-    (at .inv .2) (start .pre .0 .proper .short) in
+    in-hand-few (start .args .lows .now) (start .args .highs .now) (at .counts) (at .i) (at .last) (at .run) (at .inv .2)
+    (start .pre .0 .proper .short) in
     (at .inv .3, omega (arith, few))
 
 same-length : tie.Need-same-length Inv-loop μ-loop
@@ -232,15 +199,13 @@ returns : tie.Need-returns Inv-loop μ-loop
 returns c =
     let end = c .before .before .before .before in
     let at = end .before .loop in
-    let start = end .before .before .before .before .before .before .before .before in
+    let start = end .before .before .before .before .before .before .before in
     let lows = start .args .lows .now in
     let highs = start .args .highs .now in
     let p : at .i ≡ 0 = omega arith in (
       rw p at (at .inv .1),
       rw (c .before .before .count-links2 .ensures)
-          (rw p at
-          (counted-all lows highs (start .args .states .now) (at .counts) (at .i) (at .last) (at .run) (at .inv .2)
-          (start .pre .0 .proper .short) (at .inv .3))),
+          (rw p at (counted-all lows highs (at .counts) (at .i) (at .last) (at .run) (at .inv .2) (start .pre .0 .proper .short) (at .inv .3))),
     )
 
 pub link-up-spec : {M : Type 1} → statement M
@@ -261,11 +226,7 @@ link-up-spec =
     add-high
     cast-here
     cast-there
-    mul-count-links
-    shared-slice-read-count-links
     count-links-requires
-    mul-count-on
-    shared-slice-read-count-on
     count-on-requires
     mul-nexts
     slice-read-nexts

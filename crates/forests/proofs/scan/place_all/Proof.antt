@@ -6,7 +6,7 @@ use native.Mathlib.Omega.{arith}
 use borrow.Author.Needs.{needs}
 use lib.ListN.{length, getD, length-set}
 use Rattle.definitions.specs.Order.{firstRelay}
-use Rattle.theory.specs.Accepted.{accepted, accepted-states}
+use Rattle.theory.specs.Accepted.{accepted-states}
 use Rattle.theory.specs.ServingRelays.{serving-few}
 use Rattle.forests.specs.Counts.{turnsOf}
 use Rattle.forests.specs.Buckets.{columnWords, Buckets}
@@ -31,7 +31,7 @@ use Rattle.forests.proofs.scan.place_all.Statement.{statement}
 use Rattle.forests.proofs.scan.place_all.Tie as tie
 
 abbrev Inv-loop : tie.InvT-loop
-Inv-loop n lows highs states first nexts counts₀ bits₀ relays₀ places₀ forests₀ turns columns v₀ most₀ counts bits relays places forests v most =
+Inv-loop n turns lows highs states first nexts counts₀ bits₀ relays₀ places₀ forests₀ columns v₀ most₀ counts bits relays places forests v most =
     (v ≤ turns)
     × ScannedTo n lows highs states v counts relays₀ relays places₀ places forests₀ forests
     × Buckets counts bits
@@ -41,7 +41,7 @@ Inv-loop n lows highs states first nexts counts₀ bits₀ relays₀ places₀ f
     × (length bits ≡ length bits₀)
 
 abbrev μ-loop : tie.MeasureT-loop
-μ-loop n lows highs states first nexts counts₀ bits₀ relays₀ places₀ forests₀ turns columns v₀ most₀ counts bits relays places forests v most =
+μ-loop n turns lows highs states first nexts counts₀ bits₀ relays₀ places₀ forests₀ columns v₀ most₀ counts bits relays places forests v most =
     turns - v
 
 -- When the relays in service wait, placing begins.
@@ -49,17 +49,17 @@ begun : (c : tie.After-columns-of Inv-loop μ-loop)
     → let a = c .before .before .before .before .before .before .before .before .before .before .before .before .before .before .before .before .before .before .before .before .before .before .args in
     let counted = c .before .before .before .before .before .before .before .before .before .start-counts .last in
     Started (a .n) (a .lows .now) (a .highs .now) (a .states .now) (a .first .now) (a .nexts .now)
-    (counted .1 .1 .0) (counted .1 .1 .1 .0) (c .before .before .before .begin .last .1 .1 .0) (a .places .now) (a .forests .now)
+    (counted .1 .1 .1 .0) (counted .1 .1 .1 .1 .0) (c .before .before .before .begin .last .1 .1 .0) (a .places .now) (a .forests .now)
 begun c =
     let counted = c .before .before .before .before .before .before .before .before .before .start-counts in
-    all-started (c .before .before .before .before .before .before .before .before .before .before .before .before .before .before .before .before .before .before .before .before .before .before .pre) (omega (arith, counted .kept)) (counted .ensures .1 .0) (counted .ensures .1 .1)
+    all-started (c .before .before .before .before .before .before .before .before .before .before .before .before .before .before .before .before .before .before .before .before .before .before .pre) (omega (arith, counted .kept)) (counted .ensures .0) (counted .ensures .1)
     (omega (arith, c .before .before .before .begin .kept))
 
 -- Where a turn begins, a relay is left,
 within : (turn : tie.In-loop Inv-loop μ-loop)
     → let a = turn .before .before .before .before .before .before .before .before .before .before .before .before .before .before .before .before .before .before .before .before .before .before .before .before .args in
     turn .before .loop .v < turnsOf (a .n) (a .states .now)
-within turn = omega (arith, turn .loop-test .taken, turn .before .before .before .before .before .before .before .before .before .before .before .start-counts .ensures .0)
+within turn = omega (arith, turn .loop-test .taken, turn .before .before .before .before .before .before .before .before .before .before .before .before .before .before .before .before .before .before .before .before .before .before .before .before .pre .turned)
 
 -- and the next one can be placed.
 ready : (turn : tie.In-loop Inv-loop μ-loop)
@@ -82,13 +82,12 @@ begins turn e =
     let at = turn .before .loop in
     let s = turn .before .before .before .before .before .before .before .before .before .before .before .before .before .before .before .before .before .before .before .before .before .before .before .before in
     let a = s .args in
-    let turns = turn .before .before .before .before .before .before .before .before .before .before .before .start-counts in
     let some = turn .loop-test .taken in
     let room = s .pre .lists .scannable .relayRoom in
     first-stays (begun (turn .before .before)) (at .v) (omega arith) (at .inv .1)
     ∙ ap (λ (l : List ℕ). getD l 0 0) (turn .before .before .before .before .before .begin .ensures)
-    ∙ begun-first (turns .result) (a .start .0) (a .relays .now) (omega (arith, some))
-    (omega (arith, turns .ensures .0, serving-few (a .n) (a .states .now), room))
+    ∙ begun-first (a .turns) (a .start .0) (a .relays .now) (omega (arith, some))
+    (omega (arith, s .pre .turned, serving-few (a .n) (a .states .now), room))
     ∙ s .pre .starts (omega (arith, within turn))
 
 -- The relay that gets the place is the next one.
@@ -107,8 +106,8 @@ start-counts-requires c κs =
     let a = s .args in
     let p = s .pre in
     let ok = p .lists .scannable .accepted in (
-      accepted (a .n) (a .lows .now) (a .highs .now) (a .states .now) ok .few,
       omega (arith, p .lists .heads, p .countRoom),
+      p .turned,
       accepted-states (a .n) (a .lows .now) (a .highs .now) (a .states .now) ok,
       p .noneBeyond,
       p .noBits,
@@ -118,7 +117,7 @@ begin-requires : tie.Need-begin-requires Inv-loop μ-loop
 begin-requires c κs =
     let s = c .before .before .before .before .before .before .before .before .before .before .before .before .before .before .before .before .before .before in
     let a = s .args in
-    omega (arith, c .before .before .before .before .before .start-counts .ensures .0, serving-few (a .n) (a .states .now), s .pre .lists .scannable .relayRoom)
+    omega (arith, s .pre .turned, serving-few (a .n) (a .states .now), s .pre .lists .scannable .relayRoom)
 
 columns-of-requires : tie.Need-columns-of-requires Inv-loop μ-loop
 columns-of-requires c κs = search needs
@@ -202,7 +201,7 @@ same-length-2 c = omega (arith, c .before .loop .inv .6, c .before .before .befo
 same-length-3 : tie.Need-same-length-3 Inv-loop μ-loop
 same-length-3 c =
     let at = c .before .loop in
-    let long = relays-long (begun (c .before .before)) (at .v) (omega (arith, at .inv .0, c .before .before .before .before .before .before .before .before .before .before .before .start-counts .ensures .0)) (at .inv .1) in
+    let long = relays-long (begun (c .before .before)) (at .v) (omega (arith, at .inv .0, c .before .before .before .before .before .before .before .before .before .before .before .before .before .before .before .before .before .before .before .before .before .before .before .before .pre .turned)) (at .inv .1) in
     omega (arith, long, c .before .before .before .before .before .begin .kept)
 
 same-length-4 : tie.Need-same-length-4 Inv-loop μ-loop
@@ -215,8 +214,8 @@ returns : tie.Need-returns Inv-loop μ-loop
 returns c =
     let at = c .before .loop in
     let a = c .before .before .before .before .before .before .before .before .before .before .before .before .before .before .before .before .before .before .before .before .before .before .before .before .args in
-    let all : at .v ≡ turnsOf (a .n) (a .states .now) = omega (arith, at .inv .0, c .loop-test .left, c .before .before .before .before .before .before .before .before .before .before .before .start-counts .ensures .0) in
-    let first = c .before .before .before .before .before .begin .ensures ∙ ap (λ (turns : ℕ). begunWith turns (a .start .0) (a .relays .now)) (c .before .before .before .before .before .before .before .before .before .before .before .start-counts .ensures .0) in
+    let all : at .v ≡ turnsOf (a .n) (a .states .now) = omega (arith, at .inv .0, c .loop-test .left, c .before .before .before .before .before .before .before .before .before .before .before .before .before .before .before .before .before .before .before .before .before .before .before .before .pre .turned) in
+    let first = c .before .before .before .before .before .begin .ensures ∙ ap (λ (turns : ℕ). begunWith turns (a .start .0) (a .relays .now)) (c .before .before .before .before .before .before .before .before .before .before .before .before .before .before .before .before .before .before .before .before .before .before .before .before .pre .turned) in
     scan-begun (a .start .0) (rw first at (scan-ends (begun (c .before .before)) (rw all at (at .inv .1))))
 
 pub place-all-spec : {M : Type 1} → statement M

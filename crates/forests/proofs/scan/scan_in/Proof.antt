@@ -1,11 +1,21 @@
 -- Chains are made in the arrays, places and numbers are cleared, and all relays in service are placed. Assumes nothing.
 use native.Mathlib.Omega.{arith}
 use lib.ListN.{length}
+use Rattle.theory.specs.Accepted.{accepted, accepted-states}
 use Rattle.forests.proofs.ClearLaws.{cleared, scan-cleared}
 use Rattle.forests.proofs.SizeLaws.{fewer-columns}
 use borrow.Author.Needs.{needs}
 use Rattle.forests.proofs.scan.scan_in.Statement.{statement}
 use Rattle.forests.proofs.scan.scan_in.Tie as tie
+
+serving-requires : tie.Need-serving-requires
+serving-requires c κs =
+    let s = c .before .before .before .before .before .before .before .before .before .before in
+    let a = s .args in
+    let ok = s .pre .0 .accepted in (
+      accepted (a .n) (a .lows .now) (a .highs .now) (a .states .now) ok .few,
+      accepted-states (a .n) (a .lows .now) (a .highs .now) (a .states .now) ok,
+    )
 
 prepare-requires : tie.Need-prepare-requires
 prepare-requires c κs = search needs
@@ -21,7 +31,7 @@ place-all-requires c κs =
     let unnumbered = c .before .before .before .before .before .before .before .before .before in
     let unplaced = unnumbered .before .before .before .before in
     let prepared = unplaced .before .before .before .before .before .before .before .before in
-    let s = prepared .before .before .before .before .before .before .before .before .before .before .before .before .before .before in
+    let s = prepared .before .before .before .before .before .before .before .before .before .before .before .before .before .before .before in
     let p = s .pre .0 in
     let w = s .pre .1 in
     let made = prepared .prepare .ensures in
@@ -44,6 +54,7 @@ place-all-requires c κs =
       countRoom = omega (arith, w .countRoom, prepared .prepare .kept);
       noneBeyond = made .noneBeyond;
       noBits = fewer-columns (omega (arith, prepared .prepare .kept)) (s .pre .2);
+      turned = prepared .before .before .before .before .serving .ensures;
       starts = made .starts;
     }
 
@@ -79,6 +90,7 @@ pub scan-in-spec : {M : Type 1} → statement M
 scan-in-spec =
     tie.close
     (tie.spec
+    serving-requires
     prepare-requires
     clear-requires
     clear-requires-2

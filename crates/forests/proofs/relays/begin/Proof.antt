@@ -1,8 +1,8 @@
 -- The first entry is stored, or no relay is placed. Assumes nothing.
 use Rattle.forests.proofs.ClearLaws.{begun-some, begun-none}
 use borrow.Author.Needs.{needs}
-use Rattle.forests.proofs.scan.begin.Statement.{statement}
-use Rattle.forests.proofs.scan.begin.Tie as tie
+use Rattle.forests.proofs.relays.begin.Statement.{statement}
+use Rattle.forests.proofs.relays.begin.Tie as tie
 
 slice-write-relays : tie.Need-slice-write-relays
 slice-write-relays c = search needs
