@@ -29,7 +29,11 @@ in-row a b h = omega (arith, next-row b)
 pub pair-below : (n a b : ℕ) → a < b → b < n → pairNumber a b < rowStart n
 pair-below n a b h k = omega (arith, in-row a b h, rows-rise (suc b) n k)
 
--- How many pairs up to 128, up to 512 and up to 1,000 relays have at most.
+-- How many pairs up to 32, up to 128, up to 512 and up to 1,000 relays have at most.
+pub rows-of-32 : (n : ℕ) → n ≤ 32 → rowStart n ≤ 496
+unfolding rowStart
+rows-of-32 n = rows-rise n 32
+
 pub rows-of-128 : (n : ℕ) → n ≤ 128 → rowStart n ≤ 8128
 unfolding rowStart
 rows-of-128 n = rows-rise n 128

@@ -13,7 +13,7 @@ use Rattle.definitions.specs.Outcome.{pick}
 use Rattle.definitions.specs.Lists.{someBelow}
 use Rattle.definitions.specs.Network.{rowStart, pairNumber, isPair, linkFault}
 use Rattle.lists.specs.Bitmap.{marked, mark, marked-mark, marked-none, length-mark}
-use Rattle.network.specs.Pairs.{pair-below, rows-of-128, rows-of-512, rows-of-1000}
+use Rattle.network.specs.Pairs.{pair-below, rows-of-32, rows-of-128, rows-of-512, rows-of-1000}
 use Rattle.network.specs.Marks.{Marks, marks-none, marks-next, marks-front}
 use Rattle.network.specs.declared.LinkCheck.{LinkCheck}
 use Rattle.network.specs.declared.LinkCheck.the-variants.{Fine, RelayRange, NotBelow, Repeated}
@@ -47,8 +47,8 @@ pub record Seen (n : ℕ) (bits lows highs : List ℕ) (i : ℕ) : Type 0 where
   pub room : RoomFor n bits
   pub marks : Marks n (marked bits) lows highs i
 
--- No pair is marked yet: in as many words as have room for the pairs of n relays, and so in those for up to 128, up to 512
--- and up to 1,000 relays.
+-- No pair is marked yet: in as many words as have room for the pairs of n relays, and so in those for up to 32, up to 128,
+-- up to 512 and up to 1,000 relays.
 module _ (n : ℕ) (bits lows highs : List ℕ) where
   seen-none : (words : ℕ) → rowStart n ≤ 64 * words → bits ≡ replicate words 0 → Seen n bits lows highs 0
   seen-none words room e =
@@ -57,6 +57,9 @@ module _ (n : ℕ) (bits lows highs : List ℕ) where
         marks = marks-none n (marked bits) lows highs
             (λ p h. ap (λ (l : List ℕ). marked l p) e ∙ marked-none words p (omega arith));
       }
+
+  pub none-of-32 : n ≤ 32 → bits ≡ replicate 8 0 → Seen n bits lows highs 0
+  none-of-32 h = seen-none 8 (omega (arith, rows-of-32 n h))
 
   pub none-of-128 : n ≤ 128 → bits ≡ replicate 127 0 → Seen n bits lows highs 0
   none-of-128 h = seen-none 127 (rows-of-128 n h)

@@ -112,6 +112,13 @@ fn pair_index(a: u16, b: u16, rows: &[u32]) -> u32
     row_start(b, rows) + a as u32
 }
 
+// No pair of up to 32 relays is marked yet: one bit for each of the 496 pair numbers.
+fn no_pairs_of_32() -> [u64; 8]
+    ensures { λ r. ⌜ r ≡ replicate 8 0 ⌝ }
+{
+    [0u64; 8]
+}
+
 // No pair of up to 128 relays is marked yet: one bit for each of the 8,128 pair numbers.
 pub fn no_pairs_of_128() -> [u64; 127]
     ensures { λ r. ⌜ r ≡ replicate 127 0 ⌝ }
@@ -235,6 +242,11 @@ fn all_links_check(n: u16, lows: &[u16], highs: &[u16]) -> Check
     requires { ⌜ (n ≤ 1000) × (length (now lows) ≡ length (now highs)) ⌝ }
     ensures { λ r. ⌜ checkOutcome r ≡ linksCheck n (now (lows .entry)) (now (highs .entry)) 0 (length (now (lows .entry))) ⌝ }
 {
+    if n <= 32 {
+        let front = row_starts::row_starts_of_32();
+        let mut fewest = no_pairs_of_32();
+        return links_check(n, lows, highs, &front, &mut fewest);
+    }
     if n <= 128 {
         let first = first_row_starts();
         let mut few = no_pairs_of_128();

@@ -1031,6 +1031,20 @@ pub fn first_row_starts() -> [u32; 128]
     first
 }
 
+// The front of the table, for up to 32 relays: 128 bytes.
+pub(crate) fn row_starts_of_32() -> [u32; 32]
+    ensures { λ r. ⌜ RowsFor 32 r ⌝ }
+{
+    let rows = row_starts();
+    let mut front = [0u32; 32];
+    let mut b = 0;
+    while b < 32 {
+        front[b] = rows[b];
+        b += 1;
+    }
+    front
+}
+
 // The first pair number of the links whose high relay is b.
 pub(crate) fn row_start(b: u16, rows: &[u32]) -> u32
     requires { ⌜ RowsFor (b + 1) (now rows) ⌝ }

@@ -7,21 +7,21 @@ ghost use Rattle.definitions.specs.Outcome.{done, refuseIf, andThen};
 ghost use Rattle.definitions.specs.Network.{statesFault};
 ghost use Rattle.network.specs.Answers.{checkOutcome};
 
-// The list is not n long, or has an entry other than 0 and 1.
+// The list is not n long, or has an entry other than 0 and 1. All entries are gathered before the one test, which the
+// compiler does several at a time.
 fn states_fault(n: u16, states: &[u16]) -> bool
     ensures { λ r. ⌜ r ≡ statesFault n (now (states .entry)) ⌝ }
 {
     if states.len() != n as usize {
         return true;
     }
+    let mut all = 0;
     let mut i = 0;
     while i < states.len() {
-        if 1 < states[i] {
-            return true;
-        }
+        all = all | states[i];
         i += 1;
     }
-    false
+    1 < all
 }
 
 // What the links were refused for stands; after good links the states decide.
