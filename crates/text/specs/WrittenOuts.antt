@@ -1,11 +1,13 @@
 -- The `out` lines of a list of states relay by relay, and how a buffer takes them. Assumes nothing.
-use Prim.Native.Nat.{ℕ, suc, _+_, _-_, _≤_, _<_}
+use Prim.Native.Nat.{ℕ, zero, suc, _+_, _-_, _≤_, _<_}
+use mathlib.Core.Bool.{Bool, true, false}
 use mathlib.Core.List.{List, [], _∷_, _++_}
 use mathlib.Core.Path.{_≡_, refl, sym, _∙_, ap}
 use native.Mathlib.Omega.{arith}
+use lib.Dec.{ltb}
 use lib.ListN.{length, getD, length-append}
 use lib.Seq.{sets}
-use borrow.Author.Tests.{eq-eqb, ne-eqb}
+use borrow.Author.Tests.{eq-eqb, ne-eqb, ltb-true, ltb-false}
 use Rattle.definitions.specs.Form.{writeForm}
 use Rattle.definitions.specs.Text.{outForm, outLine, outLines}
 use Rattle.text.specs.Put.{Put, put-rest}
@@ -50,6 +52,36 @@ pub outs-all : (states : List ℕ) → outsFrom states 0 ≡ outLines states 0 (
 outs-all states =
     let e : length states - 0 ≡ length states = omega arith in
     rw e
+
+-- A number that none of the first `count` states is below.
+abbrev pub AtMostEach : ℕ → List ℕ → ℕ → Type 0
+AtMostEach least states count = (r : ℕ) → r < count → least ≤ getD states r 0
+
+pub at-most-next : (least next : ℕ) (states : List ℕ) (count : ℕ) → AtMostEach least states count
+    → next ≤ least → next ≤ getD states count 0 → AtMostEach next states (count + 1)
+at-most-next least next states count each below last r h = go (ltb r count) refl
+  where
+    go : (b : Bool) → ltb r count ≡ b → next ≤ getD states r 0
+    go true e = omega (arith, each r (ltb-true r count e))
+    go false e =
+        let here : r ≡ count = omega (arith, ltb-false r count e) in
+        rw here last
+
+-- Where no state is 0 there is no line.
+none-within : (states : List ℕ) (count r : ℕ) → ((i : ℕ) → i < r + count → 0 < getD states i 0) → outLines states r count ≡ []
+unfolding outLines
+none-within states zero r serve = refl
+none-within states (suc count) r serve =
+    let here : 0 < getD states r 0 = serve r (omega arith) in
+    rw (
+      line-none (getD states r 0) r (λ e. omega arith),
+      none-within states count (r + 1) (λ i h. serve i (omega arith)),
+    )
+
+pub outs-none : (least : ℕ) (states : List ℕ) → AtMostEach least states (length states) → (least ≡ 0 → ⊥)
+    → outLines states 0 (length states) ≡ []
+outs-none least states each positive =
+    none-within states (length states) 0 (λ i h. omega (arith, each i (omega arith), positive))
 
 -- ---- all lines, into the buffer `start` from an offset on
 module _ (start : List ℕ) (at : ℕ) (states : List ℕ) where

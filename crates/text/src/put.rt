@@ -10,6 +10,7 @@ ghost use Rattle.definitions.specs.Text.{headerForm, endForm, outLine, outLines
 ghost use Rattle.text.specs.Marks.{FormWritable, Moved};
 ghost use Rattle.text.specs.Put.{Put};
 ghost use Rattle.text.specs.Scans.{pairForm};
+ghost use Rattle.text.specs.WrittenOuts.{AtMostEach};
 use crate::scan::Due;
 
 // Where the writer stands: the next offset, and how many links are written.
@@ -29,6 +30,26 @@ fn width(x: usize) -> usize
         count += 1;
     }
     count
+}
+
+// The same for a number of at most five digits, by comparing alone.
+fn short_width(x: usize) -> usize
+    requires { ⌜ x ≤ 65535 ⌝ }
+    ensures { λ r. ⌜ r ≡ length (decimal x) ⌝ }
+{
+    if x < 10 {
+        return 1;
+    }
+    if x < 100 {
+        return 2;
+    }
+    if x < 1000 {
+        return 3;
+    }
+    if x < 10000 {
+        return 4;
+    }
+    5
 }
 
 // A word to the letter.
@@ -112,12 +133,35 @@ fn put_out(buffer: &mut [u8], at: usize, state: u16, relay: usize) -> usize
     put_word(buffer, p, b")\n")
 }
 
+// The lesser of two states.
+fn lesser(a: u16, b: u16) -> u16
+    ensures { λ r. ⌜ (r ≤ a) × (r ≤ b) ⌝ }
+{
+    if b < a { b } else { a }
+}
+
+// A state that none is below: 0 where a relay is withdrawn. It looks at all entries alike, without an early exit.
+fn least_state(states: &[u16]) -> u16
+    ensures { λ r. ⌜ AtMostEach r (now (states .entry)) (length (now (states .entry))) ⌝ }
+{
+    let mut least: u16 = 1;
+    let mut relay: usize = 0;
+    while relay < states.len() {
+        least = lesser(least, states[relay]);
+        relay += 1;
+    }
+    least
+}
+
 // The `out` lines of all relays that are withdrawn.
 fn put_outs(buffer: &mut [u8], at: usize, states: &[u16]) -> usize
     requires { ⌜ at + length (outLines (now states) 0 (length (now states))) ≤ length (now buffer) ⌝ }
     ensures { λ r. ⌜ Put (now (buffer .entry)) at (outLines (now (states .entry)) 0 (length (now (states .entry))))
         (now (buffer .exit)) r ⌝ }
 {
+    if least_state(states) != 0 {
+        return at;
+    }
     let mut p = at;
     let mut relay: usize = 0;
     while relay < states.len() {
@@ -140,7 +184,7 @@ pub(crate) fn pair_length(words: usize, a: usize, b: usize) -> usize
     requires { ⌜ (words ≤ 25) × (a ≤ 65535) × (b ≤ 65535) ⌝ }
     ensures { λ r. ⌜ (r ≡ words + length (decimal a) + length (decimal b)) × (r ≤ words + 10) ⌝ }
 {
-    words + width(a) + width(b)
+    words + short_width(a) + short_width(b)
 }
 
 // The length of a relay's `out` line by its state: its words have 7 bytes.
@@ -151,7 +195,7 @@ fn out_length(state: u16, relay: usize) -> usize
     if state != 0 {
         return 0;
     }
-    7 + width(relay)
+    7 + short_width(relay)
 }
 
 // The length of all `out` lines.
@@ -159,6 +203,9 @@ pub(crate) fn outs_length(states: &[u16]) -> usize
     requires { ⌜ length (now states) ≤ 1000 ⌝ }
     ensures { λ r. ⌜ (r ≡ length (outLines (now (states .entry)) 0 (length (now (states .entry))))) × (r ≤ 10000) ⌝ }
 {
+    if least_state(states) != 0 {
+        return 0;
+    }
     let mut total: usize = 0;
     let mut relay: usize = 0;
     while relay < states.len() {

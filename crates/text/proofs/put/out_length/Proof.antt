@@ -2,7 +2,6 @@
 use mathlib.Core.Path.{sym, ap}
 use native.Mathlib.Omega.{arith}
 use lib.ListN.{length}
-use borrow.Author.Needs.{needs}
 use Rattle.text_theory.specs.Decimal.{length-decimal-at-most}
 use Rattle.text_theory.specs.Lengths.{length-out}
 use Rattle.text.specs.WrittenOuts.{line-out, line-none}
@@ -14,21 +13,21 @@ returns c =
     let a = c .before .args in
     (sym (ap length (line-none (a .state) (a .relay) (c .if1 .taken))), omega arith)
 
-width-requires : tie.Need-width-requires
-width-requires c κs = search needs
+short-width-requires : tie.Need-short-width-requires
+short-width-requires c κs = omega arith
 
 add-result : tie.Need-add-result
 add-result c =
     let relay = c .before .before .args .relay in
-    omega (arith, c .width .ensures, length-decimal-at-most 2 relay (omega arith))
+    omega (arith, c .short-width .ensures, length-decimal-at-most 2 relay (omega arith))
 
 returns-2 : tie.Need-returns-2
 returns-2 c =
     let a = c .before .before .args in
     let line = ap length (line-out (a .state) (a .relay) (c .before .if1 .left)) in (
-      omega (arith, c .width .ensures, line, length-out (a .relay)),
-      omega (arith, c .width .ensures, length-decimal-at-most 2 (a .relay) (omega arith)),
+      omega (arith, c .short-width .ensures, line, length-out (a .relay)),
+      omega (arith, c .short-width .ensures, length-decimal-at-most 2 (a .relay) (omega arith)),
     )
 
 pub out-length-spec : {M : Type 1} → statement M
-out-length-spec = tie.close (tie.spec returns width-requires add-result returns-2)
+out-length-spec = tie.close (tie.spec returns short-width-requires add-result returns-2)

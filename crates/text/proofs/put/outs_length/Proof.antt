@@ -1,12 +1,13 @@
--- `text::put::outs_length` meets its contract. The loop: the length so far and that of the lines left make that of all lines.
--- Assumes nothing.
+-- `text::put::outs_length` meets its contract: nothing where none is withdrawn. The loop: the length so far and that
+-- of the lines left make that of all lines. Assumes nothing.
 use Prim.Native.Nat.{_+_, _-_, _*_, _≤_}
-use mathlib.Core.Path.{_≡_, ap}
+use mathlib.Core.Path.{_≡_, sym, ap}
 use native.Mathlib.Omega.{arith}
 use lib.ListN.{length}
+use borrow.Author.Needs.{needs}
 use denote.Ref.{now}
 use Rattle.definitions.specs.Text.{outLines}
-use Rattle.text.specs.WrittenOuts.{outsFrom, outs-all, length-outs-step, outs-end}
+use Rattle.text.specs.WrittenOuts.{outsFrom, outs-all, outs-none, length-outs-step, outs-end}
 use Rattle.text.proofs.put.outs_length.Statement.{statement}
 use Rattle.text.proofs.put.outs_length.Tie as tie
 
@@ -18,8 +19,17 @@ Inv-loop states total₀ relay₀ total relay =
 abbrev μ-loop : tie.MeasureT-loop
 μ-loop states total₀ relay₀ total relay = length states - relay
 
+least-state-requires : tie.Need-least-state-requires Inv-loop μ-loop
+least-state-requires c κs = search needs
+
+returns : tie.Need-returns Inv-loop μ-loop
+returns c =
+    let least = c .before .least-state in
+    let states = now (c .before .before .before .args .states) in
+    (sym (ap length (outs-none _ states (least .ensures) (c .if1 .taken))), omega arith)
+
 loop-holds : tie.Need-loop-holds Inv-loop μ-loop
-loop-holds c = (omega arith, omega arith, omega (arith, ap length (outs-all (now (c .before .args .states)))))
+loop-holds c = (omega arith, omega arith, omega (arith, ap length (outs-all (now (c .before .before .before .args .states)))))
 
 mul-out-length : tie.Need-mul-out-length Inv-loop μ-loop
 mul-out-length c = omega arith
@@ -42,14 +52,14 @@ loop-less c = omega arith
 loop-again : tie.Need-loop-again Inv-loop μ-loop
 loop-again c =
     let l = c .before .before .before .loop in
-    let states = now (c .before .before .before .before .before .args .states) in
+    let states = now (c .before .before .before .before .before .before .before .args .states) in
     let more = length-outs-step states (l .relay) (omega arith) in
     (omega arith, omega arith, omega (arith, more, c .out-length .ensures, l .inv))
 
-returns : tie.Need-returns Inv-loop μ-loop
-returns c =
+returns-2 : tie.Need-returns-2 Inv-loop μ-loop
+returns-2 c =
     let l = c .before .loop in
-    let none = ap length (outs-end (now (c .before .before .before .args .states)) (l .relay) (omega arith)) in
+    let none = ap length (outs-end (now (c .before .before .before .before .before .args .states)) (l .relay) (omega arith)) in
     (omega (arith, none, l .inv), omega arith)
 
 pub outs-length-spec : {M : Type 1} → statement M
@@ -58,6 +68,8 @@ outs-length-spec =
     (tie.spec
     Inv-loop
     μ-loop
+    least-state-requires
+    returns
     loop-holds
     mul-out-length
     shared-slice-read-out-length
@@ -66,4 +78,4 @@ outs-length-spec =
     add-relay
     loop-less
     loop-again
-    returns)
+    returns-2)

@@ -5,31 +5,31 @@ use Rattle.text_theory.specs.Decimal.{length-decimal-at-most}
 use Rattle.text.proofs.put.pair_length.Statement.{statement}
 use Rattle.text.proofs.put.pair_length.Tie as tie
 
-width-requires : tie.Need-width-requires
-width-requires c κs = search needs
+short-width-requires : tie.Need-short-width-requires
+short-width-requires c κs = search needs
 
 add-result : tie.Need-add-result
-add-result c = omega (arith, c .width .ensures, length-decimal-at-most 4 (c .before .args .a) (omega arith))
+add-result c = omega (arith, c .short-width .ensures, length-decimal-at-most 4 (c .before .args .a) (omega arith))
 
-width-requires-2 : tie.Need-width-requires-2
-width-requires-2 c κs = search needs
+short-width-requires-2 : tie.Need-short-width-requires-2
+short-width-requires-2 c κs = search needs
 
 add-result-2 : tie.Need-add-result-2
 add-result-2 c =
     let a = c .before .before .args in
     let one = length-decimal-at-most 4 (a .a) (omega arith) in
     let two = length-decimal-at-most 4 (a .b) (omega arith) in
-    omega (arith, c .before .width .ensures, c .width2 .ensures, one, two)
+    omega (arith, c .before .short-width .ensures, c .short-width2 .ensures, one, two)
 
 returns : tie.Need-returns
 returns c =
     let a = c .before .before .args in
     let one = length-decimal-at-most 4 (a .a) (omega arith) in
     let two = length-decimal-at-most 4 (a .b) (omega arith) in (
-      omega (arith, c .before .width .ensures, c .width2 .ensures),
-      omega (arith, c .before .width .ensures, c .width2 .ensures, one, two),
+      omega (arith, c .before .short-width .ensures, c .short-width2 .ensures),
+      omega (arith, c .before .short-width .ensures, c .short-width2 .ensures, one, two),
     )
 
 pub pair-length-spec : {M : Type 1} → statement M
 pair-length-spec =
-    tie.close (tie.spec width-requires add-result width-requires-2 add-result-2 returns)
+    tie.close (tie.spec short-width-requires add-result short-width-requires-2 add-result-2 returns)
