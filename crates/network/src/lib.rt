@@ -113,7 +113,7 @@ fn pair_index(a: u16, b: u16, rows: &[u32]) -> u32
 }
 
 // No pair of up to 32 relays is marked yet: one bit for each of the 496 pair numbers.
-fn no_pairs_of_32() -> [u64; 8]
+pub fn no_pairs_of_32() -> [u64; 8]
     ensures { λ r. ⌜ r ≡ replicate 8 0 ⌝ }
 {
     [0u64; 8]

@@ -1032,7 +1032,7 @@ pub fn first_row_starts() -> [u32; 128]
 }
 
 // The front of the table, for up to 32 relays: 128 bytes.
-pub(crate) fn row_starts_of_32() -> [u32; 32]
+pub fn row_starts_of_32() -> [u32; 32]
     ensures { λ r. ⌜ RowsFor 32 r ⌝ }
 {
     let rows = row_starts();

@@ -93,6 +93,11 @@ pub(crate) fn read_all_links(
     ensures { λ r. ⌜ LinksRead (now (text .entry)) n m at (now (lows .entry)) (now (highs .entry)) (now (lows .exit))
         (now (highs .exit)) r ⌝ }
 {
+    if n <= 32 {
+        let front = network::row_starts::row_starts_of_32();
+        let mut fewest = network::no_pairs_of_32();
+        return read_links(text, n, m, at, lows, highs, &front, &mut fewest);
+    }
     if n <= 128 {
         let first = network::row_starts::first_row_starts();
         let mut few = network::no_pairs_of_128();

@@ -4,15 +4,15 @@ use mathlib.Core.List.{[]}
 use native.Mathlib.Omega.{arith}
 use borrow.Author.Needs.{needs}
 use Rattle.network.specs.RowStarts.{rows-fewer}
-use Rattle.network.specs.Seen.{none-of-128, none-of-512, none-of-1000}
+use Rattle.network.specs.Seen.{none-of-32, none-of-128, none-of-512, none-of-1000}
 use Rattle.text.proofs.rows.read_all_links.Statement.{statement}
 use Rattle.text.proofs.rows.read_all_links.Tie as tie
 
-first-row-starts-requires : tie.Need-first-row-starts-requires
-first-row-starts-requires c κs = search needs
+row-starts-of-32-requires : tie.Need-row-starts-of-32-requires
+row-starts-of-32-requires c κs = search needs
 
-no-pairs-of-128-requires : tie.Need-no-pairs-of-128-requires
-no-pairs-of-128-requires c κs = search needs
+no-pairs-of-32-requires : tie.Need-no-pairs-of-32-requires
+no-pairs-of-32-requires c κs = search needs
 
 slice-aggregate-read-links : tie.Need-slice-aggregate-read-links
 slice-aggregate-read-links c = search needs
@@ -23,10 +23,10 @@ slice-aggregate-read-links-2 c = search needs
 read-links-requires : tie.Need-read-links-requires
 read-links-requires c κs =
     let atNoPairs = c .before .before .before .before in
-    let got = atNoPairs .before .first-row-starts in
-    let none = atNoPairs .no-pairs-of-128 .ensures in (
+    let got = atNoPairs .before .row-starts-of-32 in
+    let none = atNoPairs .no-pairs-of-32 .ensures in (
       (omega arith, omega arith, omega arith),
-      (rows-fewer _ 128 (got .result) (omega arith) (got .ensures), none-of-128 _ _ [] [] (omega arith) none),
+      (rows-fewer _ 32 (got .result) (omega arith) (got .ensures), none-of-32 _ _ [] [] (omega arith) none),
     )
 
 same-length : tie.Need-same-length
@@ -38,11 +38,11 @@ same-length-2 c = search needs
 returns : tie.Need-returns
 returns c = search needs
 
-row-starts-requires : tie.Need-row-starts-requires
-row-starts-requires c κs = search needs
+first-row-starts-requires : tie.Need-first-row-starts-requires
+first-row-starts-requires c κs = search needs
 
-no-pairs-of-512-requires : tie.Need-no-pairs-of-512-requires
-no-pairs-of-512-requires c κs = search needs
+no-pairs-of-128-requires : tie.Need-no-pairs-of-128-requires
+no-pairs-of-128-requires c κs = search needs
 
 slice-aggregate-read-links-3 : tie.Need-slice-aggregate-read-links-3
 slice-aggregate-read-links-3 c = search needs
@@ -53,10 +53,10 @@ slice-aggregate-read-links-4 c = search needs
 read-links-requires-2 : tie.Need-read-links-requires-2
 read-links-requires-2 c κs =
     let atNoPairs = c .before .before .before .before in
-    let got = atNoPairs .before .before .row-starts in
-    let none = atNoPairs .no-pairs-of-512 .ensures in (
+    let got = atNoPairs .before .first-row-starts in
+    let none = atNoPairs .no-pairs-of-128 .ensures in (
       (omega arith, omega arith, omega arith),
-      (rows-fewer _ 1000 (got .result) (omega arith) (got .ensures), none-of-512 _ _ [] [] (omega arith) none),
+      (rows-fewer _ 128 (got .result) (omega arith) (got .ensures), none-of-128 _ _ [] [] (omega arith) none),
     )
 
 same-length-3 : tie.Need-same-length-3
@@ -68,8 +68,11 @@ same-length-4 c = search needs
 returns-2 : tie.Need-returns-2
 returns-2 c = search needs
 
-no-pairs-of-1000-requires : tie.Need-no-pairs-of-1000-requires
-no-pairs-of-1000-requires c κs = search needs
+row-starts-requires : tie.Need-row-starts-requires
+row-starts-requires c κs = search needs
+
+no-pairs-of-512-requires : tie.Need-no-pairs-of-512-requires
+no-pairs-of-512-requires c κs = search needs
 
 slice-aggregate-read-links-5 : tie.Need-slice-aggregate-read-links-5
 slice-aggregate-read-links-5 c = search needs
@@ -81,9 +84,9 @@ read-links-requires-3 : tie.Need-read-links-requires-3
 read-links-requires-3 c κs =
     let atNoPairs = c .before .before .before .before in
     let got = atNoPairs .before .before .row-starts in
-    let none = atNoPairs .no-pairs-of-1000 .ensures in (
+    let none = atNoPairs .no-pairs-of-512 .ensures in (
       (omega arith, omega arith, omega arith),
-      (rows-fewer _ 1000 (got .result) (omega arith) (got .ensures), none-of-1000 _ _ [] [] (omega arith) none),
+      (rows-fewer _ 1000 (got .result) (omega arith) (got .ensures), none-of-512 _ _ [] [] (omega arith) none),
     )
 
 same-length-5 : tie.Need-same-length-5
@@ -95,30 +98,65 @@ same-length-6 c = search needs
 returns-3 : tie.Need-returns-3
 returns-3 c = search needs
 
+no-pairs-of-1000-requires : tie.Need-no-pairs-of-1000-requires
+no-pairs-of-1000-requires c κs = search needs
+
+slice-aggregate-read-links-7 : tie.Need-slice-aggregate-read-links-7
+slice-aggregate-read-links-7 c = search needs
+
+slice-aggregate-read-links-8 : tie.Need-slice-aggregate-read-links-8
+slice-aggregate-read-links-8 c = search needs
+
+read-links-requires-4 : tie.Need-read-links-requires-4
+read-links-requires-4 c κs =
+    let atNoPairs = c .before .before .before .before in
+    let got = atNoPairs .before .before .row-starts in
+    let none = atNoPairs .no-pairs-of-1000 .ensures in (
+      (omega arith, omega arith, omega arith),
+      (rows-fewer _ 1000 (got .result) (omega arith) (got .ensures), none-of-1000 _ _ [] [] (omega arith) none),
+    )
+
+same-length-7 : tie.Need-same-length-7
+same-length-7 c = search needs
+
+same-length-8 : tie.Need-same-length-8
+same-length-8 c = search needs
+
+returns-4 : tie.Need-returns-4
+returns-4 c = search needs
+
 pub read-all-links-spec : {M : Type 1} → statement M
 read-all-links-spec =
     tie.close
     (tie.spec
-    first-row-starts-requires
-    no-pairs-of-128-requires
+    row-starts-of-32-requires
+    no-pairs-of-32-requires
     slice-aggregate-read-links
     slice-aggregate-read-links-2
     read-links-requires
     same-length
     same-length-2
     returns
-    row-starts-requires
-    no-pairs-of-512-requires
+    first-row-starts-requires
+    no-pairs-of-128-requires
     slice-aggregate-read-links-3
     slice-aggregate-read-links-4
     read-links-requires-2
     same-length-3
     same-length-4
     returns-2
-    no-pairs-of-1000-requires
+    row-starts-requires
+    no-pairs-of-512-requires
     slice-aggregate-read-links-5
     slice-aggregate-read-links-6
     read-links-requires-3
     same-length-5
     same-length-6
-    returns-3)
+    returns-3
+    no-pairs-of-1000-requires
+    slice-aggregate-read-links-7
+    slice-aggregate-read-links-8
+    read-links-requires-4
+    same-length-7
+    same-length-8
+    returns-4)
