@@ -52,6 +52,13 @@ pub(crate) fn few_column_zeros() -> [u64; FEW_COLUMNS * COLUMN_WORDS]
     [0; FEW_COLUMNS * COLUMN_WORDS]
 }
 
+// The same for 32 relays, which are in one column.
+pub(crate) fn one_column_zeros() -> [u64; COLUMN_WORDS]
+    ensures { λ r. ⌜ r ≡ replicate columnWords 0 ⌝ }
+{
+    [0; COLUMN_WORDS]
+}
+
 // The word of a count in the column of a relay.
 fn word_of(count: u16, r: Relay) -> usize
     ensures { λ at. ⌜ at ≡ wordOf count (r .0) ⌝ }

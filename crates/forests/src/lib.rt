@@ -5,8 +5,8 @@ use marks::mark_links;
 use network::Check;
 use network::Refusal;
 use network::table_check;
-use scan::number_links;
-use scan::place_relays;
+use results::number_links;
+use results::place_relays;
 ghost use mathlib.Core.Path.{_≡_};
 ghost use Rattle.definitions.specs.Order.{orderAnswer, relaysAfter, placesAfter};
 ghost use Rattle.definitions.specs.Forests.{splitAnswer, forestsAfter, cutAnswer, marksAfter};
@@ -22,6 +22,7 @@ mod idle;
 pub mod left;
 mod marks;
 mod relays;
+mod results;
 pub mod scan;
 mod walk;
 

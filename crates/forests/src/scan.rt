@@ -1,14 +1,15 @@
 // The scan: relays are placed one after another, and each link gets its forest number in the same pass.
 use crate::arrays::few_half_link_zeros;
-use crate::arrays::few_link_zeros;
 use crate::arrays::few_relay_copies;
 use crate::arrays::half_link_zeros;
-use crate::arrays::link_zeros;
 use crate::arrays::relay_copies;
+use crate::arrays::tiny_half_link_zeros;
+use crate::arrays::tiny_relay_copies;
 use crate::buckets::column_zeros;
 use crate::buckets::columns_of;
 use crate::buckets::few_column_zeros;
 use crate::buckets::leading;
+use crate::buckets::one_column_zeros;
 use crate::buckets::start_counts;
 use crate::busiest::busiest;
 use crate::chains::link_up;
@@ -21,12 +22,10 @@ use crate::walk::walk;
 use network::Place;
 use network::Relay;
 ghost use Prim.Native.Nat.{_*_, _<_, _≤_};
+ghost use mathlib.Core.Bool.{true};
 ghost use mathlib.Core.Path.{_≡_};
 ghost use lib.ListN.{length, getD};
-ghost use Rattle.definitions.specs.Lists.{overwrite};
 ghost use Rattle.definitions.specs.Network.{Accepted};
-ghost use Rattle.definitions.specs.Order.{orderOf, placesOf};
-ghost use Rattle.definitions.specs.Forests.{forestsOf};
 ghost use Rattle.forests.specs.Counts.{turnsOf};
 ghost use Rattle.forests.specs.Buckets.{columnWords, mostColumns, NoBits, Leads};
 ghost use Rattle.forests.specs.Scan.{ChainArrays, Prepared, Startable, Scannable, isSmall, Scanned};
@@ -153,6 +152,46 @@ pub fn is_small(n: u16, m: usize) -> bool
     if n <= 128 { m <= 384 } else { false }
 }
 
+// The same for 32 relays and 96 links.
+fn is_tiny(n: u16, m: usize) -> bool
+    ensures { λ r. ⌜ (r ≡ true → (n ≤ 32) × (m ≤ 96)) ⌝ }
+{
+    if n <= 32 { m <= 96 } else { false }
+}
+
+fn scan_tiny(
+    n: u16,
+    lows: &[u16],
+    highs: &[u16],
+    states: &[u16],
+    relays: &mut [u16],
+    places: &mut [u16],
+    forests: &mut [u16],
+)
+    requires { ⌜ Scannable n (now lows) (now highs) (now states) (now relays) (now places) (now forests) × (n ≤ 32) × (length (now lows) ≤ 96) ⌝ }
+    ensures { λ _. ⌜ Scanned n (now (lows .entry)) (now (highs .entry)) (now (states .entry)) (now (relays .entry))
+        (now (relays .exit)) (now (places .entry)) (now (places .exit)) (now (forests .entry)) (now (forests .exit)) ⌝ }
+{
+    let none = 2 * lows.len() as u16;
+    let mut first = tiny_relay_copies(none);
+    let mut nexts = tiny_half_link_zeros();
+    let mut counts = tiny_relay_copies(0);
+    let mut bits = one_column_zeros();
+    scan_in(
+        n,
+        lows,
+        highs,
+        states,
+        &mut first,
+        &mut nexts,
+        &mut counts,
+        &mut bits,
+        relays,
+        places,
+        forests,
+    );
+}
+
 fn scan_small(
     n: u16,
     lows: &[u16],
@@ -233,50 +272,11 @@ pub fn scan(
     ensures { λ _. ⌜ Scanned n (now (lows .entry)) (now (highs .entry)) (now (states .entry)) (now (relays .entry))
         (now (relays .exit)) (now (places .entry)) (now (places .exit)) (now (forests .entry)) (now (forests .exit)) ⌝ }
 {
-    if is_small(n, lows.len()) {
+    if is_tiny(n, lows.len()) {
+        scan_tiny(n, lows, highs, states, relays, places, forests);
+    } else if is_small(n, lows.len()) {
         scan_small(n, lows, highs, states, relays, places, forests);
     } else {
         scan_large(n, lows, highs, states, relays, places, forests);
-    }
-}
-
-// The order and the places alone.
-pub(crate) fn place_relays(
-    n: u16,
-    lows: &[u16],
-    highs: &[u16],
-    states: &[u16],
-    relays: &mut [u16],
-    places: &mut [u16],
-)
-    requires { ⌜ Accepted n (now lows) (now highs) (now states) × (n ≤ length (now relays)) × (n ≤ length (now places)) ⌝ }
-    ensures { λ _. ⌜ now (relays .exit)
-        ≡ overwrite (orderOf n (now (lows .entry)) (now (highs .entry)) (now (states .entry))) (now (relays .entry)) ⌝ }
-    ensures { λ _. ⌜ now (places .exit)
-        ≡ overwrite (placesOf n (orderOf n (now (lows .entry)) (now (highs .entry)) (now (states .entry)))) (now (places .entry)) ⌝ }
-{
-    if lows.len() <= 384 {
-        let mut forests = few_link_zeros();
-        scan(n, lows, highs, states, relays, places, &mut forests);
-    } else {
-        let mut forests = link_zeros();
-        scan(n, lows, highs, states, relays, places, &mut forests);
-    }
-}
-
-// The forest numbers alone.
-pub(crate) fn number_links(n: u16, lows: &[u16], highs: &[u16], states: &[u16], forests: &mut [u16])
-    requires { ⌜ Accepted n (now lows) (now highs) (now states) × (length (now lows) ≤ length (now forests)) ⌝ }
-    ensures { λ _. ⌜ now (forests .exit)
-        ≡ overwrite (forestsOf n (now (lows .entry)) (now (highs .entry)) (now (states .entry))) (now (forests .entry)) ⌝ }
-{
-    if n <= 128 {
-        let mut relays = few_relay_copies(0);
-        let mut places = few_relay_copies(0);
-        scan(n, lows, highs, states, &mut relays, &mut places, forests);
-    } else {
-        let mut relays = relay_copies(0);
-        let mut places = relay_copies(0);
-        scan(n, lows, highs, states, &mut relays, &mut places, forests);
     }
 }

@@ -1,8 +1,8 @@
 -- The scan with a list of its own for the forest numbers. Assumes nothing.
 use Rattle.forests.proofs.SizeLaws.{link-room}
 use borrow.Author.Needs.{needs}
-use Rattle.forests.proofs.scan.place_relays.Statement.{statement}
-use Rattle.forests.proofs.scan.place_relays.Tie as tie
+use Rattle.forests.proofs.results.place_relays.Statement.{statement}
+use Rattle.forests.proofs.results.place_relays.Tie as tie
 
 few-link-zeros-requires : tie.Need-few-link-zeros-requires
 few-link-zeros-requires c κs = search needs

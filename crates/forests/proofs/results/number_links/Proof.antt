@@ -1,8 +1,8 @@
 -- The scan with lists of its own for the order. Assumes nothing.
 use Rattle.forests.proofs.SizeLaws.{relay-room}
 use borrow.Author.Needs.{needs}
-use Rattle.forests.proofs.scan.number_links.Statement.{statement}
-use Rattle.forests.proofs.scan.number_links.Tie as tie
+use Rattle.forests.proofs.results.number_links.Statement.{statement}
+use Rattle.forests.proofs.results.number_links.Tie as tie
 
 few-relay-copies-requires : tie.Need-few-relay-copies-requires
 few-relay-copies-requires c κs = search needs
