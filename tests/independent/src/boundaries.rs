@@ -10,6 +10,10 @@ const RELAYS: [usize; 11] = [63, 64, 65, 127, 128, 129, 511, 512, 513, 999, 1000
 /// About arrays for 384 and 3,000 links.
 const LINKS: [usize; 5] = [383, 384, 385, 2999, 3000];
 
+/// About arrays for 32 relays and 96 links.
+const FEW_RELAYS: [usize; 3] = [31, 32, 33];
+const FEW_LINKS: [usize; 3] = [95, 96, 97];
+
 /// The largest full network within 3,000 links: its last relay waits with 76 placed neighbours, and none waits with more.
 const CORE: usize = 77;
 
@@ -40,6 +44,9 @@ fn crowded(random: &mut Random, n: usize, tree: bool) -> Network {
 /// Every one of them.
 pub fn boundaries(random: &mut Random) -> Vec<Network> {
     let mut all = vec![crowded(random, CORE, false)];
+    for n in FEW_RELAYS {
+        all.extend(FEW_LINKS.map(|m| scattered(random, n, m)));
+    }
     for n in RELAYS {
         all.extend(LINKS.map(|m| scattered(random, n, m)));
         if n > CORE {
