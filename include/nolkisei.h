@@ -61,8 +61,8 @@ extern "C" {
 #define NOLKISEI_ROUTE_SCRATCH 32000
 
 /* Enough stack for any call, beside what the caller uses. Measured, not proved: tests/stack.c fills a thread's stack with one byte,
- * calls each function on the largest networks and counts the bytes that changed: nolkisei_plan needs some 182,000, nolkisei_keep
- * 155,000, nolkisei_route and nolkisei_route_links 85,000, and every other function less than that. */
+ * calls each function on the largest networks and counts the bytes that changed: nolkisei_plan needs some 202,000, nolkisei_keep
+ * 175,000, nolkisei_route and nolkisei_route_links 103,000, and every other function less than that. */
 #define NOLKISEI_STACK 262144
 
 /* What a function returns: 0 when it is done, or the number of its refusal. It writes both entries of `answer`: after a refusal its
