@@ -1,6 +1,6 @@
 -- The laws of the waiting relays by their count: what a change of one count does to the bits. Assumes nothing.
 use Prim.Native.Nat.{ℕ, zero, suc, _+_, _*_, _/_, _%_, _^_, _≤_, _<_}
-use mathlib.Core.Bool.{Bool, true, not, _||_, or-false, or-true}
+use mathlib.Core.Bool.{Bool, true, false, not, _||_, or-false, or-true}
 use mathlib.Core.List.{List}
 use mathlib.Core.Logic.{_≢_}
 use mathlib.Core.Path.{_≡_, refl, sym, _∙_, ap, ap₂}
@@ -20,6 +20,7 @@ use Rattle.forests.specs.Buckets.{
   mostCount,
   columnOf,
   wordIn,
+  waitsFor,
   bitFor,
   wordOf,
   slotOf,
@@ -73,12 +74,19 @@ entered-some : (bits : List ℕ) (c r count : ℕ) → 0 < count → changed bit
 unfolding mark
 entered-some = changed-some bitOr
 
--- The bit of a relay, as the code makes it.
-pub no-bit-of : (count r : ℕ) → count ≡ 0 → bitFor count r ≡ 0
-no-bit-of count r e = rw (eq-eqb count 0 e)
+-- One for a relay that waits, and its bit, as the code makes them.
+pub waits-none : (count : ℕ) → count ≡ 0 → 0 ≡ waitsFor count
+waits-none count e = rw (eq-eqb count 0 e)
 
-pub bit-of : (count r : ℕ) → (count ≡ 0 → ⊥) → 1 * 2 ^ (r % wordBits) % 2 ^ 64 ≡ bitFor count r
-bit-of count r e = one-bit r ∙ rw (ne-eqb count 0 e)
+pub waits-some : (count : ℕ) → count ≢ 0 → 1 ≡ waitsFor count
+waits-some count e = rw (ne-eqb count 0 e)
+
+pub bit-of : (count r one : ℕ) → one ≡ waitsFor count → one * 2 ^ (r % wordBits) % 2 ^ 64 ≡ bitFor count r
+bit-of count r one e = ap (λ (x : ℕ). x * 2 ^ (r % wordBits) % 2 ^ 64) e ∙ go (eqb count 0)
+  where
+    go : (none : Bool) → pick none 0 1 * 2 ^ (r % wordBits) % 2 ^ 64 ≡ pick none 0 (2 ^ (r % wordBits))
+    go true = omega arith
+    go false = one-bit r
 
 -- The bit of a relay stands in its column's word.
 pub in-word : (bits : List ℕ) (count r : ℕ)

@@ -35,6 +35,10 @@ columnOf r = r / wordBits
 abbrev pub wordIn : (g count : ℕ) → ℕ
 wordIn g count = g * columnWords + count
 
+-- One for a relay that waits; none for one whose count is 0.
+abbrev pub waitsFor : (count : ℕ) → ℕ
+waitsFor count = pick (eqb count 0) 0 1
+
 -- The bit of a relay in a word; none of a placed relay, whose count is 0.
 abbrev pub bitFor : (count r : ℕ) → ℕ
 bitFor count r = pick (eqb count 0) 0 (2 ^ (r % wordBits))

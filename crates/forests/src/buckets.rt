@@ -15,6 +15,7 @@ ghost use Rattle.forests.specs.Buckets.{
   fewColumns,
   mostCount,
   columnsFor,
+  waitsFor,
   bitFor,
   fullWord,
   wordOf,
@@ -67,12 +68,20 @@ fn word_of(count: u16, r: Relay) -> usize
     column * COLUMN_WORDS + count as usize
 }
 
-// The bit of a relay in its words; none of a placed relay, whose count is 0.
+// One for a relay that waits; none for one whose count is 0.
+fn waits(count: u16) -> u64
+    ensures { λ one. ⌜ one ≡ waitsFor count ⌝ }
+{
+    if count == 0 { 0 } else { 1 }
+}
+
+// The bit of a relay in its words; none of a placed relay, whose count is 0. What is shifted is chosen, and not what comes of it:
+// that takes one register less, and then the walk keeps all that it needs in registers (docs/DECISIONS.md).
 fn bit_of(count: u16, r: Relay) -> u64
     ensures { λ bit. ⌜ bit ≡ bitFor count (r .0) ⌝ }
 {
     let shift = r.0 as usize % WORD_BITS;
-    if count == 0 { 0 } else { 1u64 << shift }
+    waits(count) << shift
 }
 
 // A bit is flipped in the word at `at`; none if `bit` is 0.
