@@ -8,7 +8,7 @@ use mathlib.Core.Path.{_≡_}
 use lib.Dec.{eqb, ltb, leb}
 use lib.ListN.{length, getD}
 use Rattle.definitions.specs.Outcome.{pick, done, Answer, refuseIf, andThen}
-use Rattle.definitions.specs.Lists.{outside, someBelow}
+use Rattle.definitions.specs.Lists.{outside, someBelow, greatest}
 
 -- The first pair number of the links whose high relay is b.
 unfoldable pub rowStart : (b : ℕ) → ℕ
@@ -65,9 +65,9 @@ linksCheck n lows highs i (suc count) =
     let fault = linkFault n lows highs i (getD lows i 0) (getD highs i 0) in
     refuseIf (ltb 0 fault) fault i (linksCheck n lows highs (i + 1) count)
 
--- "a state list not n long or with an entry other than 0 and 1" (document 02, #105)
+-- "a state list not n long or with an entry other than 0 and 1" (document 02, #105): its greatest entry is above 1.
 unfoldable pub statesFault : (n : ℕ) (states : List ℕ) → Bool
-statesFault n states = not (eqb (length states) n) || someBelow (λ r. ltb 1 (getD states r 0)) (length states)
+statesFault n states = not (eqb (length states) n) || ltb 1 (greatest states)
 
 -- The table check: "3; then 4, lists of unequal length (m is their length) or over 3,000; then link by link 5, 6, 7", and "at the
 -- end of the table check" 16 for the states.

@@ -34,3 +34,9 @@ greatest-at (x ∷ y ∷ l) h = go (greatest-at (y ∷ l) (omega arith)) (decLe 
         → (i : ℕ) × (i < length (x ∷ y ∷ l)) × (getD (x ∷ y ∷ l) i 0 ≡ max x (greatest (y ∷ l)))
     go t (yes p) = (0, omega arith, omega arith)
     go t (no p) = (suc (t .0), omega (arith, t .1), t .2 ∙ omega arith)
+
+-- Where no entry is above x, the greatest is not.
+pub greatest-within : (l : List ℕ) (x : ℕ) → ((i : ℕ) → i < length l → getD l i 0 ≤ x) → greatest l ≤ x
+unfolding greatest
+greatest-within [] x h = omega arith
+greatest-within (y ∷ l) x h = omega (arith, h 0 (omega arith), greatest-within l x (λ i k. h (suc i) (omega arith)))

@@ -9,12 +9,13 @@ use borrow.Author.Tests.{eqb-true, eqb-false, eq-eqb, leb-false, lt-leb, ltb-fal
 use lib.Dec.{eqb, ltb, leb}
 use lib.ListN.{length, getD}
 use Rattle.definitions.specs.Outcome.{pick, Answer, done, refuseIf, andThen}
-use Rattle.definitions.specs.Lists.{outside, someBelow}
+use Rattle.definitions.specs.Lists.{outside, someBelow, greatest}
 use Rattle.definitions.specs.Network.{isPair, linkFault, linksCheck, statesFault, tableCheck, Accepted}
 use Rattle.lists.specs.Outcomes.{not-refused, refuse-not, then-done}
 use Rattle.lists.specs.SameOutcomes.{done-same, done-then}
 use Rattle.lists.specs.Tests.{or-false, or-neither, and-both, and-all}
 use Rattle.lists.specs.Below.{below-none, none-below}
+use Rattle.lists.specs.Greatest.{greatest-above, greatest-within}
 
 -- A link a b without fault after the first i links.
 pub record GoodLink (n : ℕ) (lows highs : List ℕ) (i a b : ℕ) : Type 0 where
@@ -138,19 +139,19 @@ pub record ProperStates (n : ℕ) (states : List ℕ) : Type 0 where
 pub fault-proper : (n : ℕ) (states : List ℕ) → statesFault n states ≡ false → ProperStates n states
 unfolding statesFault
 fault-proper n states e =
-    let none = or-false (not (eqb (length states) n)) (someBelow (λ r. ltb 1 (getD states r 0)) (length states)) e in
+    let none = or-false (not (eqb (length states) n)) (ltb 1 (greatest states)) e in
     let long : length states ≡ n = eqb-true (length states) n (not-false (eqb (length states) n) (none .0)) in
     record {
       long = long;
-      either = λ r h. ltb-false 1 (getD states r 0) (below-none (λ r. ltb 1 (getD states r 0)) (length states) (none .1) r (omega arith));
+      either = λ r h. omega (arith, ltb-false 1 (greatest states) (none .1), greatest-above states r (omega arith));
     }
 
 pub proper-fault : (n : ℕ) (states : List ℕ) → ProperStates n states → statesFault n states ≡ false
 unfolding statesFault
 proper-fault n states s =
-    or-neither (not (eqb (length states) n)) (someBelow (λ r. ltb 1 (getD states r 0)) (length states))
+    or-neither (not (eqb (length states) n)) (ltb 1 (greatest states))
     (ap not (eq-eqb (length states) n (s .long)))
-    (none-below (λ r. ltb 1 (getD states r 0)) (length states) (λ r h. le-ltb 1 (getD states r 0) (s .either r (omega (arith, s .long)))))
+    (le-ltb 1 (greatest states) (greatest-within states 1 (λ r h. s .either r (omega (arith, s .long)))))
 
 pub accepted : (n : ℕ) (lows highs states : List ℕ) → Accepted n lows highs states → ProperTable n lows highs
 unfolding outside isPair

@@ -1,4 +1,4 @@
--- `states_fault` meets its contract. The loop's invariant: what is gathered is above 1 exactly if an entry passed is.
+-- `states_fault` meets its contract. The loop's invariant: what is gathered is above 1 exactly if the greatest entry passed is.
 -- Assumes nothing.
 use Prim.Native.Nat.{_-_, _≤_}
 use native.Mathlib.Omega.{arith}
@@ -37,7 +37,7 @@ loop-again : tie.Need-loop-again Inv-loop μ-loop
 loop-again c =
     let now = c .before .before .loop in
     let a = c .before .before .before .before .args in
-    (omega arith, one-more (a .states .now) (now .i) (now .all) (now .inv .1))
+    (omega arith, one-more (a .states .now) (now .i) (now .all) (omega arith) (now .inv .1))
 
 returns-2 : tie.Need-returns-2 Inv-loop μ-loop
 returns-2 c =
