@@ -9,10 +9,11 @@ use lib.Dec.{leb}
 use lib.ListN.{length, getD, replicate, length-replicate, getD-replicate}
 use Rattle.definitions.specs.Network.{Accepted}
 use Rattle.lists.specs.Tests.{and-both}
-use Rattle.theory.specs.Accepted.{ProperTable, accepted}
+use Rattle.theory.specs.Accepted.{ProperTable, ProperStates, accepted, accepted-states}
 use Rattle.forests.specs.Chains.{Chainable}
 use Rattle.forests.specs.Buckets.{wordBits, columnWords, NoBits}
-use Rattle.forests.specs.Scan.{isSmall, ChainArrays}
+use Rattle.forests.specs.Counts.{turnsOf}
+use Rattle.forests.specs.Scan.{isSmall, Scannable, ChainArrays, Prepared, Ready}
 use Rattle.forests.proofs.CountLaws.{none-counted}
 use Rattle.forests.proofs.BucketLaws.{no-bits}
 
@@ -79,6 +80,27 @@ scan-arrays size halves columns n lows {first} {nexts} {counts} {bits} heads few
 -- Columns of more relays are columns of fewer.
 pub fewer-columns : {size fewer : ℕ} {bits : List ℕ} → fewer ≤ size → NoBits size bits → NoBits fewer bits
 fewer-columns h b = record { room = λ r p. b .room r (omega arith); none = b .none }
+
+-- The states of the relays are those of an accepted network.
+pub scan-serves : {n : ℕ} {lows highs states relays places forests : List ℕ} → Scannable n lows highs states relays places forests
+    → (n ≤ 1000) × ProperStates n states
+scan-serves {n} {lows} {highs} {states} can =
+    (accepted n lows highs states (can .accepted) .few, accepted-states n lows highs states (can .accepted))
+
+-- When the chains are made in them, the scan can begin.
+pub made-ready : {n turns start : ℕ} {lows highs states first first′ nexts nexts′ counts counts′ bits : List ℕ}
+    → ChainArrays n lows first nexts counts × NoBits (length counts) bits → turns ≡ turnsOf n states
+    → length first′ ≡ length first → length counts′ ≡ length counts → Prepared n lows highs states first′ nexts′ counts′ start
+    → Ready n turns start lows highs states first′ nexts′ counts′ bits
+made-ready fit turned heads counted made =
+    record {
+      heads = omega (arith, fit .0 .heads);
+      few = omega (arith, fit .0 .few);
+      countRoom = omega (arith, fit .0 .countRoom);
+      noBits = fewer-columns (omega arith) (fit .1);
+      turned = turned;
+      prepared = made;
+    }
 
 -- Chains can be made of an accepted table.
 pub chain-ready : {n : ℕ} {lows highs first nexts counts : List ℕ} (states : List ℕ) → Accepted n lows highs states

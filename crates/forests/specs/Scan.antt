@@ -109,6 +109,15 @@ pub record Prepared (n : ℕ) (lows highs states first nexts counts : List ℕ) 
   pub noneBeyond : NoneBeyond n counts
   pub starts : 0 < turnsOf n states → start ≡ firstRelay n lows highs states
 
+-- What the scan from its first relay on asks of the arrays: the chains are made, and no relay waits yet.
+pub record Ready (n turns start : ℕ) (lows highs states first nexts counts bits : List ℕ) : Type 0 where
+  pub heads : n ≤ length first
+  pub few : length first ≤ 1000
+  pub countRoom : length first ≤ length counts
+  pub noBits : NoBits (length counts) bits
+  pub turned : turns ≡ turnsOf n states
+  pub prepared : Prepared n lows highs states first nexts counts start
+
 -- The lists when the chains are made and places and forest numbers are cleared.
 pub record Cleared (n : ℕ) (lows highs states first nexts relays places forests : List ℕ) : Type 0 where
   pub scannable : Scannable n lows highs states relays places forests

@@ -21,6 +21,7 @@ mod counts;
 mod idle;
 pub mod left;
 mod marks;
+mod placing;
 mod relays;
 mod results;
 pub mod scan;

@@ -1,4 +1,4 @@
-// The scan: relays are placed one after another, and each link gets its forest number in the same pass.
+// The scan of an accepted table, in the smallest arrays that it fits.
 use crate::arrays::few_half_link_zeros;
 use crate::arrays::few_relay_copies;
 use crate::arrays::half_link_zeros;
@@ -6,29 +6,18 @@ use crate::arrays::relay_copies;
 use crate::arrays::tiny_half_link_zeros;
 use crate::arrays::tiny_relay_copies;
 use crate::buckets::column_zeros;
-use crate::buckets::columns_of;
 use crate::buckets::few_column_zeros;
-use crate::buckets::leading;
 use crate::buckets::one_column_zeros;
-use crate::buckets::start_counts;
-use crate::busiest::busiest;
-use crate::chains::link_up;
-use crate::clear::clear;
-use crate::idle::count_serving;
 use crate::idle::serving;
-use crate::relays::begin;
-use crate::relays::put;
-use crate::walk::walk;
+use crate::placing::prepare;
+use crate::placing::scan_in;
 use network::Place;
 use network::Relay;
-ghost use Prim.Native.Nat.{_*_, _<_, _≤_};
+ghost use Prim.Native.Nat.{_<_, _≤_};
 ghost use mathlib.Core.Bool.{true};
 ghost use mathlib.Core.Path.{_≡_};
 ghost use lib.ListN.{length, getD};
-ghost use Rattle.definitions.specs.Network.{Accepted};
-ghost use Rattle.forests.specs.Counts.{turnsOf};
-ghost use Rattle.forests.specs.Buckets.{columnWords, mostColumns, NoBits, Leads};
-ghost use Rattle.forests.specs.Scan.{ChainArrays, Prepared, Startable, Scannable, isSmall, Scanned};
+ghost use Rattle.forests.specs.Scan.{Scannable, isSmall, Scanned};
 
 // The place of a relay, from the list of places.
 pub fn place_of(places: &[u16], r: Relay) -> Place
@@ -37,112 +26,6 @@ pub fn place_of(places: &[u16], r: Relay) -> Place
 {
     let at = r.0 as usize;
     Place(places[at])
-}
-
-// The relay that gets place v: the first is given, and then it is the one that leads.
-fn next_relay(v: Place, start: Relay, columns: usize, most: u16, bits: &[u64]) -> Relay
-    requires { ⌜ (most < columnWords) × (columns ≤ mostColumns) × (columns * columnWords ≤ length (now bits)) ⌝ }
-    ensures { λ x. ⌜ (v .0 ≡ 1 → x .0 ≡ start .0) × (1 < v .0 → Leads columns most (now (bits .entry)) (x .0)) ⌝ }
-{
-    if v.0 <= 1 {
-        return start;
-    }
-    leading(columns, most, bits)
-}
-
-// The relays in service get their places, first `start`; no count is greater than `most`.
-fn place_all(
-    n: u16,
-    turns: u16,
-    start: Relay,
-    lows: &[u16],
-    highs: &[u16],
-    states: &[u16],
-    first: &[u16],
-    nexts: &[u16],
-    counts: &mut [u16],
-    bits: &mut [u64],
-    relays: &mut [u16],
-    places: &mut [u16],
-    forests: &mut [u16],
-)
-    requires { ⌜ Startable n turns (start .0) (now lows) (now highs) (now states) (now first) (now nexts) (now counts) (now bits)
-        (now relays) (now places) (now forests) ⌝ }
-    ensures { λ _. ⌜ Scanned n (now (lows .entry)) (now (highs .entry)) (now (states .entry)) (now (relays .entry))
-        (now (relays .exit)) (now (places .entry)) (now (places .exit)) (now (forests .entry)) (now (forests .exit)) ⌝ }
-{
-    start_counts(n, turns, states, counts, bits);
-    begin(turns, start, relays);
-    let columns = columns_of(n);
-    let mut v = 0;
-    let mut most = 1;
-    while v < turns {
-        v += 1;
-        let x = next_relay(Place(v), Relay(relays[0]), columns, most, bits);
-        put(x, Place(v), relays, places);
-        most = walk(x, lows, highs, first, nexts, counts, bits, forests) + 1;
-    }
-}
-
-// Makes the chains. Gives the first relay of the order, any number if no relay is in service.
-fn prepare(
-    n: u16,
-    turns: u16,
-    lows: &[u16],
-    highs: &[u16],
-    states: &[u16],
-    first: &mut [u16],
-    nexts: &mut [u16],
-    counts: &mut [u16],
-) -> Relay
-    requires { ⌜ (turns ≡ turnsOf n (now states)) × Accepted n (now lows) (now highs) (now states)
-        × ChainArrays n (now lows) (now first) (now nexts) (now counts) ⌝ }
-    ensures { λ x. ⌜ Prepared n (now (lows .entry)) (now (highs .entry)) (now (states .entry)) (now (first .exit))
-        (now (nexts .exit)) (now (counts .exit)) (x .0) ⌝ }
-{
-    link_up(lows, highs, first, nexts, counts);
-    count_serving(n, turns, lows, highs, states, counts);
-    busiest(n, states, counts)
-}
-
-// The scan in arrays that are lent to it.
-fn scan_in(
-    n: u16,
-    lows: &[u16],
-    highs: &[u16],
-    states: &[u16],
-    first: &mut [u16],
-    nexts: &mut [u16],
-    counts: &mut [u16],
-    bits: &mut [u64],
-    relays: &mut [u16],
-    places: &mut [u16],
-    forests: &mut [u16],
-)
-    requires { ⌜ Scannable n (now lows) (now highs) (now states) (now relays) (now places) (now forests)
-        × ChainArrays n (now lows) (now first) (now nexts) (now counts) × NoBits (length (now counts)) (now bits) ⌝ }
-    ensures { λ _. ⌜ Scanned n (now (lows .entry)) (now (highs .entry)) (now (states .entry)) (now (relays .entry))
-        (now (relays .exit)) (now (places .entry)) (now (places .exit)) (now (forests .entry)) (now (forests .exit)) ⌝ }
-{
-    let turns = serving(n, states);
-    let start = prepare(n, turns, lows, highs, states, first, nexts, counts);
-    clear(places, n as usize);
-    clear(forests, lows.len());
-    place_all(
-        n,
-        turns,
-        start,
-        lows,
-        highs,
-        states,
-        first,
-        nexts,
-        counts,
-        bits,
-        relays,
-        places,
-        forests,
-    );
 }
 
 // A small network is worked on in small arrays, so that little is cleared.
@@ -177,13 +60,26 @@ fn scan_tiny(
     let mut nexts = tiny_half_link_zeros();
     let mut counts = tiny_relay_copies(0);
     let mut bits = one_column_zeros();
-    scan_in(
+    let turns = serving(n, states);
+    let start = prepare(
         n,
+        turns,
         lows,
         highs,
         states,
         &mut first,
         &mut nexts,
+        &mut counts,
+    );
+    scan_in(
+        n,
+        turns,
+        start,
+        lows,
+        highs,
+        states,
+        &first,
+        &nexts,
         &mut counts,
         &mut bits,
         relays,
@@ -210,13 +106,26 @@ fn scan_small(
     let mut nexts = few_half_link_zeros();
     let mut counts = few_relay_copies(0);
     let mut bits = few_column_zeros();
-    scan_in(
+    let turns = serving(n, states);
+    let start = prepare(
         n,
+        turns,
         lows,
         highs,
         states,
         &mut first,
         &mut nexts,
+        &mut counts,
+    );
+    scan_in(
+        n,
+        turns,
+        start,
+        lows,
+        highs,
+        states,
+        &first,
+        &nexts,
         &mut counts,
         &mut bits,
         relays,
@@ -243,13 +152,26 @@ fn scan_large(
     let mut nexts = half_link_zeros();
     let mut counts = relay_copies(0);
     let mut bits = column_zeros();
-    scan_in(
+    let turns = serving(n, states);
+    let start = prepare(
         n,
+        turns,
         lows,
         highs,
         states,
         &mut first,
         &mut nexts,
+        &mut counts,
+    );
+    scan_in(
+        n,
+        turns,
+        start,
+        lows,
+        highs,
+        states,
+        &first,
+        &nexts,
         &mut counts,
         &mut bits,
         relays,

@@ -1,11 +1,30 @@
 -- The scan in large arrays. Assumes nothing.
 use native.Mathlib.Omega.{arith}
+use lib.ListN.{length}
 use Rattle.theory.specs.Accepted.{accepted}
-use Rattle.forests.specs.Buckets.{mostColumns}
-use Rattle.forests.proofs.SizeLaws.{scan-arrays}
+use Rattle.forests.specs.Buckets.{NoBits, mostColumns}
+use Rattle.forests.specs.Scan.{ChainArrays}
+use Rattle.forests.proofs.SizeLaws.{scan-arrays, scan-serves, made-ready}
 use borrow.Author.Needs.{needs}
 use Rattle.forests.proofs.scan.scan_large.Statement.{statement}
 use Rattle.forests.proofs.scan.scan_large.Tie as tie
+
+-- The arrays have room for the network.
+arrays : (made : tie.After-column-zeros)
+    → let counts = made .before in
+    let nexts = counts .before in
+    let first = nexts .before in
+    let a = first .before .before .before .before .before .before .before .args in
+    ChainArrays (a .n) (a .lows .now) (first .relay-copies .result) (nexts .half-link-zeros .result) (counts .relay-copies2 .result)
+    × NoBits (length (counts .relay-copies2 .result)) (made .column-zeros .result)
+arrays made =
+    let counts = made .before in
+    let nexts = counts .before in
+    let first = nexts .before in
+    let s = first .before .before .before .before .before .before .before in
+    let t = accepted (s .args .n) (s .args .lows .now) (s .args .highs .now) (s .args .states .now) (s .pre .accepted) in
+    scan-arrays 1000 6000 mostColumns (s .args .n) (s .args .lows .now) (t .few) (omega arith) (omega (arith, t .short)) (omega arith)
+    (first .relay-copies .ensures) (nexts .half-link-zeros .ensures) (counts .relay-copies2 .ensures) (made .column-zeros .ensures)
 
 cast-none : tie.Need-cast-none
 cast-none c =
@@ -29,6 +48,24 @@ relay-copies-requires-2 c κs = search needs
 column-zeros-requires : tie.Need-column-zeros-requires
 column-zeros-requires c κs = search needs
 
+serving-requires : tie.Need-serving-requires
+serving-requires c κs = scan-serves (c .before .before .before .before .before .before .before .before .before .before .pre)
+
+slice-aggregate-prepare : tie.Need-slice-aggregate-prepare
+slice-aggregate-prepare c = search needs
+
+slice-aggregate-prepare-2 : tie.Need-slice-aggregate-prepare-2
+slice-aggregate-prepare-2 c = search needs
+
+slice-aggregate-prepare-3 : tie.Need-slice-aggregate-prepare-3
+slice-aggregate-prepare-3 c = search needs
+
+prepare-requires : tie.Need-prepare-requires
+prepare-requires c κs =
+    let served = c .before .before .before in
+    let made = served .before in
+    (served .serving .ensures, made .before .before .before .before .before .before .before .before .before .before .pre .accepted, arrays made .0)
+
 slice-aggregate-scan-in : tie.Need-slice-aggregate-scan-in
 slice-aggregate-scan-in c = search needs
 
@@ -43,15 +80,13 @@ slice-aggregate-scan-in-4 c = search needs
 
 scan-in-requires : tie.Need-scan-in-requires
 scan-in-requires c κs =
-    let bits = c .before .before .before .before .before .before .before in
-    let counts = bits .before in
-    let nexts = counts .before in
-    let first = nexts .before in
-    let s = first .before .before .before .before .before .before .before in
-    let t = accepted (s .args .n) (s .args .lows .now) (s .args .highs .now) (s .args .states .now) (s .pre .accepted) in
-    let fit = scan-arrays 1000 6000 mostColumns (s .args .n) (s .args .lows .now) (t .few) (omega arith) (omega (arith, t .short)) (omega arith)
-    (first .relay-copies .ensures) (nexts .half-link-zeros .ensures) (counts .relay-copies2 .ensures) (bits .column-zeros .ensures) in
-    (s .pre, fit .0, fit .1)
+    let prepared = c .before .before .before .before .before .before .before .before .before .before in
+    let served = prepared .before .before .before .before in
+    let made = served .before in (
+      made .before .before .before .before .before .before .before .before .before .before .pre,
+      made-ready (arrays made) (served .serving .ensures) (omega (arith, prepared .prepare .kept)) (omega (arith, prepared .prepare .kept))
+          (prepared .prepare .ensures),
+    )
 
 same-length : tie.Need-same-length
 same-length c = search needs
@@ -75,6 +110,11 @@ scan-large-spec =
     half-link-zeros-requires
     relay-copies-requires-2
     column-zeros-requires
+    serving-requires
+    slice-aggregate-prepare
+    slice-aggregate-prepare-2
+    slice-aggregate-prepare-3
+    prepare-requires
     slice-aggregate-scan-in
     slice-aggregate-scan-in-2
     slice-aggregate-scan-in-3

@@ -27,8 +27,8 @@ use Rattle.forests.proofs.ScanLaws.{
   scan-moves,
   scan-ends,
 }
-use Rattle.forests.proofs.scan.place_all.Statement.{statement}
-use Rattle.forests.proofs.scan.place_all.Tie as tie
+use Rattle.forests.proofs.placing.place_all.Statement.{statement}
+use Rattle.forests.proofs.placing.place_all.Tie as tie
 
 abbrev Inv-loop : tie.InvT-loop
 Inv-loop n turns lows highs states first nexts counts₀ bits₀ relays₀ places₀ forests₀ columns v₀ most₀ counts bits relays places forests v most =

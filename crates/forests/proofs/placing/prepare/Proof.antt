@@ -7,8 +7,8 @@ use Rattle.forests.proofs.BusiestLaws.{busiest-first}
 use Rattle.forests.proofs.SizeLaws.{chain-ready}
 use Rattle.forests.specs.LinkCounts.{Discountable}
 use borrow.Author.Needs.{needs}
-use Rattle.forests.proofs.scan.prepare.Statement.{statement}
-use Rattle.forests.proofs.scan.prepare.Tie as tie
+use Rattle.forests.proofs.placing.prepare.Statement.{statement}
+use Rattle.forests.proofs.placing.prepare.Tie as tie
 
 -- All links are counted.
 all-links : (linked : tie.After-link-up)

@@ -2,8 +2,8 @@
 use mathlib.Core.Path.{refl}
 use native.Mathlib.Omega.{arith}
 use borrow.Author.Needs.{needs}
-use Rattle.forests.proofs.scan.next_relay.Statement.{statement}
-use Rattle.forests.proofs.scan.next_relay.Tie as tie
+use Rattle.forests.proofs.placing.next_relay.Statement.{statement}
+use Rattle.forests.proofs.placing.next_relay.Tie as tie
 
 returns : tie.Need-returns
 returns c = (λ e. refl, λ h. absurd (omega arith))
