@@ -1,9 +1,9 @@
 /* Two versions of the library turn by turn on the same networks, all relays in service, for tests/turns: how long the table check,
  * Read, Write, the pair numbers of all links, one call each, Order, Split, Cut and Route take in the earlier one, whose functions begin
  * with `before_`, and in this one. `before.h` declares them as the earlier header does; where that knows nothing of states (document
- * 02, #105), BEFORE_STATES is not defined and they are called without. Each time is the lower quartile of 200 batches. The two may
- * order the relays in another way (document 02, #104): then the same wish has other routes, so behind k stands how many relays each
- * version writes. */
+ * 02, #105), BEFORE_STATES is not defined and they are called without. Each time is the lower quartile of 25 batches; a line has the
+ * network, the operation, and the two times in microseconds, with tabs between. The two may order the relays in another way (document
+ * 02, #104): then the same wish has other routes, so behind k stands how many relays each version writes. */
 #define _POSIX_C_SOURCE 200112L
 #include "nolkisei.h"
 #include <stdio.h>
@@ -13,7 +13,7 @@
 
 #include "before.h"
 
-#define BATCHES 200
+#define BATCHES 25
 #define LINKS n, lows, m, highs, m
 #define TABLE LINKS, states, n
 #define ROUTE (uint16_t)k, from, to, counts, NOLKISEI_ROUTES, relays, NOLKISEI_ROUTE_RELAYS, scratch, (size_t)k * n, answer
@@ -36,7 +36,6 @@ static uint8_t text[NOLKISEI_TEXT], other_text[NOLKISEI_TEXT];
 static uint64_t answer[2], written[2], state = 88172645463325252u;
 static size_t m, text_length;
 static int k;
-static double worst[8];
 static char linked[NOLKISEI_RELAYS][NOLKISEI_RELAYS];
 
 static unsigned random_below(unsigned bound) {
@@ -92,7 +91,7 @@ static int by_size(const void *a, const void *b) {
     return (x > y) - (x < y);
 }
 
-static void turns(int operation, const char *name, uint32_t call(int)) {
+static void turns(const char *kind, const char *name, uint32_t call(int)) {
     static double times[2][BATCHES];
     int calls = n < 300 ? 200 : 40;
     if (call(0) || call(1)) fprintf(stderr, "%s is refused\n", name), exit(1);
@@ -103,9 +102,7 @@ static void turns(int operation, const char *name, uint32_t call(int)) {
             times[now][batch] = (microseconds() - start) / calls;
         }
     for (int now = 0; now < 2; now++) qsort(times[now], BATCHES, sizeof(double), by_size);
-    double was = times[0][BATCHES / 4], is = times[1][BATCHES / 4];
-    if (is / was > worst[operation]) worst[operation] = is / was;
-    printf(" | %s %.2f %.2f %.3f", name, was, is, is / was);
+    printf("%s %u %zu\t%s\t%.4f\t%.4f\n", kind, n, m, name, times[0][BATCHES / 4], times[1][BATCHES / 4]);
 }
 
 /* The relays that a version writes for the wish; 0 if it is refused. */
@@ -129,22 +126,17 @@ int main(void) {
     const uint16_t sizes[] = {10, 30, 128, 300, 1000};
     const int counts_of_routes[] = {1, 2, 3, 8, 32};
     for (size_t i = 0; i < NOLKISEI_RELAYS; i++) states[i] = 1;
-    puts("microseconds before and now, and their ratio");
     for (int kind = 0; kind < 3; kind++)
         for (int size = 0; size < 5; size++) {
+            const char *of = kinds[kind];
             n = sizes[size], make(kind);
-            printf("%s %u %zu", kinds[kind], n, m);
-            turns(0, "check", check), turns(1, "read", read_text), turns(2, "write", write_text), turns(3, "pairs", pairs);
-            turns(4, "order", order), turns(5, "split", split), turns(6, "cut", cut);
+            turns(of, "check", check), turns(of, "read", read_text), turns(of, "write", write_text), turns(of, "pairs", pairs);
+            turns(of, "order", order), turns(of, "split", split), turns(of, "cut", cut);
             for (int i = 0; i < 5; i++)
                 if (k = counts_of_routes[i], wish()) {
                     char name[32];
-                    snprintf(name, sizeof name, "route %d (%d, %d)", k, (int)written[0], (int)written[1]), turns(7, name, route);
+                    snprintf(name, sizeof name, "route %d (%d, %d)", k, (int)written[0], (int)written[1]), turns(of, name, route);
                 }
-            puts("");
         }
-    const char *operations[] = {"check", "read", "write", "pairs", "order", "split", "cut", "route"};
-    for (int i = 0; i < 8; i++) printf("%s %s %.3f", i ? "," : "worst:", operations[i], worst[i]);
-    puts(" times");
     return 0;
 }
