@@ -142,24 +142,22 @@ pub all-started : {n turns start : ℕ} {lows highs states first nexts counts co
     → length counts′ ≡ length counts → StartCounts n states counts′ → Buckets counts′ bits′ → length relays′ ≡ length relays
     → Started n lows highs states first nexts counts′ bits′ relays′ places forests
 all-started can long waiting sorted kept =
-    let lists = can .lists in
+    let lists = can .scannable in
+    let ready = can .ready in
     record {
-      lists =
+      scannable =
           record {
-            scannable =
-                record {
-                  accepted = lists .scannable .accepted;
-                  relayRoom = omega (arith, lists .scannable .relayRoom);
-                  placeRoom = lists .scannable .placeRoom;
-                  forestRoom = lists .scannable .forestRoom;
-                };
-            heads = lists .heads;
-            few = lists .few;
-            chained = lists .chained;
-            noPlaces = lists .noPlaces;
-            noForests = lists .noForests;
+            accepted = lists .accepted;
+            relayRoom = omega (arith, lists .relayRoom);
+            placeRoom = lists .placeRoom;
+            forestRoom = lists .forestRoom;
           };
-      countRoom = omega (arith, can .countRoom);
+      heads = ready .heads;
+      few = ready .few;
+      chained = ready .prepared .chained;
+      noPlaces = can .noPlaces;
+      noForests = can .noForests;
+      countRoom = omega (arith, ready .countRoom);
       startCounts = waiting;
       sorted = sorted;
     }
@@ -168,7 +166,7 @@ module _ {n : ℕ} {lows highs states first nexts counts bits relays places fore
     (can : Started n lows highs states first nexts counts bits relays places forests)
   where
     proper : ProperTable n lows highs
-    proper = accepted n lows highs states (can .lists .scannable .accepted)
+    proper = accepted n lows highs states (can .scannable .accepted)
 
     pub scan-starts : ScannedTo n lows highs states 0 counts relays relays places places forests forests
     unfolding placedAfter overwrite
@@ -177,7 +175,7 @@ module _ {n : ℕ} {lows highs states first nexts counts bits relays places fore
           countsAt = counts-start (can .startCounts);
           relaysAt = refl;
           placesAt = places-start places;
-          forestsAt = forests-start forests (can .lists .noForests);
+          forestsAt = forests-start forests (can .noForests);
         }
 
     -- No relay has a link to a placed one yet.
@@ -201,7 +199,7 @@ module _ {n : ℕ} {lows highs states first nexts counts bits relays places fore
         → ScannedTo n lows highs states k counts′ relays relays′ places places′ forests forests′ → length relays′ ≡ length relays
     relays-long k within at =
         ap length (at .relaysAt)
-        ∙ length-overwrite (placed n lows highs states k) relays (omega (arith, placed-long n lows highs states k, serving-few n states, can .lists .scannable .relayRoom))
+        ∙ length-overwrite (placed n lows highs states k) relays (omega (arith, placed-long n lows highs states k, serving-few n states, can .scannable .relayRoom))
 
     module _ {counts′ relays′ places′ forests′ : List ℕ} (k : ℕ) (within : k < turnsOf n states)
         (at : ScannedTo n lows highs states k counts′ relays relays′ places places′ forests forests′)
@@ -215,21 +213,21 @@ module _ {n : ℕ} {lows highs states first nexts counts bits relays places fore
               some = omega arith;
               within = omega arith;
               few = proper .few;
-              relayRoom = omega (arith, relays-long k (omega arith) at, can .lists .scannable .relayRoom);
-              placeRoom = omega (arith, at .placesAt .long, can .lists .scannable .placeRoom);
+              relayRoom = omega (arith, relays-long k (omega arith) at, can .scannable .relayRoom);
+              placeRoom = omega (arith, at .placesAt .long, can .scannable .placeRoom);
               countsAt = rw back (at .countsAt);
               bounded = bounded;
               mostFew = few;
               walkable =
                   rw back
                   (record {
-                    proper = wide-table (can .lists .heads) (can .lists .few) proper;
-                    chained = can .lists .chained;
-                    relay = omega (arith, following-below n lows highs states k within, can .lists .heads);
+                    proper = wide-table (can .heads) (can .few) proper;
+                    chained = can .chained;
+                    relay = omega (arith, following-below n lows highs states k within, can .heads);
                     countRoom = room;
-                    room = omega (arith, at .forestsAt .beyond .long, can .lists .scannable .forestRoom);
+                    room = omega (arith, at .forestsAt .beyond .long, can .scannable .forestRoom);
                     sorted = sorted;
-                    bound = counts-few k (can .lists .scannable .accepted) within (at .countsAt);
+                    bound = counts-few k (can .scannable .accepted) within (at .countsAt);
                     fresh = unnumbered proper k within (at .countsAt) (at .forestsAt);
                   });
             }
@@ -249,9 +247,9 @@ module _ {n : ℕ} {lows highs states first nexts counts bits relays places fore
                   relay
                   ∙ ap (λ l. set l k (following n lows highs states k)) (at .relaysAt)
                   ∙ overwrite-next (placed n lows highs states k) relays k (following n lows highs states k) (placed-long n lows highs states k)
-                  (omega (arith, serving-few n states, can .lists .scannable .relayRoom))
+                  (omega (arith, serving-few n states, can .scannable .relayRoom))
                   ∙ ap (λ l. overwrite l relays) (sym (placed-suc n lows highs states k));
-              placesAt = rw place (places-step n lows highs states k within places places′ (can .lists .scannable .placeRoom) (at .placesAt));
+              placesAt = rw place (places-step n lows highs states k within places places′ (can .scannable .placeRoom) (at .placesAt));
               forestsAt = forests-step proper k within (at .countsAt) walked forests (at .forestsAt);
             })
 
@@ -262,6 +260,6 @@ module _ {n : ℕ} {lows highs states first nexts counts bits relays places fore
     scan-ends {counts′} {relays′} {places′} {forests′} at =
         record {
           theOrder = at .relaysAt;
-          thePlaces = places-finish n lows highs states places places′ (can .lists .scannable .placeRoom) (can .lists .noPlaces) (at .placesAt);
-          theForests = forests-finish n lows highs states forests forests′ (can .lists .scannable .accepted) (can .lists .scannable .forestRoom) (at .forestsAt);
+          thePlaces = places-finish n lows highs states places places′ (can .scannable .placeRoom) (can .noPlaces) (at .placesAt);
+          theForests = forests-finish n lows highs states forests forests′ (can .scannable .accepted) (can .scannable .forestRoom) (at .forestsAt);
         }

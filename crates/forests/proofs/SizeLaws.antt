@@ -78,7 +78,7 @@ scan-arrays size halves columns n lows {first} {nexts} {counts} {bits} heads few
     )
 
 -- Columns of more relays are columns of fewer.
-pub fewer-columns : {size fewer : ℕ} {bits : List ℕ} → fewer ≤ size → NoBits size bits → NoBits fewer bits
+fewer-columns : {size fewer : ℕ} {bits : List ℕ} → fewer ≤ size → NoBits size bits → NoBits fewer bits
 fewer-columns h b = record { room = λ r p. b .room r (omega arith); none = b .none }
 
 -- The states of the relays are those of an accepted network.

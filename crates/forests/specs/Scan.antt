@@ -118,27 +118,21 @@ pub record Ready (n turns start : ℕ) (lows highs states first nexts counts bit
   pub turned : turns ≡ turnsOf n states
   pub prepared : Prepared n lows highs states first nexts counts start
 
--- The lists when the chains are made and places and forest numbers are cleared.
-pub record Cleared (n : ℕ) (lows highs states first nexts relays places forests : List ℕ) : Type 0 where
+-- What placing all relays in service asks: places and forest numbers are cleared, too.
+pub record Startable (n turns start : ℕ) (lows highs states first nexts counts bits relays places forests : List ℕ) : Type 0 where
+  pub scannable : Scannable n lows highs states relays places forests
+  pub ready : Ready n turns start lows highs states first nexts counts bits
+  pub noPlaces : (r : ℕ) → r < n → getD places r 0 ≡ 0
+  pub noForests : (i : ℕ) → i < length lows → getD forests i 0 ≡ 0
+
+-- The lists when these relays wait.
+pub record Started (n : ℕ) (lows highs states first nexts counts bits relays places forests : List ℕ) : Type 0 where
   pub scannable : Scannable n lows highs states relays places forests
   pub heads : n ≤ length first
   pub few : length first ≤ 1000
   pub chained : ChainedFrom lows highs 0 first nexts
   pub noPlaces : (r : ℕ) → r < n → getD places r 0 ≡ 0
   pub noForests : (i : ℕ) → i < length lows → getD forests i 0 ≡ 0
-
--- What placing all relays in service asks.
-pub record Startable (n turns start : ℕ) (lows highs states first nexts counts bits relays places forests : List ℕ) : Type 0 where
-  pub lists : Cleared n lows highs states first nexts relays places forests
-  pub countRoom : length first ≤ length counts
-  pub noneBeyond : NoneBeyond n counts
-  pub noBits : NoBits (length counts) bits
-  pub turned : turns ≡ turnsOf n states
-  pub starts : 0 < turnsOf n states → start ≡ firstRelay n lows highs states
-
--- The same when these relays wait.
-pub record Started (n : ℕ) (lows highs states first nexts counts bits relays places forests : List ℕ) : Type 0 where
-  pub lists : Cleared n lows highs states first nexts relays places forests
   pub countRoom : length first ≤ length counts
   pub startCounts : StartCounts n states counts
   pub sorted : Buckets counts bits

@@ -1,5 +1,5 @@
 -- The test of the states, all entries gathered in one number: it is above 1 exactly if the greatest of them is. Assumes nothing.
-use Prim.Native.Nat.{ℕ, suc, _+_, max, _<_}
+use Prim.Native.Nat.{ℕ, _+_, max, _<_}
 use mathlib.Core.Bool.{Bool, true, false, not, _||_}
 use mathlib.Core.List.{List}
 use mathlib.Core.Logic.{_≢_}

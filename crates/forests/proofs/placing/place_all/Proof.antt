@@ -59,7 +59,7 @@ begun c =
 within : (turn : tie.In-loop Inv-loop μ-loop)
     → let a = turn .before .before .before .before .before .before .before .before .before .before .before .before .before .before .before .before .before .before .before .before .before .before .before .before .args in
     turn .before .loop .v < turnsOf (a .n) (a .states .now)
-within turn = omega (arith, turn .loop-test .taken, turn .before .before .before .before .before .before .before .before .before .before .before .before .before .before .before .before .before .before .before .before .before .before .before .before .pre .turned)
+within turn = omega (arith, turn .loop-test .taken, turn .before .before .before .before .before .before .before .before .before .before .before .before .before .before .before .before .before .before .before .before .before .before .before .before .pre .ready .turned)
 
 -- and the next one can be placed.
 ready : (turn : tie.In-loop Inv-loop μ-loop)
@@ -83,12 +83,12 @@ begins turn e =
     let s = turn .before .before .before .before .before .before .before .before .before .before .before .before .before .before .before .before .before .before .before .before .before .before .before .before in
     let a = s .args in
     let some = turn .loop-test .taken in
-    let room = s .pre .lists .scannable .relayRoom in
+    let room = s .pre .scannable .relayRoom in
     first-stays (begun (turn .before .before)) (at .v) (omega arith) (at .inv .1)
     ∙ ap (λ (l : List ℕ). getD l 0 0) (turn .before .before .before .before .before .begin .ensures)
     ∙ begun-first (a .turns) (a .start .0) (a .relays .now) (omega (arith, some))
-    (omega (arith, s .pre .turned, serving-few (a .n) (a .states .now), room))
-    ∙ s .pre .starts (omega (arith, within turn))
+    (omega (arith, s .pre .ready .turned, serving-few (a .n) (a .states .now), room))
+    ∙ s .pre .ready .prepared .starts (omega (arith, within turn))
 
 -- The relay that gets the place is the next one.
 which : (led : tie.After-next-relay Inv-loop μ-loop)
@@ -105,19 +105,19 @@ start-counts-requires c κs =
     let s = c .before .before .before .before .before .before .before .before .before .before .before .before in
     let a = s .args in
     let p = s .pre in
-    let ok = p .lists .scannable .accepted in (
-      omega (arith, p .lists .heads, p .countRoom),
-      p .turned,
+    let ok = p .scannable .accepted in (
+      omega (arith, p .ready .heads, p .ready .countRoom),
+      p .ready .turned,
       accepted-states (a .n) (a .lows .now) (a .highs .now) (a .states .now) ok,
-      p .noneBeyond,
-      p .noBits,
+      p .ready .prepared .noneBeyond,
+      p .ready .noBits,
     )
 
 begin-requires : tie.Need-begin-requires Inv-loop μ-loop
 begin-requires c κs =
     let s = c .before .before .before .before .before .before .before .before .before .before .before .before .before .before .before .before .before .before in
     let a = s .args in
-    omega (arith, s .pre .turned, serving-few (a .n) (a .states .now), s .pre .lists .scannable .relayRoom)
+    omega (arith, s .pre .ready .turned, serving-few (a .n) (a .states .now), s .pre .scannable .relayRoom)
 
 columns-of-requires : tie.Need-columns-of-requires Inv-loop μ-loop
 columns-of-requires c κs = search needs
@@ -201,7 +201,7 @@ same-length-2 c = omega (arith, c .before .loop .inv .6, c .before .before .befo
 same-length-3 : tie.Need-same-length-3 Inv-loop μ-loop
 same-length-3 c =
     let at = c .before .loop in
-    let long = relays-long (begun (c .before .before)) (at .v) (omega (arith, at .inv .0, c .before .before .before .before .before .before .before .before .before .before .before .before .before .before .before .before .before .before .before .before .before .before .before .before .pre .turned)) (at .inv .1) in
+    let long = relays-long (begun (c .before .before)) (at .v) (omega (arith, at .inv .0, c .before .before .before .before .before .before .before .before .before .before .before .before .before .before .before .before .before .before .before .before .before .before .before .before .pre .ready .turned)) (at .inv .1) in
     omega (arith, long, c .before .before .before .before .before .begin .kept)
 
 same-length-4 : tie.Need-same-length-4 Inv-loop μ-loop
@@ -214,8 +214,8 @@ returns : tie.Need-returns Inv-loop μ-loop
 returns c =
     let at = c .before .loop in
     let a = c .before .before .before .before .before .before .before .before .before .before .before .before .before .before .before .before .before .before .before .before .before .before .before .before .args in
-    let all : at .v ≡ turnsOf (a .n) (a .states .now) = omega (arith, at .inv .0, c .loop-test .left, c .before .before .before .before .before .before .before .before .before .before .before .before .before .before .before .before .before .before .before .before .before .before .before .before .pre .turned) in
-    let first = c .before .before .before .before .before .begin .ensures ∙ ap (λ (turns : ℕ). begunWith turns (a .start .0) (a .relays .now)) (c .before .before .before .before .before .before .before .before .before .before .before .before .before .before .before .before .before .before .before .before .before .before .before .before .pre .turned) in
+    let all : at .v ≡ turnsOf (a .n) (a .states .now) = omega (arith, at .inv .0, c .loop-test .left, c .before .before .before .before .before .before .before .before .before .before .before .before .before .before .before .before .before .before .before .before .before .before .before .before .pre .ready .turned) in
+    let first = c .before .before .before .before .before .begin .ensures ∙ ap (λ (turns : ℕ). begunWith turns (a .start .0) (a .relays .now)) (c .before .before .before .before .before .before .before .before .before .before .before .before .before .before .before .before .before .before .before .before .before .before .before .before .pre .ready .turned) in
     scan-begun (a .start .0) (rw first at (scan-ends (begun (c .before .before)) (rw all at (at .inv .1))))
 
 pub place-all-spec : {M : Type 1} → statement M

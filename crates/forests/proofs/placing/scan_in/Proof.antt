@@ -18,28 +18,17 @@ place-all-requires c κs =
     let unplaced = unnumbered .before .before .before .before in
     let s = unplaced .before .before .before .before .before .before .before .before .before .before .before .before in
     let p = s .pre .0 in
-    let w = s .pre .1 in
     record {
-      lists =
+      scannable =
           record {
-            scannable =
-                record {
-                  accepted = p .accepted;
-                  relayRoom = p .relayRoom;
-                  placeRoom = omega (arith, p .placeRoom, unplaced .clear .kept .0);
-                  forestRoom = omega (arith, p .forestRoom, unnumbered .clear2 .kept .0);
-                };
-            heads = w .heads;
-            few = w .few;
-            chained = w .prepared .chained;
-            noPlaces = cleared (s .args .n) (s .args .places .now) (unplaced .clear .ensures) .0;
-            noForests = cleared (length (s .args .lows .now)) (s .args .forests .now) (unnumbered .clear2 .ensures) .0;
+            accepted = p .accepted;
+            relayRoom = p .relayRoom;
+            placeRoom = omega (arith, p .placeRoom, unplaced .clear .kept .0);
+            forestRoom = omega (arith, p .forestRoom, unnumbered .clear2 .kept .0);
           };
-      countRoom = w .countRoom;
-      noneBeyond = w .prepared .noneBeyond;
-      noBits = w .noBits;
-      turned = w .turned;
-      starts = w .prepared .starts;
+      ready = s .pre .1;
+      noPlaces = cleared (s .args .n) (s .args .places .now) (unplaced .clear .ensures) .0;
+      noForests = cleared (length (s .args .lows .now)) (s .args .forests .now) (unnumbered .clear2 .ensures) .0;
     }
 
 same-length : tie.Need-same-length
