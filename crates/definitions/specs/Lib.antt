@@ -19,10 +19,16 @@ pub mod SheetForm
 pub mod SheetTest
 pub mod Verify
 pub mod ReadBackPromise
+pub mod Departs
+pub mod Dimacs
+pub mod DimacsText
+pub mod ImportPromise
+pub mod Import
 pub mod Networks
 pub mod Opened
 pub mod PExamples
 pub mod OtherExamples
 pub mod SheetExamples
 pub mod StateExamples
+pub mod ImportExamples
 pub mod Astray

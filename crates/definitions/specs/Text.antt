@@ -72,23 +72,29 @@ readLinks text n lows highs p (suc count) =
     refuseIf (ltb 0 fault) fault (length lows)
     (readLinks text n (lows ++ (a ∷ [])) (highs ++ (b ∷ [])) q count)
 
--- A text read into three lists with this much room each. "After the header line: 3, n outside 1 to 1,000; 4, m over 3,000;
--- 8, a table list shorter than m", "also given for a state list shorter than n".
+-- After the line that tells n and m: "3, n outside 1 to 1,000; 4, m over 3,000; 8, a table list shorter than m", "also given for a
+-- state list shorter than n"; then the rest.
+abbrev pub sized : (n m roomLows roomHighs roomStates : ℕ) (rest : Outcome Network) → Outcome Network
+sized n m roomLows roomHighs roomStates rest =
+    refuseIf (outside 1 1000 n) 3 0
+    (refuseIf (ltb 3000 m) 4 0
+    (refuseIf (ltb roomLows m || (ltb roomHighs m || ltb roomStates n)) 8 0
+    rest))
+
+-- A text read into three lists with this much room each.
 unfoldable pub readNetwork : (text : List ℕ) (roomLows roomHighs roomStates : ℕ) → Outcome Network
 readNetwork text roomLows roomHighs roomStates =
     onScan 2 (scanForm text headerForm 0) λ counts p.
     let n = getD counts 0 0 in
     let m = getD counts 1 0 in
-    refuseIf (outside 1 1000 n) 3 0
-    (refuseIf (ltb 3000 m) 4 0
-    (refuseIf (ltb roomLows m || (ltb roomHighs m || ltb roomStates n)) 8 0
-    (readLinks text n [] [] p m)))
+    sized n m roomLows roomHighs roomStates (readLinks text n [] [] p m)
 
 -- "The answer is n and m."
+abbrev pub countsOf : (outcome : Outcome Network) → Answer
+countsOf outcome = andThen outcome λ network. done (network .relays ∷ length (network .lows) ∷ [])
+
 unfoldable pub readAnswer : (text lows highs states : List ℕ) → Answer
-readAnswer text lows highs states =
-    andThen (readNetwork text (length lows) (length highs) (length states)) λ network.
-    done (network .relays ∷ length (network .lows) ∷ [])
+readAnswer text lows highs states = countsOf (readNetwork text (length lows) (length highs) (length states))
 
 -- "Refused, both lists are all zeros; accepted, entries after the first m are zeros"; "its state entries are all 0 after a refusal
 -- and 0 past n".

@@ -1,0 +1,50 @@
+-- What the import promises (document 02, #106) beyond its answer and lists, as statements about them for every text and every room. The
+-- statements are types; the crate `text_theory` proves them. Assumes nothing.
+use Prim.Native.Nat.{ℕ}
+use mathlib.Core.List.{List}
+use mathlib.Core.Logic.{_↔_}
+use mathlib.Core.Path.{_≡_}
+use lib.ListN.{length, replicate}
+use Rattle.definitions.specs.Outcome.{refused, done}
+use Rattle.definitions.specs.Network.{Accepted}
+use Rattle.definitions.specs.Text.{Network, sized}
+use Rattle.definitions.specs.Departs.{DepartsFrom}
+use Rattle.definitions.specs.Dimacs.{importNetwork}
+use Rattle.definitions.specs.DimacsText.{Drawing, CommentsFit, DrawingFits, EdgeLine, dimacsText, judged, Draws}
+
+-- No number that comes before is refused: the import gives no other refusal than 18.
+abbrev pub NumbersPass : (text : List ℕ) (roomLows roomHighs roomStates : ℕ) → Type 0
+NumbersPass text roomLows roomHighs roomStates =
+    (number place : ℕ) → importNetwork text roomLows roomHighs roomStates ≡ refused number place → number ≡ 18
+
+-- A drawing whose text was imported as this network.
+pub record ImportedAs (text : List ℕ) (roomLows roomHighs roomStates : ℕ) (network : Network) : Type 0 where
+  pub drawing : Drawing
+  pub fits : DrawingFits drawing
+  pub written : dimacsText drawing ≡ text
+  pub judges : judged drawing roomLows roomHighs roomStates ≡ done network
+  -- "Ends may come in either order": its `e` lines are the links of the table, in turn.
+  pub draws : Draws (drawing .edges) (network .lows) (network .highs)
+  -- The table passes the table check, all in service.
+  pub serves : network .states ≡ replicate (network .relays) 1
+  pub accepted : Accepted (network .relays) (network .lows) (network .highs) (network .states)
+
+pub record ImportPromise (roomLows roomHighs roomStates : ℕ) : Type 0 where
+  -- "18 a text that departs from this form, at the byte": exactly at the first byte that no text of the form has there, where the
+  -- numbers that come before pass.
+  pub eighteen : (text : List ℕ) (q : ℕ)
+      → (importNetwork text roomLows roomHighs roomStates ≡ refused 18 q)
+      ↔ (DepartsFrom DrawingFits dimacsText text q × NumbersPass text roomLows roomHighs roomStates)
+  -- A text of the form gets what its numbers decide, whatever its comments say.
+  pub form : (drawing : Drawing) → DrawingFits drawing
+      → importNetwork (dimacsText drawing) roomLows roomHighs roomStates ≡ judged drawing roomLows roomHighs roomStates
+  -- Only texts of the form are imported, and what is imported is an accepted network.
+  pub imported : (text : List ℕ) (network : Network) → importNetwork text roomLows roomHighs roomStates ≡ done network
+      → ImportedAs text roomLows roomHighs roomStates network
+  -- Every DIMACS text of an accepted network, its ends in either order and comments anywhere, gives that network with its ends in
+  -- order, all in service; 8 where a list is too short.
+  pub back : (drawing : Drawing) (lows highs states : List ℕ) → Accepted (drawing .relays) lows highs states
+      → Draws (drawing .edges) lows highs → DrawingFits drawing
+      → importNetwork (dimacsText drawing) roomLows roomHighs roomStates
+      ≡ sized (drawing .relays) (length lows) roomLows roomHighs roomStates
+      (done (record { relays = drawing .relays; lows = lows; highs = highs; states = replicate (drawing .relays) 1 }))
