@@ -24,6 +24,7 @@ use Rattle.network.specs.declared.Refusal.the-variants.{
   SheetCount,
   States,
   Withdrawn,
+  DrawingForm,
 }
 use Rattle.network.proofs.Refusal.{the-type}
 
@@ -49,3 +50,4 @@ no-place (SheetForm place) keys = absurd (miss placeless 13 tt keys)
 no-place SheetCount keys = refl
 no-place States keys = refl
 no-place Withdrawn keys = refl
+no-place (DrawingForm place) keys = absurd (miss placeless 17 tt keys)

@@ -22,6 +22,7 @@ use Rattle.network.specs.declared.Refusal.the-variants.{
   SheetCount,
   States,
   Withdrawn,
+  DrawingForm,
 }
 use Rattle.network.specs.declared.Pair.{Pair}
 use Rattle.network.specs.declared.Pair.the-variants.{Number}
@@ -47,8 +48,9 @@ refusalNumber (SheetForm place) = 14
 refusalNumber SheetCount = 15
 refusalNumber States = 16
 refusalNumber Withdrawn = 17
+refusalNumber (DrawingForm place) = 18
 
--- Its place in the input: a byte offset for 1, 2 and 14, a link index for 5 to 7, otherwise 0.
+-- Its place in the input: a byte offset for 1, 2, 14 and 18, a link index for 5 to 7, otherwise 0.
 abbrev pub refusalPlace : Refusal → ℕ
 refusalPlace (Wish place) = place
 refusalPlace (Form place) = place
@@ -67,6 +69,7 @@ refusalPlace (SheetForm place) = place
 refusalPlace SheetCount = 0
 refusalPlace States = 0
 refusalPlace Withdrawn = 0
+refusalPlace (DrawingForm place) = place
 
 -- "Every refusal gives its number and a place in the input."
 abbrev pub refusalOf : {A : Type 0} → Refusal → Outcome A

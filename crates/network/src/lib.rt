@@ -24,7 +24,7 @@ pub struct Relay(pub u16);
 // A place in the order, 1 to n; 0 for none. Never a relay number.
 pub struct Place(pub u16);
 
-// The refusals of documents 01 and 02, 1 to 17 in this order; the field is the place in the input where it is not always 0.
+// The refusals of documents 01 and 02, 1 to 18 in this order; the field is the place in the input where it is not always 0.
 pub enum Refusal {
     Wish(usize),
     Form(usize),
@@ -43,6 +43,7 @@ pub enum Refusal {
     SheetCount,
     States,
     Withdrawn,
+    DrawingForm(usize),
 }
 
 // The answer of the pair number.
@@ -87,6 +88,7 @@ pub fn refusal_number(refusal: Refusal) -> u16
         Refusal::SheetCount => 15,
         Refusal::States => 16,
         Refusal::Withdrawn => 17,
+        Refusal::DrawingForm(_) => 18,
     }
 }
 
@@ -101,6 +103,7 @@ pub fn refusal_place(refusal: Refusal) -> usize
         Refusal::NotBelow(link) => link,
         Refusal::Repeated(link) => link,
         Refusal::SheetForm(place) => place,
+        Refusal::DrawingForm(place) => place,
         _ => 0,
     }
 }

@@ -13,4 +13,5 @@ pub mod Rows
 pub mod Read
 pub mod Outs
 pub mod ReadOuts
+pub mod Sizes
 pub mod Tables

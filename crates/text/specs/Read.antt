@@ -10,13 +10,13 @@ use borrow.Author.Tests.{lt-ltb, le-ltb}
 use Rattle.definitions.specs.Outcome.{Outcome, refused, done, refuseIf}
 use Rattle.definitions.specs.Network.{linkFault}
 use Rattle.definitions.specs.Form.{departs, reads, scanForm, onScan}
-use Rattle.definitions.specs.Text.{linkForm, endForm, Network, allStates, readEnd, readOuts, readLinks}
+use Rattle.definitions.specs.Text.{linkForm, endForm, Network, allStates, readEnd, readLinks}
 use Rattle.network.specs.Answers.{refusalOf}
 use Rattle.network.specs.Seen.{faultOf, LinkChecked, Seen, seen-fault, seen-snoc}
 use Rattle.network.specs.declared.LinkCheck.{LinkCheck}
 use Rattle.network.specs.declared.Refusal.{Refusal}
 use Rattle.network.specs.declared.Refusal.the-variants.{Form}
-use Rattle.text.specs.Rows.{onStep, IfRead, LinkRead, clearedFrom}
+use Rattle.text.specs.Rows.{onStep, IfRead, LineReading, LinkRead, clearedFrom}
 use Rattle.text.specs.declared.rows.Step.{Step}
 use Rattle.text.specs.declared.rows.Step.the-variants.{Next, Refused}
 
@@ -74,7 +74,7 @@ clear-end list i h =
 -- What `read_link` promises, way by way.
 module _ (text : List ℕ) (n i at : ℕ) (lows highs : List ℕ) where
   pub read-departs : (then : List ℕ) (p : ℕ) → scanForm text linkForm at ≡ departs p
-      → LinkRead text n i at lows highs lows highs then (Refused (Form p))
+      → LinkRead (readLinks text n) n i at lows highs lows highs then (Refused (Form p))
   read-departs then p e =
       record {
         follows = λ count. link-departs text n (take i lows) (take i highs) at count p e;
@@ -93,7 +93,7 @@ module _ (text : List ℕ) (n i at : ℕ) (lows highs : List ℕ) where
     fault-of = rw count-of (sym (seen-fault n a b (take i lows) (take i highs) i bits then r marks checked))
 
     pub read-faulty : (refusal : Refusal) → 0 < faultOf r → refusalOf {A = Network} refusal ≡ refused (faultOf r) i
-        → LinkRead text n i at lows highs lows highs then (Refused refusal)
+        → LinkRead (readLinks text n) n i at lows highs lows highs then (Refused refusal)
     read-faulty refusal h e =
         record {
           follows = λ count.
@@ -104,7 +104,7 @@ module _ (text : List ℕ) (n i at : ℕ) (lows highs : List ℕ) where
           sameHighs = refl;
         }
 
-    pub read-fine : faultOf r ≡ 0 → LinkRead text n i at lows highs (set lows i a) (set highs i b) then (Next p)
+    pub read-fine : faultOf r ≡ 0 → LinkRead (readLinks text n) n i at lows highs (set lows i a) (set highs i b) then (Next p)
     read-fine fine =
         record {
           follows = λ count.
@@ -124,22 +124,22 @@ module _ (text : List ℕ) (n i at : ℕ) (lows highs : List ℕ) where
             (count-of ∙ sym (length-take-le i highs (omega arith))) (rw count-of marks) checked fine
 
 -- What a link line that was read, or refused, leaves of the whole reading.
-module _ (text : List ℕ) (n i at : ℕ) (lows highs lowsThen highsThen bits : List ℕ) (r : Step)
-    (link : LinkRead text n i at lows highs lowsThen highsThen bits r) where
+module _ (reading : LineReading) (n i at : ℕ) (lows highs lowsThen highsThen bits : List ℕ) (r : Step)
+    (link : LinkRead reading n i at lows highs lowsThen highsThen bits r) where
   pub link-next : (p m : ℕ) (whole : Outcome Network) → r ≡ Next p → i < m
-      → whole ≡ readLinks text n (take i lows) (take i highs) at (m - i)
-      → whole ≡ readLinks text n (take (i + 1) lowsThen) (take (i + 1) highsThen) p (m - (i + 1))
+      → whole ≡ reading (take i lows) (take i highs) at (m - i)
+      → whole ≡ reading (take (i + 1) lowsThen) (take (i + 1) highsThen) p (m - (i + 1))
   link-next p m whole e h left =
       let more : m - i ≡ suc (m - (i + 1)) = omega arith in
-      let rest : ℕ → Outcome Network = λ q. readLinks text n (take (i + 1) lowsThen) (take (i + 1) highsThen) q (m - (i + 1)) in
+      let rest : ℕ → Outcome Network = λ q. reading (take (i + 1) lowsThen) (take (i + 1) highsThen) q (m - (i + 1)) in
       left ∙ rw more (link .follows (m - (i + 1)) ∙ ap (λ (s : Step). onStep s rest) e)
 
   pub link-refused : (refusal : Refusal) (m : ℕ) (whole : Outcome Network) → r ≡ Refused refusal → i < m
-      → whole ≡ readLinks text n (take i lows) (take i highs) at (m - i)
+      → whole ≡ reading (take i lows) (take i highs) at (m - i)
       → whole ≡ refusalOf refusal
   link-refused refusal m whole e h left =
       let more : m - i ≡ suc (m - (i + 1)) = omega arith in
-      let rest : ℕ → Outcome Network = λ q. readLinks text n (take (i + 1) lowsThen) (take (i + 1) highsThen) q (m - (i + 1)) in
+      let rest : ℕ → Outcome Network = λ q. reading (take (i + 1) lowsThen) (take (i + 1) highsThen) q (m - (i + 1)) in
       left ∙ rw more (link .follows (m - (i + 1)) ∙ ap (λ (s : Step). onStep s rest) e)
 
   pub link-seen : (p : ℕ) → r ≡ Next p → Seen n bits (take (i + 1) lowsThen) (take (i + 1) highsThen) (i + 1)
@@ -147,10 +147,9 @@ module _ (text : List ℕ) (n i at : ℕ) (lows highs lowsThen highsThen bits : 
       subst (λ (s : Step). IfRead s (Seen n bits (take (i + 1) lowsThen) (take (i + 1) highsThen) (i + 1))) e (link .seen)
 
 -- No link line is left.
-pub links-over : (text : List ℕ) (n i m p : ℕ) (lows highs : List ℕ) → i ≤ m → m ≤ i
-    → readLinks text n (take i lows) (take i highs) p (m - i) ≡ readOuts text n (take m lows) (take m highs) [] p (suc n)
-unfolding readLinks
-links-over text n i m p lows highs h k =
+pub links-over : (reading : LineReading) (i m p : ℕ) (lows highs : List ℕ) → i ≤ m → m ≤ i
+    → reading (take i lows) (take i highs) p (m - i) ≡ reading (take m lows) (take m highs) p 0
+links-over reading i m p lows highs h k =
     let e : i ≡ m = omega arith in
     let none : m - m ≡ 0 = omega arith in
     rw (e, none)

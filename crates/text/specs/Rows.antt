@@ -5,7 +5,7 @@ use mathlib.Core.List.{List, [], _++_}
 use mathlib.Core.Path.{_≡_}
 use lib.ListN.{length, take, replicate}
 use Rattle.definitions.specs.Outcome.{Outcome, done}
-use Rattle.definitions.specs.Text.{allStates, readEnd, readOuts, readLinks}
+use Rattle.definitions.specs.Text.{Network, allStates, readEnd}
 use Rattle.network.specs.Answers.{refusalOf}
 use Rattle.network.specs.Seen.{Seen}
 use Rattle.text.specs.declared.rows.Step.{Step}
@@ -21,18 +21,23 @@ abbrev pub IfRead : Step → Type 0 → Type 0
 IfRead (Next p) claim = claim
 IfRead (Refused refusal) claim = Unit {0}
 
+-- A reading of `count` more link lines from offset p on, behind the links read so far, and then of the rest.
+abbrev pub LineReading : Type 0
+LineReading = (lows highs : List ℕ) (p count : ℕ) → Outcome Network
+
 -- A link line as link i: the reading of what is left goes on behind it, with the link in the lists and its pair marked.
-pub record LinkRead (text : List ℕ) (n i at : ℕ) (lows highs lowsThen highsThen bits : List ℕ) (r : Step) : Type 0 where
-  pub follows : (count : ℕ) → readLinks text n (take i lows) (take i highs) at (suc count)
-      ≡ onStep r (λ p. readLinks text n (take (i + 1) lowsThen) (take (i + 1) highsThen) p count)
+pub record LinkRead
+    (reading : LineReading) (n i at : ℕ) (lows highs lowsThen highsThen bits : List ℕ) (r : Step)
+    : Type 0 where
+  pub follows : (count : ℕ) → reading (take i lows) (take i highs) at (suc count)
+      ≡ onStep r (λ p. reading (take (i + 1) lowsThen) (take (i + 1) highsThen) p count)
   pub seen : IfRead r (Seen n bits (take (i + 1) lowsThen) (take (i + 1) highsThen) (i + 1))
   pub sameLows : length lowsThen ≡ length lows
   pub sameHighs : length highsThen ≡ length highs
 
--- All link lines: only the states and the end are left.
-pub record LinksRead (text : List ℕ) (n m at : ℕ) (lows highs lowsThen highsThen : List ℕ) (r : Step) : Type 0 where
-  pub follows : readLinks text n [] [] at m
-      ≡ onStep r (λ p. readOuts text n (take m lowsThen) (take m highsThen) [] p (suc n))
+-- All link lines: only what comes behind the last of them is left.
+pub record LinksRead (reading : LineReading) (m at : ℕ) (lows highs lowsThen highsThen : List ℕ) (r : Step) : Type 0 where
+  pub follows : reading [] [] at m ≡ onStep r (λ p. reading (take m lowsThen) (take m highsThen) p 0)
   pub sameLows : length lowsThen ≡ length lows
   pub sameHighs : length highsThen ≡ length highs
 

@@ -1,22 +1,20 @@
 -- What reading a table promises before the lists are cleared behind it, and what follows for Read. Assumes nothing.
-use Prim.Native.Nat.{ℕ, suc, _-_, _≤_, _<_}
-use mathlib.Core.Bool.{true, false, _||_}
+use Prim.Native.Nat.{ℕ, _-_, _≤_}
 use mathlib.Core.List.{List, [], _∷_}
-use mathlib.Core.Path.{_≡_, refl, sym, _∙_, ap}
+use mathlib.Core.Path.{_≡_, refl, sym, _∙_, ap, subst}
 use native.Mathlib.Omega.{arith}
-use lib.Dec.{ltb}
 use lib.ListN.{length, take, length-drop}
 use lib.Seq.{length-take-le}
-use borrow.Author.Tests.{lt-ltb, le-ltb}
-use Rattle.definitions.specs.Outcome.{Outcome, refused, done, refuseIf, andThen}
-use Rattle.definitions.specs.Lists.{zeroed, outside}
+use Rattle.definitions.specs.Outcome.{Outcome, done, andThen}
+use Rattle.definitions.specs.Lists.{zeroed}
 use Rattle.definitions.specs.Form.{departs, reads, scanForm, onScan}
 use Rattle.definitions.specs.Text.{
   headerForm,
   Network,
-  readOuts,
   readLinks,
+  sized,
   readNetwork,
+  countsOf,
   readAnswer,
   filled,
   lowsAfter,
@@ -29,7 +27,7 @@ use Rattle.network.specs.declared.Refusal.{Refusal}
 use Rattle.network.specs.declared.Refusal.the-variants.{Form}
 use Rattle.text.specs.Answers.{readOutcome}
 use Rattle.text.specs.Outs.{StatesRead}
-use Rattle.text.specs.Rows.{onStep, LinksRead, clearedFrom}
+use Rattle.text.specs.Rows.{onStep, LineReading, LinksRead, clearedFrom, Cleared}
 use Rattle.text.specs.declared.rows.Step.{Step}
 use Rattle.text.specs.declared.rows.Step.the-variants as step
 use Rattle.text.specs.declared.ReadAnswer.{ReadAnswer}
@@ -83,91 +81,65 @@ pub refused-early : (outcome : Outcome Network) (lows highs states : List ℕ) (
     → TableRead outcome lows highs states lows highs states (Refused refusal)
 refused-early outcome lows highs states refusal e = refused-same outcome lows highs states lows highs states refusal e refl refl refl
 
--- After the header line: "3, n outside 1 to 1,000; 4, m over 3,000; 8, a table list shorter than m", or a state list than n.
-unfoldable pub afterHeader : (text : List ℕ) (n m p roomLows roomHighs roomStates : ℕ) → Outcome Network
-afterHeader text n m p roomLows roomHighs roomStates =
-    refuseIf (outside 1 1000 n) 3 0
-    (refuseIf (ltb 3000 m) 4 0
-    (refuseIf (ltb roomLows m || (ltb roomHighs m || ltb roomStates n)) 8 0
-    (readLinks text n [] [] p m)))
-
-module _ (text : List ℕ) (n m p roomLows roomHighs roomStates : ℕ) where
-  abbrev after : Outcome Network
-  after = afterHeader text n m p roomLows roomHighs roomStates
-
-  pub count-outside : outside 1 1000 n ≡ true → after ≡ refused 3 0
-  unfolding afterHeader refuseIf
-  count-outside e = rw e
-
-  pub links-many : outside 1 1000 n ≡ false → 3000 < m → after ≡ refused 4 0
-  unfolding afterHeader refuseIf
-  links-many e h = rw (e, lt-ltb 3000 m h)
-
-  pub lows-short : outside 1 1000 n ≡ false → m ≤ 3000 → roomLows < m → after ≡ refused 8 0
-  unfolding afterHeader refuseIf
-  lows-short e h k = rw (e, le-ltb 3000 m h, lt-ltb roomLows m k)
-
-  pub highs-short : outside 1 1000 n ≡ false → m ≤ 3000 → m ≤ roomLows → roomHighs < m → after ≡ refused 8 0
-  unfolding afterHeader refuseIf
-  highs-short e h k l = rw (e, le-ltb 3000 m h, le-ltb roomLows m k, lt-ltb roomHighs m l)
-
-  pub states-short : outside 1 1000 n ≡ false → m ≤ 3000 → m ≤ roomLows → m ≤ roomHighs → roomStates < n → after ≡ refused 8 0
-  unfolding afterHeader refuseIf
-  states-short e h k l s = rw (e, le-ltb 3000 m h, le-ltb roomLows m k, le-ltb roomHighs m l, lt-ltb roomStates n s)
-
-  pub within-limits : outside 1 1000 n ≡ false → m ≤ 3000 → m ≤ roomLows → m ≤ roomHighs → n ≤ roomStates
-      → after ≡ readLinks text n [] [] p m
-  unfolding afterHeader refuseIf
-  within-limits e h k l s = rw (e, le-ltb 3000 m h, le-ltb roomLows m k, le-ltb roomHighs m l, le-ltb roomStates n s)
-
-  pub header-read : scanForm text headerForm 0 ≡ reads (n ∷ m ∷ []) p → readNetwork text roomLows roomHighs roomStates ≡ after
-  unfolding readNetwork onScan afterHeader
-  header-read e = rw e
+pub header-read : (text : List ℕ) (n m p roomLows roomHighs roomStates : ℕ) → scanForm text headerForm 0 ≡ reads (n ∷ m ∷ []) p
+    → readNetwork text roomLows roomHighs roomStates ≡ sized n m roomLows roomHighs roomStates (readLinks text n [] [] p m)
+unfolding readNetwork onScan
+header-read text n m p roomLows roomHighs roomStates e = rw e
 
 pub header-departs : (text : List ℕ) (p roomLows roomHighs roomStates : ℕ) → scanForm text headerForm 0 ≡ departs p
     → readNetwork text roomLows roomHighs roomStates ≡ refusalOf (Form p)
 unfolding readNetwork onScan
 header-departs text p roomLows roomHighs roomStates e = rw e
 
--- A refused link line, refused states or end, and a whole table.
-module _ (text : List ℕ) (n m at : ℕ) (lows highs states lowsThen highsThen : List ℕ) (r : Step)
-    (links : LinksRead text n m at lows highs lowsThen highsThen r) where
+-- Behind the link lines of a network text: the states and the end.
+pub states-behind : (text : List ℕ) (n p : ℕ) (lows highs states statesThen : List ℕ) (q : Step) → StatesRead text n p states statesThen q
+    → readLinks text n lows highs p 0
+    ≡ onStep q (λ _. done (record { relays = n; lows = lows; highs = highs; states = take n statesThen }))
+unfolding readLinks
+states-behind text n p lows highs states statesThen q told = told .follows lows highs
+
+-- A refused link line, a refusal behind the last of them, and a whole table.
+module _ (reading : LineReading) (m at : ℕ) (lows highs states lowsThen highsThen : List ℕ) (r : Step)
+    (links : LinksRead reading m at lows highs lowsThen highsThen r) where
   pub links-refused : (refusal : Refusal) → r ≡ step.Refused refusal
-      → TableRead (readLinks text n [] [] at m) lows highs states lowsThen highsThen states (Refused refusal)
+      → TableRead (reading [] [] at m) lows highs states lowsThen highsThen states (Refused refusal)
   links-refused refusal e =
-      refused-same (readLinks text n [] [] at m) lows highs states lowsThen highsThen states refusal
-      (links .follows ∙ ap (λ (s : Step). onStep s (λ p. readOuts text n (take m lowsThen) (take m highsThen) [] p (suc n))) e)
+      refused-same (reading [] [] at m) lows highs states lowsThen highsThen states refusal
+      (links .follows ∙ ap (λ (s : Step). onStep s (λ p. reading (take m lowsThen) (take m highsThen) p 0)) e)
       (links .sameLows) (links .sameHighs) refl
 
-  module _ (p : ℕ) (e : r ≡ step.Next p) (statesThen : List ℕ) (q : Step) (told : StatesRead text n p states statesThen q) where
+  module _ (n p : ℕ) (e : r ≡ step.Next p) (statesThen : List ℕ) (q : Step)
+      (behind : reading (take m lowsThen) (take m highsThen) p 0
+      ≡ onStep q (λ _. done (record { relays = n; lows = take m lowsThen; highs = take m highsThen; states = take n statesThen })))
+      (same : length statesThen ≡ length states) where
     whole : Outcome Network
     whole = done (record { relays = n; lows = take m lowsThen; highs = take m highsThen; states = take n statesThen })
 
-    at-end : readLinks text n [] [] at m ≡ onStep q (λ _. whole)
+    at-end : reading [] [] at m ≡ onStep q (λ _. whole)
     unfolding whole
     at-end =
         links .follows
-        ∙ ap (λ (s : Step). onStep s (λ p. readOuts text n (take m lowsThen) (take m highsThen) [] p (suc n))) e
-        ∙ told .follows (take m lowsThen) (take m highsThen)
+        ∙ ap (λ (s : Step). onStep s (λ p. reading (take m lowsThen) (take m highsThen) p 0)) e
+        ∙ behind
 
-    pub states-refused : (refusal : Refusal) → q ≡ step.Refused refusal
-        → TableRead (readLinks text n [] [] at m) lows highs states lowsThen highsThen statesThen (Refused refusal)
-    states-refused refusal f =
-        refused-same (readLinks text n [] [] at m) lows highs states lowsThen highsThen statesThen refusal
-        (at-end ∙ ap (λ (s : Step). onStep s (λ _. whole)) f) (links .sameLows) (links .sameHighs) (told .same)
+    pub rest-refused : (refusal : Refusal) → q ≡ step.Refused refusal
+        → TableRead (reading [] [] at m) lows highs states lowsThen highsThen statesThen (Refused refusal)
+    rest-refused refusal f =
+        refused-same (reading [] [] at m) lows highs states lowsThen highsThen statesThen refusal
+        (at-end ∙ ap (λ (s : Step). onStep s (λ _. whole)) f) (links .sameLows) (links .sameHighs) same
 
     pub table-whole : (next : ℕ) → q ≡ step.Next next → m ≤ length lows → m ≤ length highs → n ≤ length states
-        → TableRead (readLinks text n [] [] at m) lows highs states lowsThen highsThen statesThen (Table n m)
+        → TableRead (reading [] [] at m) lows highs states lowsThen highsThen statesThen (Table n m)
     unfolding whole
     table-whole next f h k l =
         record {
           network = at-end ∙ ap (λ (s : Step). onStep s (λ _. whole)) f;
           lowRoom = omega (arith, links .sameLows);
           highRoom = omega (arith, links .sameHighs);
-          stateRoom = omega (arith, told .same);
+          stateRoom = omega (arith, same);
           sameLows = links .sameLows;
           sameHighs = links .sameHighs;
-          sameStates = told .same;
+          sameStates = same;
         }
 
 -- The same reading under another name.
@@ -200,35 +172,61 @@ filled-refused column old new refusal s =
     let e : length new - 0 ≡ length old = omega arith in
     rw e
 
--- Read's answer and its lists afterwards, from what was read.
-module _ (text lows highs states lowsThen highsThen statesThen : List ℕ) where
+-- The answer and the three lists afterwards, from what was read.
+module _ (outcome : Outcome Network) (lows highs states lowsThen highsThen statesThen : List ℕ) where
   abbrev Reading : ReadAnswer → Type 0
-  Reading r =
-      TableRead (readNetwork text (length lows) (length highs) (length states)) lows highs states lowsThen highsThen statesThen r
+  Reading r = TableRead outcome lows highs states lowsThen highsThen statesThen r
 
-  pub answer-read : (r : ReadAnswer) → Reading r → readOutcome r ≡ readAnswer text lows highs states
-  unfolding readAnswer andThen
-  answer-read (Table n m) t = rw (t .network, length-take-le m lowsThen (t .lowRoom))
-  answer-read (Refused refusal) t =
+  pub answer-of : (r : ReadAnswer) → Reading r → readOutcome r ≡ countsOf outcome
+  unfolding andThen
+  answer-of (Table n m) t = rw (t .network, length-take-le m lowsThen (t .lowRoom))
+  answer-of (Refused refusal) t =
       rw (t .network) (sym (refusal-then refusal (λ (network : Network). done (network .relays ∷ length (network .lows) ∷ []))))
 
-  pub lows-read : (r : ReadAnswer) → Reading r → lowsAfter text lows highs states ≡ clearedFrom (linksKept r) lowsThen
-  unfolding lowsAfter
-  lows-read (Table n m) t =
+  pub lows-of : (r : ReadAnswer) → Reading r → filled (λ network. network .lows) outcome lows ≡ clearedFrom (linksKept r) lowsThen
+  lows-of (Table n m) t =
       rw (t .network) (filled-table (λ network. network .lows) lows lowsThen _ m refl (t .lowRoom) (t .sameLows))
-  lows-read (Refused refusal) t =
+  lows-of (Refused refusal) t =
       rw (t .network) (filled-refused (λ network. network .lows) lows lowsThen refusal (t .sameLows))
 
-  pub highs-read : (r : ReadAnswer) → Reading r → highsAfter text lows highs states ≡ clearedFrom (linksKept r) highsThen
-  unfolding highsAfter
-  highs-read (Table n m) t =
+  pub highs-of : (r : ReadAnswer) → Reading r → filled (λ network. network .highs) outcome highs ≡ clearedFrom (linksKept r) highsThen
+  highs-of (Table n m) t =
       rw (t .network) (filled-table (λ network. network .highs) highs highsThen _ m refl (t .highRoom) (t .sameHighs))
-  highs-read (Refused refusal) t =
+  highs-of (Refused refusal) t =
       rw (t .network) (filled-refused (λ network. network .highs) highs highsThen refusal (t .sameHighs))
 
-  pub states-read : (r : ReadAnswer) → Reading r → statesAfter text lows highs states ≡ clearedFrom (statesKept r) statesThen
-  unfolding statesAfter
-  states-read (Table n m) t =
+  pub states-of : (r : ReadAnswer) → Reading r → filled (λ network. network .states) outcome states ≡ clearedFrom (statesKept r) statesThen
+  states-of (Table n m) t =
       rw (t .network) (filled-table (λ network. network .states) states statesThen _ n refl (t .stateRoom) (t .sameStates))
-  states-read (Refused refusal) t =
+  states-of (Refused refusal) t =
       rw (t .network) (filled-refused (λ network. network .states) states statesThen refusal (t .sameStates))
+
+-- What the lists are once they are cleared behind what stands in them, by the answer that was given: the four promises together.
+pub record ReadWhole (outcome : Outcome Network) (lows highs states lowsEnd highsEnd statesEnd : List ℕ) (r : ReadAnswer) : Type 0 where
+  pub answer : readOutcome r ≡ countsOf outcome
+  pub lowList : lowsEnd ≡ filled (λ network. network .lows) outcome lows
+  pub highList : highsEnd ≡ filled (λ network. network .highs) outcome highs
+  pub stateList : statesEnd ≡ filled (λ network. network .states) outcome states
+
+pub read-whole : (outcome : Outcome Network) (lows highs states lowsThen highsThen statesThen lowsEnd highsEnd statesEnd : List ℕ)
+    (r given : ReadAnswer) → r ≡ given → TableRead outcome lows highs states lowsThen highsThen statesThen r
+    → Cleared (linksKept given) (statesKept given) lowsThen highsThen statesThen lowsEnd highsEnd statesEnd
+    → ReadWhole outcome lows highs states lowsEnd highsEnd statesEnd given
+read-whole outcome lows highs states lowsThen highsThen statesThen lowsEnd highsEnd statesEnd r given e table cleared =
+    let told : TableRead outcome lows highs states lowsThen highsThen statesThen given =
+    subst (TableRead outcome lows highs states lowsThen highsThen statesThen) e table in
+    record {
+      answer = answer-of outcome lows highs states lowsThen highsThen statesThen given told;
+      lowList = cleared .lowList ∙ sym (lows-of outcome lows highs states lowsThen highsThen statesThen given told);
+      highList = cleared .highList ∙ sym (highs-of outcome lows highs states lowsThen highsThen statesThen given told);
+      stateList = cleared .stateList ∙ sym (states-of outcome lows highs states lowsThen highsThen statesThen given told);
+    }
+
+-- Read's.
+pub read-promises : (text lows highs states lowsEnd highsEnd statesEnd : List ℕ) (r : ReadAnswer)
+    → ReadWhole (readNetwork text (length lows) (length highs) (length states)) lows highs states lowsEnd highsEnd statesEnd r
+    → (readOutcome r ≡ readAnswer text lows highs states) × ((lowsEnd ≡ lowsAfter text lows highs states)
+    × ((highsEnd ≡ highsAfter text lows highs states) × (statesEnd ≡ statesAfter text lows highs states)))
+unfolding readAnswer lowsAfter highsAfter statesAfter
+read-promises text lows highs states lowsEnd highsEnd statesEnd r promises =
+    (promises .answer, (promises .lowList, (promises .highList, promises .stateList)))

@@ -4,6 +4,7 @@ ghost use mathlib.Core.Path.{_≡_};
 ghost use Prim.Native.Nat.{_+_, _≤_, _<_};
 ghost use lib.ListN.{length};
 ghost use Rattle.definitions.specs.Text.{
+  sized,
   readLinks,
   readNetwork,
   readAnswer,
@@ -18,14 +19,16 @@ ghost use Rattle.text.specs.Answers.{readOutcome, writeOutcome};
 ghost use Rattle.text.specs.Marks.{Writable};
 ghost use Rattle.text.specs.Put.{Put};
 ghost use Rattle.text.specs.Rows.{Cleared};
-ghost use Rattle.text.specs.Tables.{afterHeader, TableRead};
+ghost use Rattle.text.specs.Sizes.{SizeChecked};
+ghost use Rattle.text.specs.Tables.{TableRead};
 
 mod mark;
-mod outs;
+pub mod outs;
 pub mod put;
-mod rows;
+pub mod rows;
 pub mod scan;
 
+use network::Check;
 use network::Refusal;
 use put::WriteMark;
 use rows::Step;
@@ -85,8 +88,8 @@ pub fn write(n: u16, lows: &[u16], highs: &[u16], states: &[u16], buffer: &mut [
         (now (buffer .entry)) ⌝ }
 {
     match network::table_check(n, lows, highs, states) {
-        network::Check::Refused(refusal) => WriteAnswer::Refused(refusal),
-        network::Check::Accepted => {
+        Check::Refused(refusal) => WriteAnswer::Refused(refusal),
+        Check::Accepted => {
             let size = text_length(n, lows, highs, states);
             if buffer.len() < size {
                 return WriteAnswer::Refused(Refusal::Room);
@@ -94,6 +97,32 @@ pub fn write(n: u16, lows: &[u16], highs: &[u16], states: &[u16], buffer: &mut [
             WriteAnswer::Length(put_text(buffer, n, lows, highs, states))
         }
     }
+}
+
+// Whether n relays and m links are within the limits, and lists of these lengths have the room.
+pub fn size_check(n: u16, m: u16, lows: usize, highs: usize, states: usize) -> Check
+    ensures { λ r. ⌜ SizeChecked n m lows highs states r ⌝ }
+{
+    if n < 1 {
+        return Check::Refused(Refusal::RelayCount);
+    }
+    if 1000 < n {
+        return Check::Refused(Refusal::RelayCount);
+    }
+    if 3000 < m {
+        return Check::Refused(Refusal::LinkCount);
+    }
+    let size = m as usize;
+    if lows < size {
+        return Check::Refused(Refusal::TableRoom);
+    }
+    if highs < size {
+        return Check::Refused(Refusal::TableRoom);
+    }
+    if states < n as usize {
+        return Check::Refused(Refusal::TableRoom);
+    }
+    Check::Accepted
 }
 
 // The link lines, the states and the end, for a header within the limits.
@@ -129,30 +158,14 @@ fn read_rows(
     highs: &mut [u16],
     states: &mut [u16],
 ) -> ReadAnswer
-    ensures { λ r. ⌜ TableRead (afterHeader (now (text .entry)) n m at (length (now (lows .entry))) (length (now (highs .entry)))
-        (length (now (states .entry)))) (now (lows .entry)) (now (highs .entry)) (now (states .entry)) (now (lows .exit))
+    ensures { λ r. ⌜ TableRead (sized n m (length (now (lows .entry))) (length (now (highs .entry))) (length (now (states .entry)))
+        (readLinks (now (text .entry)) n [] [] at m)) (now (lows .entry)) (now (highs .entry)) (now (states .entry)) (now (lows .exit))
         (now (highs .exit)) (now (states .exit)) r ⌝ }
 {
-    if n < 1 {
-        return ReadAnswer::Refused(Refusal::RelayCount);
+    match size_check(n, m, lows.len(), highs.len(), states.len()) {
+        Check::Refused(refusal) => ReadAnswer::Refused(refusal),
+        Check::Accepted => read_lines(text, n, m, at, lows, highs, states),
     }
-    if 1000 < n {
-        return ReadAnswer::Refused(Refusal::RelayCount);
-    }
-    if 3000 < m {
-        return ReadAnswer::Refused(Refusal::LinkCount);
-    }
-    let size = m as usize;
-    if lows.len() < size {
-        return ReadAnswer::Refused(Refusal::TableRoom);
-    }
-    if highs.len() < size {
-        return ReadAnswer::Refused(Refusal::TableRoom);
-    }
-    if states.len() < n as usize {
-        return ReadAnswer::Refused(Refusal::TableRoom);
-    }
-    read_lines(text, n, m, at, lows, highs, states)
 }
 
 // A text into the front of the three lists; what is behind the links and states read is left as it falls.
@@ -168,7 +181,7 @@ fn read_table(text: &[u8], lows: &mut [u16], highs: &mut [u16], states: &mut [u1
 }
 
 // Zeros behind what stands of a table: the links in the first two lists, the states in the third.
-fn clear_behind(
+pub fn clear_behind(
     links: usize,
     relays: usize,
     lows: &mut [u16],

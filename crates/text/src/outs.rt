@@ -45,7 +45,7 @@ fn read_out(text: &[u8], n: u16, next: u16, at: usize) -> OutLine
 }
 
 // The relays from one on are in service, up to another.
-fn serve(states: &mut [u16], from: usize, to: usize)
+pub fn serve(states: &mut [u16], from: usize, to: usize)
     requires { ⌜ (from ≤ to) × (to ≤ length (now states)) ⌝ }
     ensures { λ _. ⌜ ServedUpTo from to (now (states .entry)) (now (states .exit)) ⌝ }
 {

@@ -3,6 +3,7 @@ ghost use mathlib.Core.List.{[]};
 ghost use mathlib.Core.Path.{_≡_};
 ghost use Prim.Native.Nat.{_≤_, _<_};
 ghost use lib.ListN.{length, take};
+ghost use Rattle.definitions.specs.Text.{readLinks};
 ghost use Rattle.network.specs.RowStarts.{RowsFor};
 ghost use Rattle.network.specs.Seen.{Seen};
 ghost use Rattle.text.specs.Rows.{LinkRead, LinksRead, EndRead, clearedFrom};
@@ -12,7 +13,7 @@ use network::LinkCheck;
 use network::Refusal;
 
 // A part of a text read: the offset behind it, or a refusal.
-pub(crate) enum Step {
+pub enum Step {
     Next(usize),
     Refused(Refusal),
 }
@@ -30,7 +31,7 @@ fn read_link(
 ) -> Step
     requires { ⌜ (n ≤ 1000) × (i < length (now lows)) × (i < length (now highs)) ⌝ }
     requires { ⌜ RowsFor n (now rows) × Seen n (now seen) (take i (now lows)) (take i (now highs)) i ⌝ }
-    ensures { λ r. ⌜ LinkRead (now (text .entry)) n i at (now (lows .entry)) (now (highs .entry)) (now (lows .exit))
+    ensures { λ r. ⌜ LinkRead (readLinks (now (text .entry)) n) n i at (now (lows .entry)) (now (highs .entry)) (now (lows .exit))
         (now (highs .exit)) (now (seen .exit)) r ⌝ }
 {
     match crate::mark::form_at(text, at, Due::Link) {
@@ -61,7 +62,7 @@ fn read_links(
 ) -> Step
     requires { ⌜ (n ≤ 1000) × (m ≤ length (now lows)) × (m ≤ length (now highs)) ⌝ }
     requires { ⌜ RowsFor n (now rows) × Seen n (now seen) [] [] 0 ⌝ }
-    ensures { λ r. ⌜ LinksRead (now (text .entry)) n m at (now (lows .entry)) (now (highs .entry)) (now (lows .exit))
+    ensures { λ r. ⌜ LinksRead (readLinks (now (text .entry)) n) m at (now (lows .entry)) (now (highs .entry)) (now (lows .exit))
         (now (highs .exit)) r ⌝ }
 {
     let mut p = at;
@@ -90,7 +91,7 @@ pub(crate) fn read_all_links(
     highs: &mut [u16],
 ) -> Step
     requires { ⌜ (n ≤ 1000) × (m ≤ length (now lows)) × (m ≤ length (now highs)) ⌝ }
-    ensures { λ r. ⌜ LinksRead (now (text .entry)) n m at (now (lows .entry)) (now (highs .entry)) (now (lows .exit))
+    ensures { λ r. ⌜ LinksRead (readLinks (now (text .entry)) n) m at (now (lows .entry)) (now (highs .entry)) (now (lows .exit))
         (now (highs .exit)) r ⌝ }
 {
     if n <= 32 {

@@ -22,6 +22,9 @@ enum-known-refusal-5 c = search needs
 enum-known-refusal-6 : tie.Need-enum-known-refusal-6
 enum-known-refusal-6 c = search needs
 
+enum-known-refusal-7 : tie.Need-enum-known-refusal-7
+enum-known-refusal-7 c = search needs
+
 returns : tie.Need-returns
 returns c = rw (c .before .refusal .given .1)
 
@@ -41,7 +44,10 @@ returns-6 : tie.Need-returns-6
 returns-6 c = rw (c .before .refusal6 .given .1)
 
 returns-7 : tie.Need-returns-7
-returns-7 c = no-place (c .before .args .refusal) (c .match .keys7)
+returns-7 c = rw (c .before .refusal7 .given .1)
+
+returns-8 : tie.Need-returns-8
+returns-8 c = no-place (c .before .args .refusal) (c .match .keys8)
 
 pub refusal-place-spec : {M : Type 1} → statement M
 refusal-place-spec =
@@ -53,10 +59,12 @@ refusal-place-spec =
     enum-known-refusal-4
     enum-known-refusal-5
     enum-known-refusal-6
+    enum-known-refusal-7
     returns
     returns-2
     returns-3
     returns-4
     returns-5
     returns-6
-    returns-7)
+    returns-7
+    returns-8)

@@ -1,11 +1,6 @@
 -- `text::read` meets its contract: the lists are cleared behind what was read, whole after a refusal. Assumes nothing.
-use Prim.Native.Nat.{ℕ}
-use mathlib.Core.Path.{sym, _∙_, ap}
 use borrow.Author.Needs.{needs}
-use denote.Ref.{now}
-use Rattle.text.specs.Answers.{readOutcome}
-use Rattle.text.specs.Rows.{clearedFrom}
-use Rattle.text.specs.Tables.{linksKept, statesKept, answer-read, lows-read, highs-read, states-read}
+use Rattle.text.specs.Tables.{read-whole, read-promises}
 use Rattle.text.proofs.read.Statement.{statement}
 use Rattle.text.proofs.read.Tie as tie
 
@@ -43,24 +38,8 @@ returns : tie.Need-returns
 returns c =
     let m = c .before .before .before .before .before .before .before .before .before .before .before in
     let table = m .before .before .before .before .before .before .before .before .read-table in
-    let a = m .before .before .before .before .before .before .before .before .before .before .before .before .before .before .before .before .args in
-    let e = m .refusal .given .1 in
-    let cleared = c .before .before .before .before .before .before .clear-behind .ensures in (
-      sym (ap readOutcome e) ∙ answer-read (now (a .text)) (now (a .lows)) (now (a .highs)) (now (a .states)) _ _ _ (table .result) (table .ensures),
-      (
-        cleared .lowList
-            ∙ sym (lows-read (now (a .text)) (now (a .lows)) (now (a .highs)) (now (a .states)) _ _ _ (table .result) (table .ensures)
-            ∙ ap (λ (k : ℕ). clearedFrom k (table .last .1 .0)) (ap linksKept e)),
-        (
-          cleared .highList
-              ∙ sym (highs-read (now (a .text)) (now (a .lows)) (now (a .highs)) (now (a .states)) _ _ _ (table .result) (table .ensures)
-              ∙ ap (λ (k : ℕ). clearedFrom k (table .last .1 .1 .0)) (ap linksKept e)),
-          cleared .stateList
-              ∙ sym (states-read (now (a .text)) (now (a .lows)) (now (a .highs)) (now (a .states)) _ _ _ (table .result) (table .ensures)
-              ∙ ap (λ (k : ℕ). clearedFrom k (table .last .1 .1 .1 .0)) (ap statesKept e)),
-        ),
-      ),
-    )
+    let cleared = c .before .before .before .before .before .before .clear-behind .ensures in
+    read-promises _ _ _ _ _ _ _ _ (read-whole _ _ _ _ _ _ _ _ _ _ _ _ (m .refusal .given .1) (table .ensures) cleared)
 
 same-length-4 : tie.Need-same-length-4
 same-length-4 c = search needs
@@ -75,24 +54,8 @@ returns-2 : tie.Need-returns-2
 returns-2 c =
     let m = c .before .before .before .before .before .before .before .before .before .before .before in
     let table = m .before .before .before .before .before .before .before .before .read-table in
-    let a = m .before .before .before .before .before .before .before .before .before .before .before .before .before .before .before .before .args in
-    let e = m .n .given .1 in
-    let cleared = c .before .before .before .before .before .before .clear-behind2 .ensures in (
-      sym (ap readOutcome e) ∙ answer-read (now (a .text)) (now (a .lows)) (now (a .highs)) (now (a .states)) _ _ _ (table .result) (table .ensures),
-      (
-        cleared .lowList
-            ∙ sym (lows-read (now (a .text)) (now (a .lows)) (now (a .highs)) (now (a .states)) _ _ _ (table .result) (table .ensures)
-            ∙ ap (λ (k : ℕ). clearedFrom k (table .last .1 .0)) (ap linksKept e)),
-        (
-          cleared .highList
-              ∙ sym (highs-read (now (a .text)) (now (a .lows)) (now (a .highs)) (now (a .states)) _ _ _ (table .result) (table .ensures)
-              ∙ ap (λ (k : ℕ). clearedFrom k (table .last .1 .1 .0)) (ap linksKept e)),
-          cleared .stateList
-              ∙ sym (states-read (now (a .text)) (now (a .lows)) (now (a .highs)) (now (a .states)) _ _ _ (table .result) (table .ensures)
-              ∙ ap (λ (k : ℕ). clearedFrom k (table .last .1 .1 .1 .0)) (ap statesKept e)),
-        ),
-      ),
-    )
+    let cleared = c .before .before .before .before .before .before .clear-behind2 .ensures in
+    read-promises _ _ _ _ _ _ _ _ (read-whole _ _ _ _ _ _ _ _ _ _ _ _ (m .n .given .1) (table .ensures) cleared)
 
 pub read-spec : {M : Type 1} → statement M
 read-spec =

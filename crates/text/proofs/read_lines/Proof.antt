@@ -2,7 +2,7 @@
 use native.Mathlib.Omega.{arith}
 use borrow.Author.Needs.{needs}
 use denote.Ref.{now}
-use Rattle.text.specs.Tables.{links-refused, states-refused, table-whole}
+use Rattle.text.specs.Tables.{states-behind, links-refused, rest-refused, table-whole}
 use Rattle.text.proofs.read_lines.Statement.{statement}
 use Rattle.text.proofs.read_lines.Tie as tie
 
@@ -33,7 +33,7 @@ same-length-2 c = search needs
 returns : tie.Need-returns
 returns c =
     let a = c .before .before .before .before .before .before .before .before .before .before .before .before .before .before .args in
-    links-refused _ _ _ _ _ _ (now (a .states)) _ _ _ (c .before .before .before .before .before .before .before .read-all-links .ensures) _ (c .before .refusal .given .1)
+    links-refused _ _ _ _ _ (now (a .states)) _ _ _ (c .before .before .before .before .before .before .before .read-all-links .ensures) _ (c .before .refusal .given .1)
 
 same-length-3 : tie.Need-same-length-3
 same-length-3 c = search needs
@@ -49,8 +49,9 @@ returns-2 c =
     let atStates = c .before .before .before .before .before in
     let atP = atStates .before .before .before in
     let atLinks = atP .before .before .before .before .before .before in
-    states-refused _ _ _ _ _ _ _ _ _ _ (atLinks .read-all-links .ensures) _ (atP .p .given .1) _ _ (atStates .read-states .ensures)
-    _ (c .before .refusal2 .given .1)
+    let told = atStates .read-states .ensures in
+    rest-refused _ _ _ _ _ _ _ _ _ (atLinks .read-all-links .ensures) _ _ (atP .p .given .1) _ _ (states-behind _ _ _ _ _ _ _ _ told)
+    (told .same) _ (c .before .refusal2 .given .1)
 
 same-length-6 : tie.Need-same-length-6
 same-length-6 c = search needs
@@ -67,8 +68,9 @@ returns-3 c =
     let atP = atStates .before .before .before in
     let atLinks = atP .before .before .before .before .before .before in
     let start = atLinks .before .before .before .before .before .before .before in
-    table-whole _ _ _ _ _ _ _ _ _ _ (atLinks .read-all-links .ensures) _ (atP .p .given .1) _ _ (atStates .read-states .ensures)
-    _ (c .enum-told .given .1) (omega (arith, start .pre)) (omega (arith, start .pre)) (omega (arith, start .pre))
+    let told = atStates .read-states .ensures in
+    table-whole _ _ _ _ _ _ _ _ _ (atLinks .read-all-links .ensures) _ _ (atP .p .given .1) _ _ (states-behind _ _ _ _ _ _ _ _ told)
+    (told .same) _ (c .enum-told .given .1) (omega (arith, start .pre)) (omega (arith, start .pre)) (omega (arith, start .pre))
 
 pub read-lines-spec : {M : Type 1} → statement M
 read-lines-spec =

@@ -1,66 +1,32 @@
--- `text::read_rows` meets its contract: the tests on the way to each answer are those of the definition. Assumes nothing.
-use native.Mathlib.Omega.{arith}
-use lib.ListN.{length}
+-- `text::read_rows` meets its contract: the size is refused, or the lines come next. Assumes nothing.
 use borrow.Author.Needs.{needs}
 use denote.Ref.{now}
-use Rattle.lists.specs.Ranges.{below, above, inside}
-use Rattle.text.specs.Tables.{
-  count-outside,
-  links-many,
-  lows-short,
-  highs-short,
-  states-short,
-  within-limits,
-  refused-early,
-  table-same,
-}
+use Rattle.text.specs.Sizes.{size-refused, size-passed, size-room}
+use Rattle.text.specs.Tables.{refused-early, table-same}
 use Rattle.text.proofs.read_rows.Statement.{statement}
 use Rattle.text.proofs.read_rows.Tie as tie
 
-returns : tie.Need-returns
-returns c =
-    let a = c .before .before .before .before .before .args in
-    refused-early _ (now (a .lows)) (now (a .highs)) (now (a .states)) _
-    (count-outside (now (a .text)) (a .n) (a .m) (a .at) (length (now (a .lows))) (length (now (a .highs))) (length (now (a .states)))
-    (below 1 1000 (a .n) (c .if1 .taken)))
+size-check-requires : tie.Need-size-check-requires
+size-check-requires c κs = search needs
 
-returns-2 : tie.Need-returns-2
-returns-2 c =
-    let a = c .before .before .before .before .before .before .args in
-    refused-early _ (now (a .lows)) (now (a .highs)) (now (a .states)) _
-    (count-outside (now (a .text)) (a .n) (a .m) (a .at) (length (now (a .lows))) (length (now (a .highs))) (length (now (a .states)))
-    (above 1 1000 (a .n) (omega arith) (c .if2 .taken)))
+enum-known-refusal : tie.Need-enum-known-refusal
+enum-known-refusal c = search needs
 
-returns-3 : tie.Need-returns-3
-returns-3 c =
-    let a = c .before .before .before .before .before .before .before .args in
-    refused-early _ (now (a .lows)) (now (a .highs)) (now (a .states)) _
-    (links-many (now (a .text)) (a .n) (a .m) (a .at) (length (now (a .lows))) (length (now (a .highs))) (length (now (a .states)))
-    (inside 1 1000 (a .n) (omega arith) (omega arith)) (c .if3 .taken))
-
-returns-4 : tie.Need-returns-4
-returns-4 c =
-    let a = c .before .before .before .before .before .before .before .before .args in
-    refused-early _ (now (a .lows)) (now (a .highs)) (now (a .states)) _
-    (lows-short (now (a .text)) (a .n) (a .m) (a .at) (length (now (a .lows))) (length (now (a .highs))) (length (now (a .states)))
-    (inside 1 1000 (a .n) (omega arith) (omega arith)) (omega arith) (c .if4 .taken))
-
-returns-5 : tie.Need-returns-5
-returns-5 c =
-    let a = c .before .before .before .before .before .before .before .before .before .args in
-    refused-early _ (now (a .lows)) (now (a .highs)) (now (a .states)) _
-    (highs-short (now (a .text)) (a .n) (a .m) (a .at) (length (now (a .lows))) (length (now (a .highs))) (length (now (a .states)))
-    (inside 1 1000 (a .n) (omega arith) (omega arith)) (omega arith) (omega arith) (c .if5 .taken))
-
-returns-6 : tie.Need-returns-6
-returns-6 c =
-    let a = c .before .before .before .before .before .before .before .before .before .before .args in
-    refused-early _ (now (a .lows)) (now (a .highs)) (now (a .states)) _
-    (states-short (now (a .text)) (a .n) (a .m) (a .at) (length (now (a .lows))) (length (now (a .highs))) (length (now (a .states)))
-    (inside 1 1000 (a .n) (omega arith) (omega arith)) (omega arith) (omega arith) (omega arith) (c .if6 .taken))
+enum-told : tie.Need-enum-told
+enum-told c = search needs
 
 read-lines-requires : tie.Need-read-lines-requires
-read-lines-requires c κs = search needs
+read-lines-requires c κs =
+    let atTold = c .before .before .before in
+    let room = size-room _ _ _ _ _ _ (atTold .before .before .size-check .ensures) (atTold .enum-told .given .1) in
+    (room .few, room .inLows, room .inHighs, room .inStates)
+
+returns : tie.Need-returns
+returns c =
+    let atCheck = c .before .before .before in
+    let a = atCheck .before .before .before .before .before .args in
+    refused-early _ (now (a .lows)) (now (a .highs)) (now (a .states)) _
+    (size-refused _ _ _ _ _ _ (atCheck .size-check .ensures) _ _ (c .before .refusal .given .1))
 
 same-length : tie.Need-same-length
 same-length c = search needs
@@ -71,31 +37,24 @@ same-length-2 c = search needs
 same-length-3 : tie.Need-same-length-3
 same-length-3 c = search needs
 
-returns-7 : tie.Need-returns-7
-returns-7 c =
-    let atReadLines = c .before .before .before .before .before .before in
-    let tested = atReadLines .before .before .before .before in
-    let a = tested .before .before .before .before .before .before .before .before .before .before .args in
-    let few = tested .before .before .before .if3 .left in
-    let lows = tested .before .before .if4 .left in
-    let highs = tested .before .if5 .left in
+returns-2 : tie.Need-returns-2
+returns-2 c =
+    let atLines = c .before .before .before .before .before .before in
+    let atTold = atLines .before .before .before .before in
     table-same _ _ _ _ _ _ _ _ _
-    (within-limits (now (a .text)) (a .n) (a .m) (a .at) (length (now (a .lows))) (length (now (a .highs))) (length (now (a .states)))
-    (inside 1 1000 (a .n) (omega arith) (omega arith)) few lows highs (tested .if6 .left))
-    (atReadLines .read-lines .ensures)
+    (size-passed _ _ _ _ _ _ (atTold .before .before .size-check .ensures) _ (atTold .enum-told .given .1))
+    (atLines .read-lines .ensures)
 
 pub read-rows-spec : {M : Type 1} → statement M
 read-rows-spec =
     tie.close
     (tie.spec
-    returns
-    returns-2
-    returns-3
-    returns-4
-    returns-5
-    returns-6
+    size-check-requires
+    enum-known-refusal
+    enum-told
     read-lines-requires
+    returns
     same-length
     same-length-2
     same-length-3
-    returns-7)
+    returns-2)

@@ -101,7 +101,7 @@ returns-2 c =
     let l = c .before .loop in
     let a = c .before .before .before .before .before .before .before .args in
     record {
-      follows = l .inv .5 ∙ links-over (now (a .text)) (a .n) (l .i) (a .m) (l .p) (l .lows) (l .highs) (omega arith) (omega arith);
+      follows = l .inv .5 ∙ links-over (readLinks (now (a .text)) (a .n)) (l .i) (a .m) (l .p) (l .lows) (l .highs) (omega arith) (omega arith);
       sameLows = l .inv .1;
       sameHighs = l .inv .2;
     }
