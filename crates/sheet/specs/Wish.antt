@@ -5,18 +5,13 @@ use mathlib.Core.Path.{_≡_, refl, sym, _∙_, ap}
 use Rattle.definitions.specs.Form.{bytes, Item, word, numeral, Scan, departs, reads, scanWord, scanNumber, scanItem, withFront, following, scanForm}
 use Rattle.definitions.specs.Plan.{wishForm}
 use Rattle.text.specs.Scans.{pairForm}
-use Rattle.text.specs.ItemByItem.{form-word}
+use Rattle.text.specs.ItemByItem.{front-none, form-word}
 use Rattle.sheet.specs.declared.wish.WishScan.{WishScan}
 use Rattle.sheet.specs.declared.wish.WishScan.the-variants as wishes
 
 abbrev pub wishGives : WishScan → Scan
 wishGives (wishes.Departs p) = departs p
 wishGives (wishes.Reads from to k p) = reads (from ∷ to ∷ k ∷ []) p
-
-front-none : (scan : Scan) → withFront [] scan ≡ scan
-unfolding withFront
-front-none (departs p) = refl
-front-none (reads values p) = refl
 
 front-following : (front : List ℕ) (scan : Scan) (next : ℕ → Scan)
     → withFront front (following scan next) ≡ following (withFront front scan) next

@@ -11,7 +11,7 @@ use Rattle.definitions.specs.Outcome.{pick}
 use Rattle.definitions.specs.Form.{bytes, word, Scan, departs, reads, byteAt, scanWord, scanNumber, scanItem, following, scanForm}
 use Rattle.definitions.specs.SheetForm.{routeFront, overFront, lineEnd, scanMore, scanNumbers}
 use Rattle.text_theory.specs.Forms.{following-reads}
-use Rattle.text.specs.ItemByItem.{form-word, word-number-departs, word-number-reads}
+use Rattle.text.specs.ItemByItem.{following-departs, form-word, word-number-departs, word-number-reads}
 use Rattle.sheet_check.specs.Offsets.{after, behind}
 use Rattle.sheet_check.specs.Walks.{spacedNumber, readThen, numbersAt, NoNumber, ANumber}
 use Rattle.sheet_check.proofs.FormLaws.{after-departs, word-plain, firstRelay, route-parts}
@@ -19,10 +19,6 @@ use Rattle.sheet_check.proofs.EndLaws.{two-words}
 
 no-scan : (p : ℕ) (values : List ℕ) (q : ℕ) → departs p ≡ reads values q → ⊥
 no-scan p values q e = let z : _≡_ {A = ℕ} 0 1 = cc in omega arith
-
-following-departs : (scan : Scan) (next : ℕ → Scan) (p : ℕ) → scan ≡ departs p → following scan next ≡ departs p
-unfolding following
-following-departs scan next p e = rw e
 
 module _ (text : List ℕ) where
   pub none-at : (p : ℕ) → NoNumber text p → (most : ℕ) → numbersAt text p most ≡ []

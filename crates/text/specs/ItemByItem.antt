@@ -17,6 +17,21 @@ use Rattle.definitions.specs.Form.{
   scanForm,
 }
 
+-- No number in front changes nothing.
+pub front-none : (s : Scan) → withFront [] s ≡ s
+unfolding withFront
+front-none (departs q) = refl
+front-none (reads values q) = refl
+
+-- What follows a departure, and what follows where no number was read.
+pub following-departs : (s : Scan) (next : ℕ → Scan) (q : ℕ) → s ≡ departs q → following s next ≡ departs q
+unfolding following
+following-departs s next q e = rw e
+
+pub following-plain : (s : Scan) (next : ℕ → Scan) (q : ℕ) → s ≡ reads [] q → following s next ≡ next q
+unfolding following
+following-plain s next q e = rw e (front-none (next q))
+
 -- Nothing follows.
 following-end : (text : List ℕ) (s : Scan) → following s (scanForm text []) ≡ s
 unfolding following withFront scanForm
@@ -50,12 +65,8 @@ word-number-departs text w p q e = rw e
 
 pub word-number-reads : (text w : List ℕ) (p q : ℕ) → scanWord text w p ≡ reads [] q
     → scanForm text (word w ∷ numeral ∷ []) p ≡ scanNumber text q
-unfolding scanForm scanItem following withFront
+unfolding scanForm scanItem following
 word-number-reads text w p q e = rw e (front-none (following (scanNumber text q) (scanForm text [])) ∙ following-end text (scanNumber text q))
-  where
-    front-none : (s : Scan) → withFront [] s ≡ s
-    front-none (departs r) = refl
-    front-none (reads values r) = refl
 
 -- A word with a number, in front of the rest of a form.
 module _ (text w : List ℕ) (rest : List Item) (p : ℕ) where

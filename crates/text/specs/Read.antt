@@ -71,6 +71,31 @@ clear-end list i h =
     let e : length list - i ≡ 0 = omega arith in
     rw (take-all i list h, e) (append-nil list)
 
+-- A link with no fault is stored and its pair marked, however its line is read.
+pub fine-link : (reading : LineReading) (n i at : ℕ) (lows highs bits : List ℕ) (a b p : ℕ) (then : List ℕ) (r : LinkCheck)
+    → i < length lows → i < length highs → Seen n bits (take i lows) (take i highs) i → LinkChecked n a b bits then r → faultOf r ≡ 0
+    → ((count : ℕ) → reading (take i lows) (take i highs) at (suc count)
+    ≡ reading (take i lows ++ (a ∷ [])) (take i highs ++ (b ∷ [])) p count)
+    → LinkRead reading n i at lows highs (set lows i a) (set highs i b) then (Next p)
+fine-link reading n i at lows highs bits a b p then r lowRoom highRoom marks checked fine onward =
+    record {
+      follows = λ count. onward count ∙ rw (take-stored lows i a lowRoom, take-stored highs i b highRoom);
+      seen = rw (take-stored lows i a lowRoom, take-stored highs i b highRoom, ← grown) more;
+      sameLows = length-set lows i a;
+      sameHighs = length-set highs i b;
+    }
+  where
+    count-of : length (take i lows) ≡ i
+    count-of = length-take-le i lows (omega arith)
+
+    grown : length (take i lows ++ (a ∷ [])) ≡ i + 1
+    grown = length-append (take i lows) (a ∷ []) ∙ ap (λ (k : ℕ). k + 1) count-of
+
+    more : Seen n then (take i lows ++ (a ∷ [])) (take i highs ++ (b ∷ [])) (length (take i lows ++ (a ∷ [])))
+    more =
+        seen-snoc n a b (take i lows) (take i highs) bits then r
+        (count-of ∙ sym (length-take-le i highs (omega arith))) (rw count-of marks) checked fine
+
 -- What `read_link` promises, way by way.
 module _ (text : List ℕ) (n i at : ℕ) (lows highs : List ℕ) where
   pub read-departs : (then : List ℕ) (p : ℕ) → scanForm text linkForm at ≡ departs p
@@ -104,24 +129,11 @@ module _ (text : List ℕ) (n i at : ℕ) (lows highs : List ℕ) where
           sameHighs = refl;
         }
 
-    pub read-fine : faultOf r ≡ 0 → LinkRead (readLinks text n) n i at lows highs (set lows i a) (set highs i b) then (Next p)
+    pub read-fine : faultOf r ≡ 0
+        → LinkRead (readLinks text n) n i at lows highs (set lows i a) (set highs i b) then (Next p)
     read-fine fine =
-        record {
-          follows = λ count.
-              link-fine text n (take i lows) (take i highs) at count a b p scanned (fault-of ∙ fine)
-              ∙ rw (take-stored lows i a lowRoom, take-stored highs i b highRoom);
-          seen = rw (take-stored lows i a lowRoom, take-stored highs i b highRoom, ← grown) more;
-          sameLows = length-set lows i a;
-          sameHighs = length-set highs i b;
-        }
-      where
-        grown : length (take i lows ++ (a ∷ [])) ≡ i + 1
-        grown = length-append (take i lows) (a ∷ []) ∙ ap (λ (k : ℕ). k + 1) count-of
-
-        more : Seen n then (take i lows ++ (a ∷ [])) (take i highs ++ (b ∷ [])) (length (take i lows ++ (a ∷ [])))
-        more =
-            seen-snoc n a b (take i lows) (take i highs) bits then r
-            (count-of ∙ sym (length-take-le i highs (omega arith))) (rw count-of marks) checked fine
+        fine-link (readLinks text n) n i at lows highs bits a b p then r lowRoom highRoom marks checked fine
+        (λ count. link-fine text n (take i lows) (take i highs) at count a b p scanned (fault-of ∙ fine))
 
 -- What a link line that was read, or refused, leaves of the whole reading.
 module _ (reading : LineReading) (n i at : ℕ) (lows highs lowsThen highsThen bits : List ℕ) (r : Step)
