@@ -28,4 +28,5 @@ pub mod NetworkFront
 pub mod SheetLooks
 pub mod LineBegun
 pub mod SheetBegun
+pub mod FirstDeparture
 pub mod RefusalFourteen
