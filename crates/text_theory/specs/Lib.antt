@@ -25,6 +25,7 @@ pub mod NumberLines
 pub mod SheetRoundTrip
 pub mod SheetWritten
 pub mod NetworkFront
+pub mod SameReadings
 pub mod SheetLooks
 pub mod LineBegun
 pub mod SheetBegun

@@ -90,14 +90,17 @@ record DigitsRead (text : List ℕ) (x p more : ℕ) (values : List ℕ) (q : �
   part : Part text p digits q
   value : values ≡ valueFrom x digits ∷ []
 
--- A byte that is not 0 stands before the end.
-pub byte-within : (text : List ℕ) (p : ℕ) → 0 < byteAt text p → p < length text
+-- Past the end the byte is 0, so a byte that is not 0 stands before the end.
+pub past-end : (text : List ℕ) (p : ℕ) → length text ≤ p → byteAt text p ≡ 0
 unfolding byteAt
+past-end text p h = List·getD-eq-default text 0 h
+
+pub byte-within : (text : List ℕ) (p : ℕ) → 0 < byteAt text p → p < length text
 byte-within text p h = go (ltb p (length text)) refl
   where
     go : (b : Bool) → ltb p (length text) ≡ b → p < length text
     go true e = ltb-true p (length text) e
-    go false e = absurd (omega (arith, List·getD-eq-default text 0 (ltb-false p (length text) e)))
+    go false e = absurd (omega (arith, past-end text p (ltb-false p (length text) e)))
 
 read-digits : (text : List ℕ) (x p more : ℕ) (values : List ℕ) (q : ℕ) → p ≤ length text
     → scanDigits text x p more ≡ reads values q → DigitsRead text x p more values q

@@ -6,8 +6,8 @@ use mathlib.Core.List.{List, [], _∷_, _++_}
 use mathlib.Core.Path.{_≡_, refl, sym, _∙_}
 use native.Mathlib.Omega.{arith}
 use lib.Dec.{eqb, ltb}
-use lib.ListN.{length, getD, List·getD-eq-default}
-use borrow.Author.Tests.{eqb-true, lt-ltb}
+use lib.ListN.{length, getD}
+use borrow.Author.Tests.{eqb-true}
 use Rattle.definitions.specs.Outcome.{pick, Outcome, refused, done, refuseIf}
 use Rattle.definitions.specs.Form.{
   Item,
@@ -26,11 +26,9 @@ use Rattle.definitions.specs.Form.{
 use Rattle.definitions.specs.Text.{endForm}
 use Rattle.definitions.specs.Plan.{sheetForm, keptForm, Sheet}
 use Rattle.definitions.specs.SheetForm.{routeFront, overFront, lineEnd, scanMore, scanNumbers, readKept, readRoutes, readSheet}
+use Rattle.text_theory.specs.Numbers.{past-end}
 use Rattle.text_theory.specs.Looks.{offset, Alike, Looks, number-looks, offset-front, form-looks}
-
-past-end : (text : List ℕ) (p : ℕ) → length text ≤ p → byteAt text p ≡ 0
-unfolding byteAt
-past-end text p h = List·getD-eq-default text 0 h
+use Rattle.text_theory.specs.SameReadings.{Agree, looks-agree, following-agree, on-scan-agree, end-agrees}
 
 -- Where no space stands, no more numbers are read.
 no-space : (text : List ℕ) (p most : ℕ) → eqb (byteAt text p) 32 ≡ false → scanMore text p most ≡ reads [] p
@@ -92,19 +90,18 @@ more-looks (suc most) text p enough =
 following-looks : (text : List ℕ) (p : ℕ) (first : List ℕ → Scan) (next : List ℕ → ℕ → Scan) → Looks text p first (first text)
     → ((q : ℕ) → Looks text q (λ t. next t q) (next text q))
     → Looks text p (λ t. following (first t) (next t)) (following (first text) (next text))
-unfolding following
-following-looks text p first next here after = go (first text) here
+following-looks text p first next here after =
+    (agree text (λ i h. refl) .0, λ other alike. agree other alike .1 (omega arith))
   where
-    go : (scan : Scan) → Looks text p first scan
-        → Looks text p (λ t. following (first t) (next t)) (following scan (next text))
-    go (departs q) here = (here .0, λ other alike. rw (here .1 other alike))
-    go (reads values q) here =
-        let same = offset-front values (next text q) in
-        let rest = after q in (
-          omega arith,
-          λ other alike.
-              rw (here .1 other (λ i h. alike i (omega arith)), rest .1 other (λ i h. alike i (omega arith))),
-        )
+    end : ℕ
+    end = offset (following (first text) (next text))
+
+    agree : (other : List ℕ) → Alike text other end
+        → Agree p end (following (first text) (next text)) (following (first other) (next other))
+    agree other alike =
+        following-agree p end (first text) (first other) (next text) (next other)
+        (looks-agree text other p end first (first text) here alike)
+        (λ s _. looks-agree text other s end (λ t. next t s) (next text s) (after s) alike)
 
 -- A line of numbers, where its front looks so.
 line-looks : (front : List Item) (text : List ℕ) (p at : ℕ) → Looks text p (λ t. scanForm t front at) (scanForm text front at)
@@ -146,36 +143,14 @@ on-scan-looks : (text other : List ℕ) (p q : ℕ) (first : List ℕ → Scan) 
     → RefusedToo other s q (λ most. otherNext most values s))
     → onScan 14 (first text) next ≡ refused 14 q
     → RefusedToo other p q (λ most. onScan 14 (first other) (otherNext most))
-unfolding onScan
-on-scan-looks text other p q first next otherNext here alike after e = go (first text) here e
+on-scan-looks text other p q first next otherNext here alike after e =
+    (with (length other) (omega arith) .0, λ most enough. with most enough .1)
   where
-    go : (scan : Scan) → Looks text p first scan → onScan 14 scan next ≡ refused 14 q
-        → RefusedToo other p q (λ most. onScan 14 (first other) (otherNext most))
-    go (departs at) here e =
-        let same : at ≡ q = cc in (
-          omega arith,
-          λ most enough. rw (here .1 other (λ i h. alike i (omega arith)), same),
-        )
-    go (reads values s) here e =
-        let rest = after values s (here .0) e in (
-          omega arith,
-          λ most enough.
-              rw (here .1 other (λ i h. alike i (omega (arith, rest .0)))) (rest .1 most (omega arith)),
-        )
-
--- Something behind the end: in the other text too, as it is not shorter.
-end-looks : (text other : List ℕ) (sheet : Sheet) (s q : ℕ) → q < length other
-    → refuseIf (ltb s (length text)) 14 s (done sheet) ≡ refused 14 q
-    → RefusedToo other s q (λ _. refuseIf (ltb s (length other)) 14 s (done sheet))
-unfolding refuseIf
-end-looks text other sheet s q longer e = go (ltb s (length text)) e
-  where
-    go : (b : Bool) → refuseIf b 14 s (done sheet) ≡ refused 14 q
-        → RefusedToo other s q (λ _. refuseIf (ltb s (length other)) 14 s (done sheet))
-    go true e =
-        let same : s ≡ q = cc in
-        (omega arith, λ most enough. rw (lt-ltb s (length other) (omega arith), same))
-    go false e = let z : _≡_ {A = ℕ} 0 1 = cc in absurd (omega arith)
+    with : (most : ℕ) → length other ≤ p + most → (p ≤ q) × (onScan 14 (first other) (otherNext most) ≡ refused 14 q)
+    with most enough =
+        on-scan-agree 14 p q (first text) (first other) next (otherNext most)
+        (looks-agree text other p q first (first text) here alike)
+        (λ values s later f. let rest = after values s later f in (rest .0, rest .1 most (omega arith))) e
 
 kept-looks : (text other : List ℕ) (from to k : ℕ) (rs os : List (List ℕ)) (p q : ℕ) → q < length other → Alike text other q
     → eqb (byteAt text p) 40 ≡ true → readKept text from to k rs os p ≡ refused 14 q
@@ -190,7 +165,7 @@ kept-looks text other from to k rs os p q longer alike bracket e =
     (λ _ r. refuseIf (ltb r (length text)) 14 r (done (sheet kept)))
     (λ _ _ r. refuseIf (ltb r (length other)) 14 r (done (sheet kept)))
     (form-looks endForm text s) alike
-    (λ _ r _. end-looks text other (sheet kept) r q longer))
+    (λ _ r _ f. let rest = end-agrees 14 text other (sheet kept) r q longer f in (rest .0, λ _ _. rest .1)))
     e
   where
     sheet : List ℕ → Sheet
