@@ -26,6 +26,10 @@ pub mod SheetRoundTrip
 pub mod SheetWritten
 pub mod NetworkFront
 pub mod SameReadings
+pub mod CommentLine
+pub mod Comments
+pub mod CommentsAgree
+pub mod DimacsLines
 pub mod SheetLooks
 pub mod LineBegun
 pub mod SheetBegun

@@ -7,7 +7,7 @@ use mathlib.Core.Path.{_≡_, refl, sym, _∙_}
 use native.Mathlib.Omega.{arith}
 use lib.ListN.{length, getD}
 use Rattle.definitions.specs.Network.{linkFault}
-use Rattle.definitions.specs.Form.{reads, Item, scanForm, writeForm}
+use Rattle.definitions.specs.Form.{bytes, reads, Item, word, numeral, scanForm, writeForm}
 use Rattle.definitions.specs.Text.{headerForm, linkForm, outForm, endForm}
 use Rattle.lists.specs.Parts.{Part}
 use Rattle.theory.specs.Accepted.{fault-none}
@@ -41,19 +41,20 @@ pub end-fits : Fits endForm []
 unfolding endForm
 end-fits = tt
 
+pub two-numbers : (between behind values : List ℕ) → Fits (numeral ∷ word between ∷ numeral ∷ word behind ∷ []) values
+    → (values ≡ getD values 0 0 ∷ getD values 1 0 ∷ []) × (getD values 0 0 < 10000) × (getD values 1 0 < 10000)
+two-numbers between behind [] fits = absurd fits
+two-numbers between behind (a ∷ []) fits = absurd (fits .1)
+two-numbers between behind (a ∷ b ∷ []) fits = (refl, fits .0, fits .1 .0)
+two-numbers between behind (a ∷ b ∷ c ∷ values) fits = absurd (fits .1 .1)
+
 pub link-numbers : (values : List ℕ) → Fits linkForm values → values ≡ getD values 0 0 ∷ getD values 1 0 ∷ []
 unfolding linkForm
-link-numbers [] fits = absurd fits
-link-numbers (a ∷ []) fits = absurd (fits .1)
-link-numbers (a ∷ b ∷ []) fits = refl
-link-numbers (a ∷ b ∷ c ∷ values) fits = absurd (fits .1 .1)
+link-numbers values fits = two-numbers (bytes " ") (bytes ")\n") values fits .0
 
 pub header-numbers : (values : List ℕ) → Fits headerForm values → values ≡ getD values 0 0 ∷ getD values 1 0 ∷ []
 unfolding headerForm
-header-numbers [] fits = absurd fits
-header-numbers (a ∷ []) fits = absurd (fits .1)
-header-numbers (a ∷ b ∷ []) fits = refl
-header-numbers (a ∷ b ∷ c ∷ values) fits = absurd (fits .1 .1)
+header-numbers values fits = two-numbers (bytes ") (links ") (bytes "))\n") values fits .0
 
 pub out-numbers : (values : List ℕ) → Fits outForm values → values ≡ getD values 0 0 ∷ []
 unfolding outForm

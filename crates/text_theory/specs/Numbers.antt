@@ -102,6 +102,12 @@ byte-within text p h = go (ltb p (length text)) refl
     go true e = ltb-true p (length text) e
     go false e = absurd (omega (arith, past-end text p (ltb-false p (length text) e)))
 
+-- A byte that is not 0, and a part behind it.
+pub byte-then : (text part : List ℕ) (b p q : ℕ) → byteAt text p ≡ b → 0 < b → Part text (p + 1) part q → Part text p (b ∷ part) q
+unfolding byteAt
+byte-then text part b p q same positive after =
+    rw (← same) (part-cons text part p q (byte-within text p (omega arith)) after)
+
 read-digits : (text : List ℕ) (x p more : ℕ) (values : List ℕ) (q : ℕ) → p ≤ length text
     → scanDigits text x p more ≡ reads values q → DigitsRead text x p more values q
 unfolding scanDigits valueFrom byteAt
