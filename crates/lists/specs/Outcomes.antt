@@ -3,7 +3,7 @@ use Prim.Native.Nat.{ℕ}
 use mathlib.Core.Bool.{Bool, true, false}
 use mathlib.Core.Path.{_≡_, refl}
 use native.Mathlib.Omega.{arith}
-use Rattle.definitions.specs.Outcome.{Outcome, done, refuseIf, andThen, ifDone}
+use Rattle.definitions.specs.Outcome.{Outcome, refused, done, refuseIf, andThen, ifDone}
 
 -- A step that refuses is passed only where its test fails.
 pub not-refused : {A : Type 0} (b : Bool) (number place : ℕ) (rest : Outcome A) (value : A)
@@ -13,6 +13,13 @@ not-refused true number place rest value h =
     let z : _≡_ {A = ℕ} 0 1 = cc in
     absurd (omega arith)
 not-refused false number place rest value h = (refl, h)
+
+-- A refusal with another number than the test's comes from what follows the test.
+pub refused-later : {A : Type 0} (b : Bool) (number place : ℕ) (rest : Outcome A) (r q : ℕ)
+    → refuseIf b number place rest ≡ refused r q → (number ≡ r → ⊥) → (b ≡ false) × (rest ≡ refused r q)
+unfolding refuseIf
+refused-later true number place rest r q e other = absurd (other (cc))
+refused-later false number place rest r q e other = (refl, e)
 
 pub refuse-not : {A : Type 0} (b : Bool) (number place : ℕ) (rest : Outcome A) → b ≡ false → refuseIf b number place rest ≡ rest
 unfolding refuseIf

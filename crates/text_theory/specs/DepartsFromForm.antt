@@ -111,12 +111,12 @@ number-departs-first text p q e = go (eqb (byteAt text p) 48) (outside 49 57 (by
     go false false e = absurd (digits-never-depart text (byteAt text p - 48) (p + 1) 3 q e)
 
 -- Zeros for the numbers that are still due.
-unfoldable pub zeros : List Item → List ℕ
+unfoldable zeros : List Item → List ℕ
 zeros [] = []
 zeros (word w ∷ items) = zeros items
 zeros (numeral ∷ items) = 0 ∷ zeros items
 
-pub zeros-fit : (items : List Item) → Fits items (zeros items)
+zeros-fit : (items : List Item) → Fits items (zeros items)
 unfolding zeros
 zeros-fit [] = tt
 zeros-fit (word w ∷ items) = zeros-fit items

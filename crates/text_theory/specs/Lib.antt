@@ -30,6 +30,9 @@ pub mod CommentLine
 pub mod Comments
 pub mod CommentsAgree
 pub mod DimacsLines
+pub mod DimacsRoundTrip
+pub mod EdgeFaults
+pub mod JudgedEdges
 pub mod SheetLooks
 pub mod LineBegun
 pub mod SheetBegun

@@ -10,11 +10,12 @@ use native.Mathlib.Omega.{arith}
 use lib.Dec.{ltb, leb}
 use lib.ListN.{length, getD, replicate}
 use borrow.Author.Tests.{ltb-false}
-use Rattle.definitions.specs.Outcome.{pick, Outcome, refused, refuseIf}
+use Rattle.definitions.specs.Outcome.{pick, refused, refuseIf}
 use Rattle.definitions.specs.Lists.{outside, someBelow}
 use Rattle.definitions.specs.Network.{isPair, linkFault, Accepted}
 use Rattle.definitions.specs.Form.{Scan, departs, reads, scanForm, onScan, writeForm}
 use Rattle.definitions.specs.Text.{headerForm, linkForm, Network, readLinks, readNetwork, linkLines, outLines}
+use Rattle.lists.specs.Outcomes.{refused-later}
 use Rattle.lists.specs.Parts.{Part, part-empty, part-append, part-first, part-second}
 use Rattle.theory.specs.Accepted.{ProperStates, accepted, accepted-states}
 use Rattle.text_theory.specs.Forms.{header-line, link-line}
@@ -38,13 +39,6 @@ pub data Departure (text : List ℕ) (q : ℕ) : Type 0 where
       → Part text 0
       (writeForm headerForm (n ∷ length lows ∷ []) ++ (linkLines lows highs 0 (length lows) ++ outLines states 0 (length states))) at
       → EndDeparts text at q → Departure text q
-
--- A refusal with another number than the test's comes from what follows the test.
-refused-later : {A : Type 0} (b : Bool) (number place : ℕ) (rest : Outcome A) (r q : ℕ)
-    → refuseIf b number place rest ≡ refused r q → (number ≡ r → ⊥) → (b ≡ false) × (rest ≡ refused r q)
-unfolding refuseIf
-refused-later true number place rest r q e other = absurd (other (cc))
-refused-later false number place rest r q e other = (refl, e)
 
 -- The faults of a link are 5, 6 and 7.
 fault-not-two : (n : ℕ) (lows highs : List ℕ) (i a b : ℕ) → linkFault n lows highs i a b ≡ 2 → ⊥
