@@ -10,6 +10,7 @@ pub mod LinkByLink
 pub mod OutByOut
 pub mod Onward
 pub mod OutsRead
+pub mod Sized
 pub mod RoundTrip
 pub mod Writes
 pub mod DemandTwo
@@ -33,6 +34,9 @@ pub mod DimacsLines
 pub mod DimacsRoundTrip
 pub mod EdgeFaults
 pub mod JudgedEdges
+pub mod DrawnFrom
+pub mod DimacsRead
+pub mod DimacsBegun
 pub mod SheetLooks
 pub mod LineBegun
 pub mod SheetBegun

@@ -14,7 +14,7 @@ use Rattle.definitions.specs.Outcome.{pick, refused, refuseIf}
 use Rattle.definitions.specs.Lists.{outside, someBelow}
 use Rattle.definitions.specs.Network.{isPair, linkFault, Accepted}
 use Rattle.definitions.specs.Form.{Scan, departs, reads, scanForm, onScan, writeForm}
-use Rattle.definitions.specs.Text.{headerForm, linkForm, Network, readLinks, readNetwork, linkLines, outLines}
+use Rattle.definitions.specs.Text.{headerForm, linkForm, Network, sized, readLinks, readNetwork, linkLines, outLines}
 use Rattle.lists.specs.Outcomes.{refused-later}
 use Rattle.lists.specs.Parts.{Part, part-empty, part-append, part-first, part-second}
 use Rattle.theory.specs.Accepted.{ProperStates, accepted, accepted-states}
@@ -23,6 +23,7 @@ use Rattle.text_theory.specs.NetworkLines.{read-line, link-numbers, head
 use Rattle.text_theory.specs.LinkByLink.{lines, Faultless, linkLines-lines, accepted-faultless, faultless-accepted}
 use Rattle.text_theory.specs.OutByOut.{outs, outLines-outs, tell, all-serve}
 use Rattle.text_theory.specs.Onward.{header-onward, links-onward, states-onward}
+use Rattle.text_theory.specs.Sized.{sized-refused}
 use Rattle.text_theory.specs.DepartsFromForm.{DepartsAt, departs-at}
 use Rattle.text_theory.specs.DepartsOnce.{departs-exactly}
 use Rattle.text_theory.specs.OutOrEnd.{EndDeparts, due-refused, OutsDepart, outs-depart}
@@ -182,10 +183,8 @@ refused-two text roomLows roomHighs roomStates q e = go (scanForm text headerFor
   where
     go : (scan : Scan) → scanForm text headerForm 0 ≡ scan
         → onScan {A = Network} 2 scan
-        (λ counts p. refuseIf (outside 1 1000 (getD counts 0 0)) 3 0
-        (refuseIf (ltb 3000 (getD counts 1 0)) 4 0
-        (refuseIf (ltb roomLows (getD counts 1 0) || (ltb roomHighs (getD counts 1 0) || ltb roomStates (getD counts 0 0))) 8 0
-        (readLinks text (getD counts 0 0) [] [] p (getD counts 1 0))))) ≡ refused 2 q
+        (λ counts p. sized (getD counts 0 0) (getD counts 1 0) roomLows roomHighs roomStates
+        (readLinks text (getD counts 0 0) [] [] p (getD counts 1 0))) ≡ refused 2 q
         → Departure text q
     go (departs at) first e =
         let same : at ≡ q = cc in
@@ -195,14 +194,10 @@ refused-two text roomLows roomHighs roomStates q e = go (scanForm text headerFor
         let m = getD values 1 0 in
         let line = read-line headerForm text 0 values p header-line (omega arith) first in
         let here : Part text 0 (writeForm headerForm (n ∷ m ∷ [])) p = rw (header-numbers values (line .0)) at (line .1) in
-        let links = readLinks text n [] [] p m in
-        let full = ltb roomLows m || (ltb roomHighs m || ltb roomStates n) in
-        let roomy = refuseIf full 8 0 links in
-        let size = refused-later (outside 1 1000 n) 3 0 (refuseIf (ltb 3000 m) 4 0 roomy) 2 q e (λ x. omega arith) in
-        let many = refused-later (ltb 3000 m) 4 0 roomy 2 q (size .1) (λ x. omega arith) in
-        let room = refused-later full 8 0 links 2 q (many .1) (λ x. omega arith) in
-        behind-header text n m p q here (size .0) (ltb-false 3000 m (many .0))
-        (links-depart m text n [] [] p q (line .1 .within) (room .1))
+        let (pass, links) =
+        sized-refused n m roomLows roomHighs roomStates (readLinks text n [] [] p m) 2 q e (λ x. omega arith) (λ x. omega arith)
+        (λ x. omega arith) in
+        behind-header text n m p q here (pass .size) (pass .few) (links-depart m text n [] [] p q (line .1 .within) links)
 
 -- One more link line is due.
 link-refused : (text : List ℕ) (n : ℕ) (lows highs : List ℕ) (left at q : ℕ) → at ≤ length text → 0 < left

@@ -14,7 +14,7 @@ use Rattle.definitions.specs.Outcome.{Outcome, done, refuseIf}
 use Rattle.definitions.specs.Lists.{outside}
 use Rattle.definitions.specs.Network.{linkFault, Accepted}
 use Rattle.definitions.specs.Form.{Scan, departs, reads, scanForm, onScan, writeForm}
-use Rattle.definitions.specs.Text.{headerForm, linkForm, endForm, Network, allStates, readEnd, readOuts, readLinks, readNetwork, textOf}
+use Rattle.definitions.specs.Text.{headerForm, linkForm, endForm, Network, sized, allStates, readEnd, readOuts, readLinks, readNetwork, textOf}
 use Rattle.lists.specs.Outcomes.{not-refused, refuse-not}
 use Rattle.lists.specs.Parts.{Part, part-append, part-first, part-second, part-start, part-end, part-whole}
 use Rattle.theory.specs.Accepted.{ProperStates, accepted, accepted-states}
@@ -28,6 +28,7 @@ use Rattle.text_theory.specs.NetworkLines.{
 use Rattle.text_theory.specs.LinkByLink.{lines, Faultless, linkLines-lines, accepted-faultless, faultless-accepted}
 use Rattle.text_theory.specs.OutByOut.{outs, outLines-outs, each-proper, tell, all-told-states}
 use Rattle.text_theory.specs.Onward.{header-roomy, links-onward, states-onward, end-onward}
+use Rattle.text_theory.specs.Sized.{sized-done}
 use Rattle.text_theory.specs.OutsRead.{OutsOver, outDeparts, noOut, OutsRead, read-outs}
 
 -- The text behind the link lines, and behind the header line.
@@ -213,22 +214,14 @@ unfolding readNetwork
 written-read text roomLows roomHighs roomStates network e =
     let (values, p, first, second) =
     on-scan-done 2 (scanForm text headerForm 0)
-    (λ counts p. refuseIf (outside 1 1000 (getD counts 0 0)) 3 0
-    (refuseIf (ltb 3000 (getD counts 1 0)) 4 0
-    (refuseIf (ltb roomLows (getD counts 1 0) || (ltb roomHighs (getD counts 1 0) || ltb roomStates (getD counts 0 0))) 8 0
-    (readLinks text (getD counts 0 0) [] [] p (getD counts 1 0))))) network e in
+    (λ counts p. sized (getD counts 0 0) (getD counts 1 0) roomLows roomHighs roomStates
+    (readLinks text (getD counts 0 0) [] [] p (getD counts 1 0))) network e in
     let line = read-line headerForm text 0 values p header-line (omega arith) first in
     let n = getD values 0 0 in
     let m = getD values 1 0 in
     let here : Part text 0 (writeForm headerForm (n ∷ m ∷ [])) p = rw (header-numbers values (line .0)) at (line .1) in
-    let links = readLinks text n [] [] p m in
-    let full = ltb roomLows m || (ltb roomHighs m || ltb roomStates n) in
-    let roomy = refuseIf full 8 0 links in
-    let size = not-refused (outside 1 1000 n) 3 0 (refuseIf (ltb 3000 m) 4 0 roomy) network second in
-    let many = not-refused (ltb 3000 m) 4 0 roomy network (size .1) in
-    let room = not-refused full 8 0 links network (many .1) in
-    read-whole text n m p network here (size .0) (ltb-false 3000 m (many .0))
-    (read-links m text n [] [] p network (line .1 .within) (room .1))
+    let (pass, links) = sized-done n m roomLows roomHighs roomStates (readLinks text n [] [] p m) network second in
+    read-whole text n m p network here (pass .size) (pass .few) (read-links m text n [] [] p network (line .1 .within) links)
 
 -- "Each table has one text", with its states: two texts that are read as one network are the same.
 pub one-text : (text other : List ℕ) (roomLows roomHighs roomStates otherLows otherHighs otherStates : ℕ) (network : Network)
