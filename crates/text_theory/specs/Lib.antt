@@ -37,6 +37,9 @@ pub mod JudgedEdges
 pub mod DrawnFrom
 pub mod DimacsRead
 pub mod DimacsBegun
+pub mod DimacsAgree
+pub mod RefusalEighteen
+pub mod ImportProof
 pub mod SheetLooks
 pub mod LineBegun
 pub mod SheetBegun
