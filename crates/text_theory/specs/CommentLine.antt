@@ -116,7 +116,7 @@ end-read (saying words) text p q fits part stops =
     (words-read words text (p + 1 + 1) q (length text - (p + 1 + 1)) fits (omega (arith, said .reaches, said .within)) stops said)
 
 -- A comment line begins with c.
-pub comment-letter : (comment : Comment) (text rest : List ℕ) (p q : ℕ) → Part text p (commentFront comment ++ rest) q
+comment-letter : (comment : Comment) (text rest : List ℕ) (p q : ℕ) → Part text p (commentFront comment ++ rest) q
     → byteAt text p ≡ 99
 unfolding commentFront byteAt
 comment-letter alone text rest p q part = part-head text rest 99 p q part

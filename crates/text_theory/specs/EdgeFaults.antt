@@ -1,6 +1,6 @@
 -- A line `e U V` of a DIMACS text and the link that it draws: one has no fault exactly if the other has none.
 -- Assumes nothing.
-use Prim.Native.Nat.{ℕ, _+_, _≤_, _<_}
+use Prim.Native.Nat.{ℕ, _+_, _≤_, _<_, min, max}
 use mathlib.Core.Bool.{Bool, true, false, _||_}
 use mathlib.Core.List.{List}
 use mathlib.Core.Logic.{_⊎_, inl, inr, _≢_}
@@ -78,50 +78,30 @@ edge-link n lows highs u v none =
         let less = ltb-false u v test in
         inr (omega arith, omega arith)
 
--- The ends of a line that draws a link.
-record Ends (u v a b : ℕ) : Type 0 where
-  low : lowEnd u v ≡ a
-  high : highEnd u v ≡ b
-  some : (1 ≤ u) × (u ≤ b + 1)
-  other : (1 ≤ v) × (v ≤ b + 1)
-  apart : u ≢ v
-
-ends : (u v a b : ℕ) → a < b → DrawsLink u v a b → Ends u v a b
-unfolding lowEnd highEnd
-ends u v a b ordered (inl (one, two)) =
-    record {
-      low = omega arith;
-      high = omega arith;
-      some = (omega arith, omega arith);
-      other = (omega arith, omega arith);
-      apart = λ e. omega arith;
-    }
-ends u v a b ordered (inr (one, two)) =
-    record {
-      low = omega arith;
-      high = omega arith;
-      some = (omega arith, omega arith);
-      other = (omega arith, omega arith);
-      apart = λ e. omega arith;
-    }
+-- The lower and the higher end of a line that draws a link.
+ends : (u v a b : ℕ) → a < b → DrawsLink u v a b → (min u v ≡ a + 1) × (max u v ≡ b + 1)
+ends u v a b ordered (inl (one, two)) = (omega arith, omega arith)
+ends u v a b ordered (inr (one, two)) = (omega arith, omega arith)
 
 -- A line that draws a link without fault has none, and gives that link.
 pub link-edge : (n : ℕ) (lows highs : List ℕ) (u v a b : ℕ) → linkFault n lows highs (length lows) a b ≡ 0 → DrawsLink u v a b
     → (edgeFault n lows highs u v ≡ 0) × (lowEnd u v ≡ a) × (highEnd u v ≡ b)
+unfolding lowEnd highEnd
 link-edge n lows highs u v a b none draws =
-    let good = fault-none n lows highs (length lows) a b none in
-    let both = ends u v a b (good .ordered) draws in
-    let (someU, fewU) = both .some in
-    let (someV, fewV) = both .other in
-    let below = good .below in
-    let clear : GoodEdge n lows highs u v =
+    let link = fault-none n lows highs (length lows) a b none in
+    let ordered = link .ordered in
+    let below = link .below in
+    let (lower, higher) = ends u v a b ordered draws in
+    let low : lowEnd u v ≡ a = omega arith in
+    let high : highEnd u v ≡ b = omega arith in
+    let good : GoodEdge n lows highs u v =
     record {
-      some = (someU, omega arith);
-      other = (someV, omega arith);
-      apart = both .apart;
-      isNew = rw (both .low, both .high) (good .isNew);
+      some = (omega arith, omega arith);
+      other = (omega arith, omega arith);
+      apart = λ e. omega arith;
+      isNew = rw (low, high) (link .isNew);
     } in
-    (good-edge n lows highs u v clear, both .low, both .high)
+    (good-edge n lows highs u v good, low, high)
 
 -- The faults of a line are 5, 6 and 7.
 pub fault-not-eighteen : (n : ℕ) (lows highs : List ℕ) (u v : ℕ) → edgeFault n lows highs u v ≡ 18 → ⊥

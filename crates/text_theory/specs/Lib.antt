@@ -1,4 +1,4 @@
--- The theorems about the network text and the sheet's text, a module a subject.
+-- The theorems about the network text, the sheet's text and DIMACS texts, a module a subject.
 pub mod Decimal
 pub mod Numbers
 pub mod Forms
@@ -27,6 +27,11 @@ pub mod SheetRoundTrip
 pub mod SheetWritten
 pub mod NetworkFront
 pub mod SameReadings
+pub mod SheetLooks
+pub mod LineBegun
+pub mod SheetBegun
+pub mod FirstDeparture
+pub mod RefusalFourteen
 pub mod CommentLine
 pub mod Comments
 pub mod CommentsAgree
@@ -40,8 +45,3 @@ pub mod DimacsBegun
 pub mod DimacsAgree
 pub mod RefusalEighteen
 pub mod ImportProof
-pub mod SheetLooks
-pub mod LineBegun
-pub mod SheetBegun
-pub mod FirstDeparture
-pub mod RefusalFourteen
