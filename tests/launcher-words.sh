@@ -43,6 +43,8 @@ departs 'another character' "$head(link 0 \xc2\xbd)\n" 35 2 9 'a character that 
 departs 'something else' "$head(lunk 0 1)\n" 29 2 3 'this is not the form that is due' '(lunk 0 1)' "$link_due"
 departs 'what a terminal would obey, in a long line' "\e[31m$(printf '%0100d' 0)\n" 0 1 1 'this is not the form that is due' "?[31m$(printf '%055d' 0)..." 'a line (net (relays N) (links M))'
 departs 'a long number' "$head(link 0 $(printf '%01000d' 7)\n" 36 2 10 'a number has a zero in front' "(link 0 $(printf '%052d' 0)..." "$link_due"
+departs 'a sheet' '(sheet (from 4) (to 1) (k 2))\n' 1 1 2 'this is a sheet, not a network file' '(sheet (from 4) (to 1) (k 2))' 'a line (net (relays N) (links M))'
+departs 'a refusal' '(refused 18 0)\n' 1 1 2 'this is a refusal, not a network file' '(refused 18 0)' 'a line (net (relays N) (links M))'
 
 # Behind the links: lines (out R), then (end).
 departs 'another word behind the links' "$head$body(and)\n" 50 4 2 'this is not the form that is due' '(and)' "$last_due"

@@ -1,19 +1,8 @@
-# Says where and why a sheet departs from its form (14), with tools/lines.awk in front. Input: the sheet's bytes as decimal numbers.
-# By the environment: command; number and place of the refusal; file, the sheet's name.
+# Says where and why a sheet departs from its form (14), with tools/lines.awk in front, which tells of the input.
 
 END {
     find_lines()
-    line = line_there()
-    column = place - start[line] + 1
-    refused(ENVIRON["file"] ", line " line ", column " column ": " cause(line, column))
-    show(line, column)
-    say("due there: " due(line))
-}
-
-# The word that a line begins with.
-function word(line,    first) {
-    if (line < 1 || !match(text(line), /^\([a-z]+/)) return ""
-    return substr(text(line), 2, RLENGTH - 1)
+    departs("a sheet")
 }
 
 # The form of a line that the sheet is to have there: the line before it says which, and of two the second byte.
@@ -27,19 +16,11 @@ function due(line,    before) {
     return "a line (route A B ..) or the line (kept N)"
 }
 
-# What the whole file is, where it is no sheet at all.
-function other_kind() {
-    if (word(1) == "net") return "this is a network file; the network file is named first, the sheet second"
-    if (word(1) == "refused") return "this is a refusal, not a sheet"
-    if (word(1) == "lease") return "this is a list of links, not a sheet"
-    return ""
-}
-
 # The usual cause of a departure, where one is seen.
 function cause(line, column,    words, before) {
     before = word(line - 1)
     if ((words = file_cause(line)) != "") return words
-    if (line == 1 && (words = other_kind()) != "") return words
+    if ((words = other_kind("a sheet")) != "") return words
     if (place >= size) return cut_short(line, column)
     if ((words = blank_cause(line, column)) != "") return words
     if (column == 1 && byte[place] == 62) return "a mark of quoted mail; take it off every line"

@@ -1,12 +1,11 @@
-# Says in words what a refusal means and where in the network file to look, with tools/lines.awk in front. Input: the file's bytes as
-# decimal numbers. By the environment: command; number and place of the refusal; file, its name; again, 0 where its bytes cannot be
-# had a second time; typed_FROM, typed_TO, typed_K.
+# Says in words what a refusal means and where in the network file to look, with tools/lines.awk in front, which tells of the input. By
+# the environment too: typed_FROM, typed_TO, typed_K.
 
 END {
-    again = ENVIRON["again"] + 0
     find_lines()
     find_counts()
-    if (number == 2 || number == 14) form()
+    # 14 is given where the file goes on behind its end.
+    if (number == 2 || number == 14) departs("a network file")
     else if (number == 3) header("announces " of(relays, "relay") "; 1 to 1,000 are allowed")
     else if (number == 4) header("announces " of(links, "link") "; 3,000 are the most. Pass the file on to the network planners")
     else if (number >= 5 && number <= 7) link()
@@ -41,9 +40,6 @@ function find_outs(    line, parts) {
     }
 }
 
-# How many there are of a thing.
-function of(count, thing) { return (count == "" ? "another number of" : count) " " thing (count == 1 ? "" : "s") }
-
 function header(words) { refused(ENVIRON["file"] ", line 1, " words) }
 
 # The form of a line that the file is to have there: behind the links the second byte says which of two.
@@ -55,24 +51,10 @@ function due(line) {
     return "a line (out R) or the line (end)"
 }
 
-# 2, and 14 where the file goes on behind its end. Where another file stands behind this one, the place may be in that.
-function form(    line, column) {
-    if (!again) {
-        refused(ENVIRON["file"] " departs from the form of a network file at byte " place ", counted from 0 (its lines cannot be shown)")
-        return
-    }
-    if (place > size) place = size
-    line = line_there()
-    column = place - start[line] + 1
-    refused(ENVIRON["file"] ", line " line ", column " column ": " cause(line, column))
-    show(line, column)
-    say("due there: " due(line))
-}
-
 # The usual cause of a departure, where one is seen.
 function cause(line, column,    words) {
     if ((words = file_cause(line)) != "") return words
-    if (ENVIRON["command"] == "verify" && text(1) ~ /^\(sheet /) return "this is a sheet; the network file is named first, the sheet second"
+    if ((words = other_kind("a network file")) != "") return words
     if (place >= size) return cut_short(line, column)
     if ((words = blank_cause(line, column)) != "") return words
     if (line > 1 && (words = line_cause(line)) != "") return words

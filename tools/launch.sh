@@ -5,6 +5,8 @@ here=$(dirname -- "$(dirname -- "$(readlink -f -- "${BASH_SOURCE[0]}")")")
 binary=$here/target/bin/$program
 log=$here/target/build.log
 typed=()
+# The script of tools/ that says what a refusal means, for each kind of file.
+declare -A script=(['network file']=explain.awk [sheet]=explain-sheet.awk)
 
 say() {
     printf '%s: %s\n' "$command" "$1" >&2
@@ -115,7 +117,7 @@ readable() {
     [ -r "$1" ] || fail "the file $name may not be read by you"
 }
 
-# explain NUMBER PLACE FILE: a refusal that is about a wish or a network file, in words.
+# explain NUMBER PLACE KIND FILE: a refusal that is about a wish or a file of a kind, in words.
 explain() {
     local i why again
     if [ "$1" = 1 ]; then
@@ -126,9 +128,9 @@ explain() {
         return
     fi
     again=0
-    [ ! -f "$3" ] || again=1
-    { [ $again -eq 0 ] || od -An -v -tu1 -N 200000 <"$3"; } |
-        command=$command number=$1 place=$2 file=$(safe "$3") again=$again awk -f "$here/tools/lines.awk" -f "$here/tools/explain.awk" >&2
+    [ ! -f "$4" ] || again=1
+    { [ $again -eq 0 ] || od -An -v -tu1 -N 1000000 <"$4"; } |
+        command=$command number=$1 place=$2 file=$(safe "$4") again=$again awk -f "$here/tools/lines.awk" -f "$here/tools/${script[$3]}" >&2
 }
 
 # feed LINE FILE..: the line, unless it is empty, and the files one behind the other.
@@ -155,25 +157,27 @@ answer() {
         echo .
     ) || exit 2
     output=${output%.}
+    [ -n "$output" ] || fail "the $program gave no answer"
 }
 
 pass_on() {
     printf '%s' "$output" 2>/dev/null || fail "what the $program wrote could not be passed on"
 }
 
-# launch LINE HEAD FILE: LINE and FILE are the program's input, and HEAD is the first line of what it prints unless it refuses.
+# launch LINE HEAD KIND FILE: LINE, unless it is empty, and FILE, of a kind, are the program's input, and HEAD is what it prints first
+# unless it refuses.
 launch() {
     local refusal
-    readable "$3" 'network file'
-    answer "$1" "$3"
+    readable "$4" "$3"
+    answer "$1" "$4"
     case $output in
-    "$2"$'\n'*$'\n(end)\n') refusal='' ;;
+    "$2"*$'\n(end)\n') refusal='' ;;
     '(refused '*')'$'\n') refusal=${output#'(refused '} ;;
     *) fail "what the $program wrote is not whole" ;;
     esac
     pass_on
     [ -n "$refusal" ] || exit 0
     refusal=${refusal%')'*}
-    explain "${refusal% *}" "${refusal#* }" "$3"
+    explain "${refusal% *}" "${refusal#* }" "$3" "$4"
     exit 1
 }

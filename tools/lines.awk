@@ -1,10 +1,12 @@
 # The lines of a file for the scripts that explain a refusal: its bytes, the usual causes of a departure, and showing a line.
-# Input: the file's bytes as decimal numbers. By the environment: command; number and place of the refusal.
+# Input: the file's bytes as decimal numbers. By the environment: command; number and place of the refusal; file, its name; again, 0
+# where its bytes cannot be had a second time.
 
 BEGIN {
     size = 0
     number = ENVIRON["number"] + 0
     place = ENVIRON["place"] + 0
+    again = ENVIRON["again"] + 0
 }
 { for (i = 1; i <= NF; i++) byte[size++] = $i + 0 }
 
@@ -26,6 +28,9 @@ function line_there(    line) {
     for (line = lines; start[line] > place;) line--
     return line
 }
+
+# How many there are of a thing.
+function of(count, thing) { return (count == "" ? "another number of" : count) " " thing (count == 1 ? "" : "s") }
 
 function visible(code) { return code >= 32 && code < 127 ? sprintf("%c", code) : "?" }
 
@@ -53,6 +58,26 @@ function show(line, column,    first, last, front, pad) {
     print "    " pad "^"
 }
 
+# What is wrong at a column of a line, and the line.
+function wrong(line, column, words) {
+    refused(ENVIRON["file"] ", line " line ", column " column ": " words)
+    show(line, column)
+}
+
+# Where and why a file of a kind departs from its form; the script that is run with this one has the cause and what is due. Where
+# another file stands behind this one, the place may be in that.
+function departs(kind,    line, column) {
+    if (!again) {
+        refused(ENVIRON["file"] " departs from the form of " kind " at byte " place ", counted from 0 (its lines cannot be shown)")
+        return
+    }
+    if (place > size) place = size
+    line = line_there()
+    column = place - start[line] + 1
+    wrong(line, column, cause(line, column))
+    say("due there: " due(line))
+}
+
 function blank(code) { return code == 32 || code == 9 || code == 13 }
 
 function digit(code) { return code >= 48 && code <= 57 }
@@ -61,6 +86,29 @@ function digit(code) { return code >= 48 && code <= 57 }
 function blank_from(at, line) {
     while (at < ending(line) && blank(byte[at])) at++
     return at >= ending(line)
+}
+
+# The word that a line begins with behind its bracket.
+function word(line) {
+    if (line < 1 || !match(text(line), /^\([a-z]+/)) return ""
+    return substr(text(line), 2, RLENGTH - 1)
+}
+
+# What kind of file this is, where it is seen.
+function kind_seen() {
+    if (word(1) == "net") return "a network file"
+    if (word(1) == "sheet") return "a sheet"
+    if (word(1) == "lease") return "a list of links"
+    if (word(1) == "refused") return "a refusal"
+    return ""
+}
+
+# A cause that is another kind of file than this one, where one is seen.
+function other_kind(kind,    seen) {
+    seen = kind_seen()
+    if (seen == "" || seen == kind) return ""
+    if (ENVIRON["command"] == "verify" && seen ~ /^a (network file|sheet)$/) return "this is " seen "; the network file is named first, the sheet second"
+    return "this is " seen ", not " kind
 }
 
 # A cause that is the whole file's, where one is seen.
