@@ -158,10 +158,7 @@ says 'verify, a sheet that never ends' 2 $'verifier: the input has more than 100
 ask bash -c "'$copy/verify' m.net -s >/dev/full"
 says 'verify, nowhere to write' 2 'could not be passed on'
 for part in 'exit 3: could not be run' 'printf "(holds)": not whole' 'echo "(holds)"; echo more: not whole' 'echo "(refused 14": not whole' ': : gave no answer'; do
-    printf '#!/bin/sh\ncat >/dev/null\n%s\n' "${part%: *}" >"$copy/target/bin/verifier" && chmod +x "$copy/target/bin/verifier"
-    ask "$copy/verify" m.net -s
-    same "verify, the program '${part%: *}': nothing is passed on" 'status 2' "$output"
-    says "verify, the program '${part%: *}'" 2 "${part##*: }"
+    instead verifier "${part%: *}" "${part##*: }" "$copy/verify" m.net -s
 done
 cp "$room/built/verifier" "$copy/target/bin"
 rm "$work/-s"

@@ -1,12 +1,12 @@
-# Sourced by the commands `plan`, `keep` and `verify`, which set command, program, usage and example: builds the proved program
-# where it is missing or older than its sources, runs it on a line and files, and after a refusal says in words where to look.
+# Sourced by the commands `plan`, `keep`, `verify` and `import`, which set command, program, usage and example: builds the proved
+# program where it is missing or older than its sources, runs it on a line and files, and after a refusal says in words where to look.
 set -u
 here=$(dirname -- "$(dirname -- "$(readlink -f -- "${BASH_SOURCE[0]}")")")
 binary=$here/target/bin/$program
 log=$here/target/build.log
 typed=()
 # The script of tools/ that says what a refusal means, for each kind of file.
-declare -A script=(['network file']=explain.awk [sheet]=explain-sheet.awk)
+declare -A script=(['network file']=explain.awk [sheet]=explain-sheet.awk [drawing]=explain-drawing.awk)
 
 say() {
     printf '%s: %s\n' "$command" "$1" >&2

@@ -94,19 +94,27 @@ function word(line) {
     return substr(text(line), 2, RLENGTH - 1)
 }
 
+# Whether the first line that is no comment and not blank is one of a drawing in the DIMACS form.
+function drawn(    line) {
+    for (line = 1; line < lines && (byte[start[line]] == 99 || blank_from(start[line], line));) line++
+    return text(line) ~ /^(p [a-z]+|e [0-9]+) +[0-9]/
+}
+
 # What kind of file this is, where it is seen.
 function kind_seen() {
     if (word(1) == "net") return "a network file"
     if (word(1) == "sheet") return "a sheet"
     if (word(1) == "lease") return "a list of links"
     if (word(1) == "refused") return "a refusal"
-    return ""
+    return drawn() ? "a drawing" : ""
 }
 
 # A cause that is another kind of file than this one, where one is seen.
 function other_kind(kind,    seen) {
     seen = kind_seen()
     if (seen == "" || seen == kind) return ""
+    if (seen == "a drawing" && kind == "a network file") return "this looks like a drawing in the DIMACS form; make a network file of it first: ./import " ENVIRON["file"] " > NEW.net"
+    if (seen == "a network file" && kind == "a drawing") return "this is a network file already; it needs no import"
     if (ENVIRON["command"] == "verify" && seen ~ /^a (network file|sheet)$/) return "this is " seen "; the network file is named first, the sheet second"
     return "this is " seen ", not " kind
 }
