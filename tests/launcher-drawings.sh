@@ -146,6 +146,16 @@ says 'verify, a drawing without a p line' 1 "verify: refused (2): a.col, $seen a
 ask "$copy/verify" "$mesh_file" m.col
 says 'verify, a drawing for a sheet' 1 'verify: refused (14): m.col, line 1, column 1: this is a drawing, not a sheet'
 
+# The commands of docs/DESK.md that make a drawing of a file with what this form refuses: each link in both directions, and more.
+mend=$(sed -n '/^    tr -d/,/>new.col$/p' docs/DESK.md)
+printf '%b' '# by hand\r\nc\tmesh\r\np col  5 14\r\n\r\nn 1 2\r\n' >"$work/old.col"
+printf '%b' "$drawn" | awk '$1 == "e" { printf "e\t%s  %s 9 \r\ne %s %s\r\n", $2, $3, $3, $2 }' >>"$work/old.col"
+ask bash -c "$mend && '$copy/import' new.col"
+same 'a file that is mended' "$imported" "$output$words"
+printf 'p edge 1 1' >"$work/old.col"
+ask bash -c "$mend && '$copy/import' new.col"
+same 'a file without links that is mended' $'(net (relays 1) (links 0))\n(end)\nstatus 0' "$output$words"
+
 # Files and programs that are no good.
 for arguments in '' 'm.col new.net'; do
     # shellcheck disable=SC2086

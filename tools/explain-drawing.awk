@@ -4,7 +4,6 @@ END {
     find_lines()
     find_edges()
     if (number == 18) departs("a drawing")
-    else if (number < 3 || number > 7) refused("docs/DESK.md may tell more")
     else if (!again) refused(ENVIRON["file"] ", " (number < 5 ? "the p line" : "e line " place ", counted from 0") ": " meaning())
     else if (number < 5) counts()
     else link(edge[place])
