@@ -40,8 +40,9 @@ no_end='the last line end is missing; press Enter behind the last line and save'
 no_space='a comment line has a space behind its c; put one there'
 extra='something stands behind the two numbers; take it off (weights and lengths are not read)'
 misdrawn 'p col' 'p col 3 1\ne 1 2\n' '18 2' 1 3 'the word behind p is col; write p edge (the other lines of such a file are the same)' 'p col 3 1' "$problem_due"
-misdrawn 'p edges' 'c\np edges 3 1\ne 1 2\n' '18 8' 2 7 'the word behind p is edges; write p edge (the other lines of such a file are the same)' 'p edges 3 1' "$problem_due"
+misdrawn 'p edges' 'c\np edges 3 1\ne 1 2\n' '18 8' 2 7 'the word behind p is edges; write p edge' 'p edges 3 1' "$problem_due"
 misdrawn 'another form' 'p sp 3 1\na 1 2 7\n' '18 2' 1 3 'p sp is another DIMACS form; a drawing has p edge and its links in lines e U V' 'p sp 3 1' "$problem_due"
+misdrawn 'no space behind the word' 'p edge3 1\ne 1 2\n' '18 6' 1 7 'the word behind p is edge3; write p edge' 'p edge3 1' "$problem_due"
 misdrawn 'no word behind p' 'p 3 1\ne 1 2\n' '18 2' 1 3 'the word edge is missing behind p' 'p 3 1' "$problem_due"
 misdrawn 'n lines' "${top}n 1 2\ne 1 2\n" '18 11' 2 1 'lines that begin with n are of other DIMACS forms and have no link; delete them' 'n 1 2' "$next_due"
 misdrawn 'n lines behind the links' "${top}e 1 2\nn 1 2\n" '18 17' 3 1 'lines that begin with n are of other DIMACS forms and have no link; delete them' 'n 1 2' "$last_due"

@@ -95,8 +95,8 @@ function part_cause(line, column,    front, name) {
     name = substr(text(line), 3, RLENGTH - 2)
     if (name == "edge") return ""
     if (name ~ /^[0-9]/) return "the word edge is missing behind p"
-    if (tolower(name) ~ /^(col|edges?)$/) return "the word behind p is " name "; write p edge (the other lines of such a file are the same)"
-    return "p " name " is another DIMACS form; a drawing has p edge and its links in lines e U V"
+    if (name ~ /^(sp|max|min|asn|w?cnf|tw)$/) return "p " name " is another DIMACS form; a drawing has p edge and its links in lines e U V"
+    return "the word behind p is " name "; write p edge" (name == "col" ? " (the other lines of such a file are the same)" : "")
 }
 
 # What 3 to 7 mean, without a look at the file.
