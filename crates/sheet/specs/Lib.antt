@@ -10,6 +10,7 @@ pub mod Overs
 pub mod Longest
 pub mod Promise
 pub mod Front
+pub mod RefusedLine
 pub mod ReadStage
 pub mod Into
 pub mod LinkRooms

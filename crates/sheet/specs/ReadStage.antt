@@ -9,7 +9,8 @@ use lib.Seq.{take-append-seam}
 use Rattle.definitions.specs.Outcome.{Outcome, refused, done, andThen}
 use Rattle.definitions.specs.Lists.{overwrite, zeroed}
 use Rattle.definitions.specs.Forests.{cutAnswer}
-use Rattle.definitions.specs.Text.{Network, readNetwork, readAnswer, filled, lowsAfter, highsAfter, statesAfter}
+use Rattle.definitions.specs.Network.{Accepted}
+use Rattle.definitions.specs.Text.{Network, readNetwork, countsOf, readAnswer, filled, lowsAfter, highsAfter, statesAfter}
 use Rattle.definitions.specs.Plan.{room, printed}
 use Rattle.lists.specs.SameOutcomes.{done-then}
 use Rattle.theory.specs.Accepted.{accepted, accepted-states}
@@ -67,23 +68,43 @@ answer-refused {A} {B} (done x) f refusal e =
 room-length : (size : ℕ) (list : List ℕ) → list ≡ room size → length list ≡ size
 room-length size list e = ap length e ∙ length-room size
 
-same-rooms : (text lows highs states : List ℕ) → length lows ≡ 3000 → length highs ≡ 3000 → length states ≡ 1000
-    → readNetwork text 3000 3000 1000 ≡ readNetwork text (length lows) (length highs) (length states)
-same-rooms text lows highs states low high state = rw (low, high, state)
+-- Three lists of the program's own, as long as it takes.
+pub record Rooms (lows highs states : List ℕ) : Type 0 where
+  pub inLows : lows ≡ room 3000
+  pub inHighs : highs ≡ room 3000
+  pub inStates : states ≡ room 1000
+
+-- A reading with the room of these lists is a reading with the room of every network.
+same-rooms : (reading : ℕ → ℕ → ℕ → Outcome Network) (lows highs states : List ℕ) → Rooms lows highs states
+    → reading 3000 3000 1000 ≡ reading (length lows) (length highs) (length states)
+same-rooms reading lows highs states rooms =
+    rw (
+      room-length 3000 lows (rooms .inLows),
+      room-length 3000 highs (rooms .inHighs),
+      room-length 1000 states (rooms .inStates),
+    )
+
+pub reading-refused : (reading : ℕ → ℕ → ℕ → Outcome Network) (lows highs states : List ℕ) (refusal : Refusal) → Rooms lows highs states
+    → countsOf (reading (length lows) (length highs) (length states)) ≡ refusalOf refusal → reading 3000 3000 1000 ≡ refusalOf refusal
+reading-refused reading lows highs states refusal rooms e =
+    same-rooms reading lows highs states rooms ∙ answer-refused _ _ refusal e
 
 pub network-refused : (text lows highs states : List ℕ) (refusal : Refusal) → lows ≡ room 3000 → highs ≡ room 3000 → states ≡ room 1000
     → readAnswer text lows highs states ≡ refusalOf refusal → readNetwork text 3000 3000 1000 ≡ refusalOf refusal
 unfolding readAnswer
 network-refused text lows highs states refusal low high state e =
-    same-rooms text lows highs states (room-length 3000 lows low) (room-length 3000 highs high) (room-length 1000 states state)
-    ∙ answer-refused _ _ refusal e
+    reading-refused (readNetwork text) lows highs states refusal (record { inLows = low; inHighs = high; inStates = state }) e
 
--- The network that Read leaves in the front of its three lists.
-pub record ReadTable (text : List ℕ) (n m : ℕ) (lows highs states : List ℕ) : Type 0 where
+-- The network that a reading leaves in the front of its three lists.
+pub record FrontTable (outcome : Outcome Network) (n m : ℕ) (lows highs states : List ℕ) : Type 0 where
   pub inLows : m ≤ length lows
   pub inHighs : m ≤ length highs
   pub inStates : n ≤ length states
-  pub read : readNetwork text 3000 3000 1000 ≡ done (networkOf n (take m lows) (take m highs) (take n states))
+  pub read : outcome ≡ done (networkOf n (take m lows) (take m highs) (take n states))
+
+-- The one that Read leaves.
+abbrev pub ReadTable : (text : List ℕ) (n m : ℕ) (lows highs states : List ℕ) → Type 0
+ReadTable text n m lows highs states = FrontTable (readNetwork text 3000 3000 1000) n m lows highs states
 
 front-filled : (column : Network → List ℕ) (outcome : Outcome Network) (network : Network) (old : List ℕ) (m : ℕ)
     → outcome ≡ done network → length (column network) ≡ m
@@ -97,36 +118,41 @@ same-network : (network : Network) (n : ℕ) (lows highs states : List ℕ) → 
     → highs ≡ network .highs → states ≡ network .states → network ≡ networkOf n lows highs states
 same-network network n lows highs states relays low high state = rw (← relays, low, high, state)
 
-module _ (text lows highs states : List ℕ) (n m : ℕ) (low : length lows ≡ 3000) (high : length highs ≡ 3000) (state : length states ≡ 1000)
-    (e : readAnswer text lows highs states ≡ done (n ∷ m ∷ [])) where
-  table-read : ReadTable text n m (lowsAfter text lows highs states) (highsAfter text lows highs states) (statesAfter text lows highs states)
-  unfolding readAnswer lowsAfter highsAfter statesAfter
-  table-read =
-      let whole = readNetwork text (length lows) (length highs) (length states) in
-      let (network, read, last) = done-then whole _ (n ∷ m ∷ []) e in
-      let relays : network .relays ≡ n = cc in
-      let size : length (network .lows) ≡ m = cc in
-      let passes = written-read text (length lows) (length highs) (length states) network read .1 in
-      let table = accepted (network .relays) (network .lows) (network .highs) (network .states) passes in
-      let known = accepted-states (network .relays) (network .lows) (network .highs) (network .states) passes in
-      let first = front-filled (λ network. network .lows) whole network lows m read size in
-      let second = front-filled (λ network. network .highs) whole network highs m read (sym (table .even) ∙ size) in
-      let third = front-filled (λ network. network .states) whole network states n read (known .long ∙ relays) in
-      record {
-        inLows = first .0;
-        inHighs = second .0;
-        inStates = third .0;
-        read =
-            same-rooms text lows highs states low high state
-            ∙ read
-            ∙ ap done (same-network network n _ _ _ relays (first .1) (second .1) (third .1));
-      }
+-- A reading whose networks are accepted ones.
+pub reading-done : (reading : ℕ → ℕ → ℕ → Outcome Network) (lows highs states : List ℕ) (n m : ℕ) → Rooms lows highs states
+    → let whole = reading (length lows) (length highs) (length states) in
+    ((network : Network) → whole ≡ done network → Accepted (network .relays) (network .lows) (network .highs) (network .states))
+    → countsOf whole ≡ done (n ∷ m ∷ [])
+    → FrontTable (reading 3000 3000 1000) n m (filled (λ network. network .lows) whole lows)
+    (filled (λ network. network .highs) whole highs) (filled (λ network. network .states) whole states)
+reading-done reading lows highs states n m rooms accepts e =
+    let whole = reading (length lows) (length highs) (length states) in
+    let (network, read, last) = done-then whole _ (n ∷ m ∷ []) e in
+    let relays : network .relays ≡ n = cc in
+    let size : length (network .lows) ≡ m = cc in
+    let passes = accepts network read in
+    let table = accepted (network .relays) (network .lows) (network .highs) (network .states) passes in
+    let known = accepted-states (network .relays) (network .lows) (network .highs) (network .states) passes in
+    let first = front-filled (λ network. network .lows) whole network lows m read size in
+    let second = front-filled (λ network. network .highs) whole network highs m read (sym (table .even) ∙ size) in
+    let third = front-filled (λ network. network .states) whole network states n read (known .long ∙ relays) in
+    record {
+      inLows = first .0;
+      inHighs = second .0;
+      inStates = third .0;
+      read =
+          same-rooms reading lows highs states rooms
+          ∙ read
+          ∙ ap done (same-network network n _ _ _ relays (first .1) (second .1) (third .1));
+    }
 
 pub read-done : (text lows highs states : List ℕ) (n m : ℕ) (lowsNow highsNow statesNow : List ℕ)
     → lows ≡ room 3000 → highs ≡ room 3000 → states ≡ room 1000
     → readAnswer text lows highs states ≡ done (n ∷ m ∷ []) → lowsNow ≡ lowsAfter text lows highs states
     → highsNow ≡ highsAfter text lows highs states → statesNow ≡ statesAfter text lows highs states
     → ReadTable text n m lowsNow highsNow statesNow
+unfolding readAnswer lowsAfter highsAfter statesAfter
 read-done text lows highs states n m lowsNow highsNow statesNow low high state e lowsAre highsAre statesAre =
     rw (lowsAre, highsAre, statesAre)
-    (table-read text lows highs states n m (room-length 3000 lows low) (room-length 3000 highs high) (room-length 1000 states state) e)
+    (reading-done (readNetwork text) lows highs states n m (record { inLows = low; inHighs = high; inStates = state })
+    (λ network read. written-read text (length lows) (length highs) (length states) network read .1) e)

@@ -6,6 +6,7 @@ ghost use Rattle.definitions.specs.Form.{writeForm};
 ghost use Rattle.definitions.specs.Plan.{refusedForm};
 ghost use Rattle.network.specs.Answers.{refusalNumber, refusalPlace};
 ghost use Rattle.text.specs.Put.{Put};
+ghost use Rattle.sheet.specs.RefusedLine.{LinePut};
 use network::Refusal;
 use network::refusal_number;
 use network::refusal_place;
@@ -23,6 +24,17 @@ pub fn put_refused(output: &mut [u8], number: usize, place: usize) -> usize
 pub fn put_refusal(output: &mut [u8], refusal: Refusal) -> usize
     requires { ⌜ length (writeForm refusedForm (refusalNumber refusal ∷ refusalPlace refusal ∷ [])) ≤ length (now output) ⌝ }
     ensures { λ r. ⌜ Put (now (output .entry)) 0 (writeForm refusedForm (refusalNumber refusal ∷ refusalPlace refusal ∷ []))
+        (now (output .exit)) r ⌝ }
+{
+    let number = refusal_number(refusal) as usize;
+    let place = refusal_place(refusal);
+    put_refused(output, number, place)
+}
+
+// The same in a room that every number and place fits.
+pub fn put_any(output: &mut [u8], refusal: Refusal) -> usize
+    requires { ⌜ 52 ≤ length (now output) ⌝ }
+    ensures { λ r. ⌜ LinePut (now (output .entry)) (writeForm refusedForm (refusalNumber refusal ∷ refusalPlace refusal ∷ []))
         (now (output .exit)) r ⌝ }
 {
     let number = refusal_number(refusal) as usize;

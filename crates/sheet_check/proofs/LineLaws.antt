@@ -1,5 +1,5 @@
 -- Where a network's text ends, and the line that is printed of an answer. Assumes nothing.
-use Prim.Native.Nat.{ℕ, zero, suc, _+_, _-_, _^_, _≤_, _<_}
+use Prim.Native.Nat.{ℕ, zero, suc, _+_, _-_, _≤_, _<_}
 use mathlib.Core.List.{List, [], _∷_}
 use mathlib.Core.Path.{_≡_, refl, sym, subst}
 use native.Mathlib.Omega.{arith}
@@ -7,19 +7,19 @@ use lib.ListN.{length, take, drop, length-drop}
 use lib.Seq.{take-all}
 use Rattle.definitions.specs.Outcome.{done, Answer}
 use Rattle.definitions.specs.Lists.{overwrite}
-use Rattle.definitions.specs.Form.{bytes, Scan, departs, reads, scanWord, scanForm, writeForm}
+use Rattle.definitions.specs.Form.{bytes, Scan, departs, reads, scanWord, scanForm}
 use Rattle.definitions.specs.Text.{endForm, readNetwork}
-use Rattle.definitions.specs.Plan.{refusedForm, printed}
+use Rattle.definitions.specs.Plan.{printed}
 use Rattle.definitions.specs.SheetTest.{sheetAnswer}
 use Rattle.definitions.specs.Verify.{behindOr, endBehind, networkSize, verified, verdictText, verifyText}
 use Rattle.lists.specs.Outcomes.{then-done}
 use Rattle.text_theory.specs.Forms.{end-line}
 use Rattle.text_theory.specs.NetworkLines.{read-line}
-use Rattle.text_theory.specs.Spans.{span, written-span}
 use Rattle.text.specs.ItemByItem.{form-word}
 use Rattle.text.specs.Put.{Put}
 use Rattle.sheet.specs.ReadStage.{ReadTable, whole-put}
-use Rattle.sheet_check.specs.Line.{LinePut, readBackFrom}
+use Rattle.sheet.specs.RefusedLine.{LinePut}
+use Rattle.sheet_check.specs.Line.{readBackFrom}
 
 -- Where the network's text ends, offset by offset.
 module _ (input : List ℕ) where
@@ -61,11 +61,6 @@ module _ (input : List ℕ) where
 
 pub size-taken : (input : List ℕ) (size : ℕ) → size ≡ networkSize input → size ≤ length input
 size-taken input size e = omega (arith, e, size-within input)
-
--- The refused line, whatever its number and its place.
-pub refused-fits : (number place : ℕ) → number < 2 ^ 64 → place < 2 ^ 64 → length (writeForm refusedForm (number ∷ place ∷ [])) ≤ 52
-unfolding refusedForm span
-refused-fits number place small near = written-span 19 refusedForm (number ∷ place ∷ []) (omega arith, (omega arith, tt))
 
 -- The line of an answer is the line of the outcome that it is.
 pub line-of : {before after : List ℕ} {next : ℕ} (one other : Answer) → one ≡ other → LinePut before (printed verdictText other) after next

@@ -1,21 +1,16 @@
 // A network text and behind it a sheet's text come in; the line that says whether the sheet holds goes out, or the refused line.
-ghost use mathlib.Core.List.{[], _∷_};
 ghost use mathlib.Core.Path.{_≡_};
 ghost use Prim.Native.Nat.{_≤_};
 ghost use lib.ListN.{length};
-ghost use Rattle.definitions.specs.Form.{writeForm};
-ghost use Rattle.definitions.specs.Plan.{refusedForm, printed};
+ghost use Rattle.definitions.specs.Plan.{printed};
 ghost use Rattle.definitions.specs.SheetTest.{sheetAnswer};
 ghost use Rattle.definitions.specs.Lists.{overwrite};
 ghost use Rattle.definitions.specs.Verify.{networkSize, verdictText, verifyText};
-ghost use Rattle.network.specs.Answers.{refusalNumber, refusalPlace};
-ghost use Rattle.sheet_check.specs.Line.{LinePut, readBackFrom};
+ghost use Rattle.sheet.specs.RefusedLine.{LinePut};
+ghost use Rattle.sheet_check.specs.Line.{readBackFrom};
 use crate::SheetAnswer;
 use crate::check_sheet;
-use network::Refusal;
-use network::refusal_number;
-use network::refusal_place;
-use sheet::refusal::put_refused;
+use sheet::refusal::put_any;
 use sheet::rooms;
 use text::ReadAnswer;
 use text::put;
@@ -46,17 +41,6 @@ fn network_size(input: &[u8]) -> usize
         }
     }
     p
-}
-
-// The refused line, whatever its number and its place.
-fn put_any(output: &mut [u8], refusal: Refusal) -> usize
-    requires { ⌜ 52 ≤ length (now output) ⌝ }
-    ensures { λ r. ⌜ LinePut (now (output .entry)) (writeForm refusedForm (refusalNumber refusal ∷ refusalPlace refusal ∷ []))
-        (now (output .exit)) r ⌝ }
-{
-    let number = refusal_number(refusal) as usize;
-    let place = refusal_place(refusal);
-    put_refused(output, number, place)
 }
 
 // The line for a sheet that is read back with this table.

@@ -1,9 +1,9 @@
--- `sheet_check::line::put_any` meets its contract: both numbers are of 64 bits, so the line has room. Assumes nothing.
+-- `sheet::refusal::put_any` meets its contract: both numbers are of 64 bits, so the line has room. Assumes nothing.
 use native.Mathlib.Omega.{arith}
-use Rattle.sheet_check.proofs.LineLaws.{refused-fits}
+use Rattle.sheet.specs.RefusedLine.{refused-fits}
 use borrow.Author.Needs.{needs}
-use Rattle.sheet_check.proofs.line.put_any.Statement.{statement}
-use Rattle.sheet_check.proofs.line.put_any.Tie as tie
+use Rattle.sheet.proofs.refusal.put_any.Statement.{statement}
+use Rattle.sheet.proofs.refusal.put_any.Tie as tie
 
 refusal-number-requires : tie.Need-refusal-number-requires
 refusal-number-requires c κs = search needs

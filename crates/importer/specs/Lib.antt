@@ -1,0 +1,2 @@
+-- What the importer's functions leave in its output.
+pub mod Whole

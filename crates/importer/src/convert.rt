@@ -1,0 +1,61 @@
+// A drawing in the DIMACS edge format comes in; the network's own text goes out, or the refused line.
+ghost use mathlib.Core.Path.{_≡_};
+ghost use Prim.Native.Nat.{_≤_};
+ghost use lib.ListN.{length};
+ghost use Rattle.definitions.specs.Lists.{overwrite};
+ghost use Rattle.definitions.specs.Network.{Accepted};
+ghost use Rattle.definitions.specs.Text.{textOf};
+ghost use Rattle.definitions.specs.Import.{importText};
+ghost use Rattle.importer.specs.Whole.{Printed};
+use dimacs::import;
+use sheet::refusal::put_any;
+use sheet::rooms;
+use text::ReadAnswer;
+use text::WriteAnswer;
+use text::write;
+
+// The bytes for the longest network text; the refused line has fewer.
+pub const OUTPUT: usize = 54929;
+
+pub fn output() -> [u8; OUTPUT] {
+    [0u8; OUTPUT]
+}
+
+// The text of an accepted network.
+fn put_network(output: &mut [u8], n: u16, lows: &[u16], highs: &[u16], states: &[u16]) -> usize
+    requires { ⌜ Accepted n (now lows) (now highs) (now states) ⌝ }
+    requires { ⌜ 54929 ≤ length (now output) ⌝ }
+    ensures { λ r. ⌜ Printed (now (output .entry)) (textOf n (now (lows .entry)) (now (highs .entry)) (now (states .entry)))
+        (now (output .exit)) r ⌝ }
+{
+    match write(n, lows, highs, states, output) {
+        WriteAnswer::Refused(_) => 0,
+        WriteAnswer::Length(size) => size,
+    }
+}
+
+// The drawing is imported, and what it is goes out.
+fn put_imported(output: &mut [u8], input: &[u8]) -> usize
+    requires { ⌜ 54929 ≤ length (now output) ⌝ }
+    ensures { λ r. ⌜ Printed (now (output .entry)) (importText (now (input .entry))) (now (output .exit)) r ⌝ }
+{
+    let mut lows = rooms::links();
+    let mut highs = rooms::links();
+    let mut states = rooms::states();
+    match import(input, &mut lows, &mut highs, &mut states) {
+        ReadAnswer::Refused(refusal) => put_any(output, refusal),
+        ReadAnswer::Table(n, m) => {
+            let size = m as usize;
+            let relays = n as usize;
+            put_network(output, n, &lows[..size], &highs[..size], &states[..relays])
+        }
+    }
+}
+
+// Prints the text for an input, from the output's first byte on, and gives its length.
+pub fn convert(input: &[u8], output: &mut [u8; OUTPUT]) -> usize
+    ensures length { λ r. ⌜ r ≡ length (importText (now (input .entry))) ⌝ }
+    ensures bytes { λ _. ⌜ now (output .exit) ≡ overwrite (importText (now (input .entry))) (now (output .entry)) ⌝ }
+{
+    put_imported(output, input)
+}
