@@ -38,6 +38,22 @@ pub(crate) fn refused<T>(number: u32, place: usize) -> Result<T, Refusal> {
     Err(Refusal { number, place })
 }
 
+type Reads = fn(&[u8], &mut [u16], &mut [u16], &mut [u16]) -> Result<(u16, u16), Refusal>;
+
+/// The number that two ways of reading a text have in common, and with it the whole answer and the lists, with some room about what a
+/// network needs.
+pub(crate) fn read_alike(random: &mut Random, net: &Network, text: &[u8], one: Reads, other: Reads) -> usize {
+    let needs = [net.lows.len(), net.lows.len(), usize::from(net.n)];
+    let rooms = needs.map(|exact| (exact + random.below(20)).saturating_sub(1));
+    let [mut ours, mut theirs] = [7, 9].map(|filler| rooms.map(|room| vec![filler; room]));
+    let [lows, highs, states] = &mut ours;
+    let outcome = one(text, lows, highs, states);
+    let [lows, highs, states] = &mut theirs;
+    assert_eq!(other(text, lows, highs, states), outcome);
+    assert_eq!(ours, theirs);
+    outcome.map_or_else(|refusal| refusal.number as usize, |_| 0)
+}
+
 fn order_and_forests(net: &Network) -> (Vec<u16>, Vec<u16>) {
     let (mut relays, mut places) = (vec![0; usize::from(net.n)], vec![0; usize::from(net.n)]);
     let mut forests = vec![0; net.lows.len()];

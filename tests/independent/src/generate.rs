@@ -238,7 +238,7 @@ pub fn damage(random: &mut Random, net: &mut Network) {
 
 /// Damages a text in one place.
 pub fn scratch(random: &mut Random, text: &mut Vec<u8>) {
-    const BYTES: &[u8] = b"0123456789()( \n\r\tnetrelayslinkdwou/:\0\x80\xff";
+    const BYTES: &[u8] = b"0123456789()( \n\r\tnetrelayslinkdwoucpg/:\0\x80\xff";
     let at = random.below(text.len());
     let byte = *random.pick(BYTES);
     match random.below(12) {

@@ -1,11 +1,13 @@
 //! Document 01, with the requests of document 02 that have landed, in plain Rust, by a second hand. The slow modules, which the
 //! library is compared with, follow the papers' words, and nothing in them was taken from the proved code or its definitions;
-//! `swift`, `swift_sheet` and `swift_text`, which it is timed beside, have the same results by the methods an ordinary program would
-//! use, and of them `swift::Buckets` is built as the library is.
+//! `swift`, `swift_dimacs`, `swift_sheet` and `swift_text`, which it is timed beside, have the same results by the methods an ordinary
+//! program would use, and of them `swift::Buckets` is built as the library is.
 
 #[cfg(feature = "library")]
 pub mod against;
 pub mod boundaries;
+pub mod dimacs;
+pub mod drawings;
 pub mod facts;
 pub mod flow;
 pub mod forests;
@@ -25,9 +27,11 @@ pub mod random;
 pub mod routed;
 pub mod sheet;
 pub mod sheets;
+pub mod spoilt;
 pub mod states;
 pub mod sweep;
 pub mod swift;
+pub mod swift_dimacs;
 pub mod swift_sheet;
 pub mod swift_text;
 pub mod table;
@@ -41,6 +45,8 @@ pub mod verified;
 pub mod verify;
 pub mod wishes;
 
+#[cfg(test)]
+mod dimacs_examples;
 #[cfg(test)]
 mod examples;
 #[cfg(test)]

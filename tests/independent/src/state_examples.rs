@@ -1,7 +1,7 @@
 //! Withdrawn relays, worked out by hand from #105 of document 02; a network with them against the one that is left without them; the
 //! longest texts and lists; and the two ways of reading out lines.
 
-use crate::examples::{kept, mesh, net, refused};
+use crate::examples::{kept, mesh, net, read_alike, refused};
 use crate::forests::{cut, order, split};
 use crate::generate::{any, scratch};
 use crate::outs::{OUTS, with_outs};
@@ -261,15 +261,7 @@ fn two_ways_read_out_lines() {
         let net = any(random, 40);
         let mut text = with_outs(random, &net, random_change).into_bytes();
         (0..random.below(2)).for_each(|_| scratch(random, &mut text));
-        let rooms =
-            [net.lows.len(), net.lows.len(), usize::from(net.n)].map(|exact| (exact + random.below(20)).saturating_sub(1));
-        let [mut ours, mut theirs] = [7, 9].map(|filler| rooms.map(|room| vec![filler; room]));
-        let [lows, highs, states] = &mut ours;
-        let outcome = read(&text, lows, highs, states);
-        let [lows, highs, states] = &mut theirs;
-        assert_eq!(swift_text::read(&text, lows, highs, states), outcome);
-        assert_eq!(ours, theirs);
-        said[outcome.map_or_else(|refusal| refusal.number as usize, |_| 0)] += 1;
+        said[read_alike(random, &net, &text, read, swift_text::read)] += 1;
     }
     assert!([0, 2, 8, 16].iter().all(|&number| said[number] > 100), "{said:?}");
 }

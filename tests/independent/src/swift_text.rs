@@ -3,6 +3,7 @@
 use crate::sweep::Wish;
 use crate::swift::{check, cut, link, no_pairs, routes_with_links};
 use crate::table::{Network, Refusal, plain, refuse, room};
+use crate::text::counted;
 
 #[inline]
 pub fn number(text: &[u8], at: &mut usize) -> Result<u16, Refusal> {
@@ -54,15 +55,7 @@ fn read_lines(text: &[u8], lows: &mut [u16], highs: &mut [u16], states: &mut [u1
     word(text, &mut at, b") (links ")?;
     let m = number(text, &mut at)?;
     word(text, &mut at, b"))\n")?;
-    if n == 0 || n > 1000 {
-        return plain(3);
-    }
-    if m > 3000 {
-        return plain(4);
-    }
-    if lows.len().min(highs.len()) < usize::from(m) || states.len() < usize::from(n) {
-        return plain(8);
-    }
+    counted(n, m, lows.len().min(highs.len()), states.len())?;
     let mut seen = no_pairs(n);
     for index in 0..usize::from(m) {
         word(text, &mut at, b"(link ")?;
@@ -80,14 +73,24 @@ fn read_lines(text: &[u8], lows: &mut [u16], highs: &mut [u16], states: &mut [u1
     if at < text.len() { refuse(2, at) } else { Ok((n, m)) }
 }
 
-/// Read.
-pub fn read(text: &[u8], lows: &mut [u16], highs: &mut [u16], states: &mut [u16]) -> Result<(u16, u16), Refusal> {
-    let answer = read_lines(text, lows, highs, states);
+/// The zeros behind what was read into the lists; after a refusal they are all zeros.
+pub fn cleared(
+    answer: Result<(u16, u16), Refusal>,
+    lows: &mut [u16],
+    highs: &mut [u16],
+    states: &mut [u16],
+) -> Result<(u16, u16), Refusal> {
     let (n, m) = answer.map_or((0, 0), |(n, m)| (usize::from(n), usize::from(m)));
     lows[m..].fill(0);
     highs[m..].fill(0);
     states[n..].fill(0);
     answer
+}
+
+/// Read.
+pub fn read(text: &[u8], lows: &mut [u16], highs: &mut [u16], states: &mut [u16]) -> Result<(u16, u16), Refusal> {
+    let answer = read_lines(text, lows, highs, states);
+    cleared(answer, lows, highs, states)
 }
 
 fn put_number(buffer: &mut [u8], at: &mut usize, value: u16) {

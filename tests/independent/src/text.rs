@@ -50,11 +50,8 @@ fn outs(text: &[u8], start: usize, n: u16) -> Result<Vec<u16>, Refusal> {
     }
 }
 
-/// The network of a text, with room for so many links and states.
-fn network(text: &[u8], entries: usize, relays: usize) -> Result<Network, Refusal> {
-    let departs = |place| Refusal { number: 2, place };
-    let (header, mut at) = form(text, 0, HEADER).map_err(departs)?;
-    let (n, m) = (header[0], header[1]);
+/// The refusals behind the line that says n and m, with room for so many links and states.
+pub fn counted(n: u16, m: u16, entries: usize, relays: usize) -> Result<(), Refusal> {
     if n == 0 || n > 1000 {
         return plain(3);
     }
@@ -64,6 +61,15 @@ fn network(text: &[u8], entries: usize, relays: usize) -> Result<Network, Refusa
     if entries < usize::from(m) || relays < usize::from(n) {
         return plain(8);
     }
+    Ok(())
+}
+
+/// The network of a text, with room for so many links and states.
+fn network(text: &[u8], entries: usize, relays: usize) -> Result<Network, Refusal> {
+    let departs = |place| Refusal { number: 2, place };
+    let (header, mut at) = form(text, 0, HEADER).map_err(departs)?;
+    let (n, m) = (header[0], header[1]);
+    counted(n, m, entries, relays)?;
     let mut seen = Seen::new(n);
     let mut net = Network::serving(n, vec![], vec![]);
     for index in 0..usize::from(m) {
@@ -79,16 +85,30 @@ fn network(text: &[u8], entries: usize, relays: usize) -> Result<Network, Refusa
     Ok(net)
 }
 
-/// Read: n and m.
-pub fn read(text: &[u8], lows: &mut [u16], highs: &mut [u16], states: &mut [u16]) -> Result<(u16, u16), Refusal> {
+/// The network of a text, or why it is refused, with room for so many links and states.
+pub type Reading = fn(&[u8], usize, usize) -> Result<Network, Refusal>;
+
+/// The lists after a reading, and the answer: n and m.
+pub fn into_lists(
+    reading: Reading,
+    text: &[u8],
+    lows: &mut [u16],
+    highs: &mut [u16],
+    states: &mut [u16],
+) -> Result<(u16, u16), Refusal> {
     lows.fill(0);
     highs.fill(0);
     states.fill(0);
-    let net = network(text, lows.len().min(highs.len()), states.len())?;
+    let net = reading(text, lows.len().min(highs.len()), states.len())?;
     lows[..net.lows.len()].copy_from_slice(&net.lows);
     highs[..net.highs.len()].copy_from_slice(&net.highs);
     states[..net.states.len()].copy_from_slice(&net.states);
     Ok((net.n, net.lows.len() as u16))
+}
+
+/// Read: n and m.
+pub fn read(text: &[u8], lows: &mut [u16], highs: &mut [u16], states: &mut [u16]) -> Result<(u16, u16), Refusal> {
+    into_lists(network, text, lows, highs, states)
 }
 
 /// The network that a program reads, into lists that are long enough for any.
