@@ -4,6 +4,7 @@ use crate::boundaries::{boundaries, withdrawn};
 use crate::facts::{first_relay, forest_counts, kept, parts};
 use crate::flow::greatest;
 use crate::generate::{any, damage};
+use crate::imported::{drawings, every_byte};
 use crate::lengths::{Lengths, any_length, mostly_enough};
 use crate::library::{self, Report};
 use crate::printed::{KEEP, PLAN, keep_input, printed};
@@ -163,6 +164,7 @@ fn whole(random: &mut Random, tally: &mut Tally, net: &Network) {
         Some(numbers) => wish(random, net, &numbers),
     };
     texts(random, tally, net, wish);
+    drawings(random, tally, net);
 }
 
 /// One network from a seed.
@@ -194,11 +196,12 @@ fn exactly(random: &mut Random, tally: &mut Tally, net: &Network) {
 }
 
 /// The networks at the boundaries from a seed: each with all relays in service and with some withdrawn, both with lists of exact
-/// length and a wish that is met, one of the two as any other, and then with its highest pair of relays linked twice. Gives how many
-/// there are.
+/// length and a wish that is met, one of the two as any other, and then with its highest pair of relays linked twice; and a small
+/// drawing with every byte in every place. Gives how many networks there are.
 pub fn boundary_cases(seed: u64, tally: &mut Tally) -> usize {
     let random = &mut Random::new(seed);
     let nets = boundaries(random);
+    every_byte(random, tally);
     for (number, net) in nets.iter().enumerate() {
         let both = [net.clone(), withdrawn(net)];
         both.iter().for_each(|net| exactly(random, tally, net));

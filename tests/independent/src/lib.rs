@@ -12,6 +12,8 @@ pub mod facts;
 pub mod flow;
 pub mod forests;
 pub mod generate;
+#[cfg(feature = "library")]
+pub mod imported;
 pub mod keep;
 pub mod lengths;
 #[cfg(feature = "library")]

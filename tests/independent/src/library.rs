@@ -65,19 +65,33 @@ on_tables! {
     route_links = nolkisei_route_links (k, from, to) (counts: u16, relays: u16, links: u16, scratch: u16);
 }
 
+/// The operations that read a text into a table: a safe function and the C function behind it.
+macro_rules! of_texts {
+    ($($name:ident = $symbol:ident;)*) => {
+        unsafe extern "C" {
+            $(fn $symbol(
+                text: *const u8, _: usize, lows: *mut u16, _: usize, highs: *mut u16, _: usize, states: *mut u16, _: usize,
+                answer: *mut u64,
+            ) -> u32;)*
+        }
+        $(
+            pub fn $name(text: &[u8], lows: &mut [u16], highs: &mut [u16], states: &mut [u16]) -> Report {
+                let [low, high, state] = [&mut *lows, &mut *highs, &mut *states].map(|list| list.as_mut_ptr());
+                report(|answer| unsafe {
+                    $symbol(text.as_ptr(), text.len(), low, lows.len(), high, highs.len(), state, states.len(), answer)
+                })
+            }
+        )*
+    };
+}
+
+of_texts! {
+    read = nolkisei_read;
+    import = nolkisei_import;
+}
+
 unsafe extern "C" {
     fn nolkisei_pair(a: u16, b: u16, answer: *mut u64) -> u32;
-    fn nolkisei_read(
-        text: *const u8,
-        text_length: usize,
-        lows: *mut u16,
-        lows_length: usize,
-        highs: *mut u16,
-        highs_length: usize,
-        states: *mut u16,
-        states_length: usize,
-        answer: *mut u64,
-    ) -> u32;
     fn nolkisei_verify(
         n: u16,
         lows: *const u16,
@@ -96,13 +110,6 @@ unsafe extern "C" {
 
 pub fn pair(a: u16, b: u16) -> Report {
     report(|answer| unsafe { nolkisei_pair(a, b, answer) })
-}
-
-pub fn read(text: &[u8], lows: &mut [u16], highs: &mut [u16], states: &mut [u16]) -> Report {
-    let [low, high, state] = [&mut *lows, &mut *highs, &mut *states].map(|list| list.as_mut_ptr());
-    report(|answer| unsafe {
-        nolkisei_read(text.as_ptr(), text.len(), low, lows.len(), high, highs.len(), state, states.len(), answer)
-    })
 }
 
 pub fn verify(net: &Network, text: &[u8]) -> Report {

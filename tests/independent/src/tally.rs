@@ -1,10 +1,12 @@
 //! What a comparison counts: the answers by operation and code, the facts that held, the networks by where their order starts and by
-//! their state lists, the texts by their out lines, and the sheets that were read back by how they were made and by the one fault
-//! that they have.
+//! their state lists, the texts by their out lines, the sheets that were read back by how they were made and by the one fault that they
+//! have, and the drawings by how they came to be and by the lists lent for them.
 
+use crate::drawings::STYLES;
 use crate::facts::STARTS;
 use crate::outs::OUTS;
 use crate::sheets::{CHANGES, STILL};
+use crate::spoilt::ways;
 use crate::states::{BAD, GOOD, LENT};
 use crate::verify::Fault;
 use std::collections::BTreeMap;
@@ -12,10 +14,11 @@ use std::fmt::Debug;
 
 /// Every code that an operation can give; of the two that print, the printed numbers and 12; of `verify`, 0 for a no and 1 for a
 /// yes.
-const CODES: [(&str, &[u32]); 12] = [
+const CODES: [(&str, &[u32]); 13] = [
     ("check", &[0, 3, 4, 5, 6, 7, 16]),
     ("pair", &[0, 5, 6]),
     ("read", &[0, 2, 3, 4, 5, 6, 7, 8, 16]),
+    ("import", &[0, 3, 4, 5, 6, 7, 8, 18]),
     ("write", &[0, 3, 4, 5, 6, 7, 12, 16]),
     ("order", &[0, 3, 4, 5, 6, 7, 12, 16]),
     ("split", &[0, 3, 4, 5, 6, 7, 12, 16]),
@@ -44,6 +47,21 @@ const MADE: [&str; 13] = [
     "behind a bad table",
 ];
 
+/// How drawings come to be, beside the styles of `drawings` and the ways to spoil one of `spoilt`.
+const DRAWN: [&str; 4] = ["of a bad table", "damaged", "damaged at every byte", "every byte in every place"];
+
+/// Lists that are lent for a good drawing: how many entries each has more than it needs, lows, highs and states.
+pub const ROOMS: [(&str, [isize; 3]); 8] = [
+    ("all just long enough", [0, 0, 0]),
+    ("all longer", [1, 7, 3]),
+    ("all far longer", [5000, 5000, 5000]),
+    ("lows alone one too short", [-1, 0, 0]),
+    ("highs alone one too short", [0, -1, 0]),
+    ("states alone one too short", [0, 0, -1]),
+    ("lows one too short, the others longer", [-1, 9, 9]),
+    ("states one too short, the others longer", [9, 9, -1]),
+];
+
 /// The faults that a sheet can have without another. Equal ends and a relay not below n come with others.
 const ALONE: [Fault; 9] = [
     Fault::Routes,
@@ -57,8 +75,8 @@ const ALONE: [Fault; 9] = [
     Fault::Kept,
 ];
 
-/// How often each operation gave each code, how often each fact was looked at, and how often there were such networks, texts and
-/// sheets.
+/// How often each operation gave each code, how often each fact was looked at, and how often there were such networks, texts, sheets
+/// and drawings.
 #[derive(Default)]
 pub struct Tally {
     codes: BTreeMap<(&'static str, u32), u64>,
@@ -68,6 +86,7 @@ pub struct Tally {
     outs: BTreeMap<&'static str, u64>,
     sheets: BTreeMap<&'static str, u64>,
     faults: BTreeMap<Fault, u64>,
+    drawings: BTreeMap<&'static str, u64>,
 }
 
 impl Tally {
@@ -113,7 +132,12 @@ impl Tally {
         }
     }
 
-    /// One line for each operation, each fact and each kind of network, text and sheet; then the codes and kinds never met.
+    /// A drawing that came to be so, or such lists lent for one.
+    pub fn drawing(&mut self, kind: &'static str) {
+        *self.drawings.entry(kind).or_default() += 1;
+    }
+
+    /// One line for each operation, each fact and each kind of network, text, sheet and drawing; then the codes and kinds never met.
     pub fn lines(&self) -> (Vec<String>, Vec<String>) {
         let (mut lines, mut missing) = (vec![], vec![]);
         for (operation, codes) in CODES {
@@ -130,7 +154,10 @@ impl Tally {
         let lists = GOOD.iter().chain(&BAD).map(|kind| kind.0).chain(LENT);
         let states = lists.map(|kind| (format!("state lists: {kind}"), self.states.get(kind)));
         let outs = OUTS.iter().map(|(kind, _)| (format!("out lines: {kind}"), self.outs.get(kind)));
-        for (kind, times) in starts.chain(states).chain(outs).chain(made).chain(alone) {
+        let kinds = STYLES.iter().map(|style| style.0).chain(ways().map(|way| way.0)).chain(DRAWN);
+        let drawn = kinds.map(|kind| (format!("drawings: {kind}"), self.drawings.get(kind)));
+        let rooms = ROOMS.iter().map(|(kind, _)| (format!("lists for drawings: {kind}"), self.drawings.get(kind)));
+        for (kind, times) in starts.chain(states).chain(outs).chain(made).chain(alone).chain(drawn).chain(rooms) {
             lines.push(format!("{:9} {kind}", times.unwrap_or(&0)));
             missing.extend(times.is_none().then_some(kind));
         }

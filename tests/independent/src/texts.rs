@@ -1,5 +1,6 @@
 //! The library's Read and its two programs on texts, against the second version: as written, with other out lines, and damaged.
 
+use crate::dimacs;
 use crate::generate::scratch;
 use crate::lengths::{Lengths, mostly_enough};
 use crate::library::{self, Report};
@@ -8,7 +9,7 @@ use crate::printed::{KEEP, PLAN, Program, keep_input, printed};
 use crate::random::Random;
 use crate::states;
 use crate::sweep::Wish;
-use crate::table::{Network, check};
+use crate::table::{Network, Refusal, check};
 use crate::tally::Tally;
 use crate::text::{self, HEADER, form};
 use crate::variants::at_every_byte;
@@ -19,20 +20,37 @@ fn announced(text: &[u8]) -> (usize, usize) {
     form(text, 0, HEADER).map_or((7, 5), |(header, _)| (header[1].min(3000).into(), header[0].min(1000).into()))
 }
 
-/// A text through Read, with every entry of the three lists.
-pub fn read(random: &mut Random, tally: &mut Tally, input: &[u8], lengths: Lengths) {
-    let (links, relays) = announced(input);
-    let mut ours = [links, links, relays].map(|exact| {
-        let length = lengths(random, exact);
-        random.numbers(length)
-    });
+/// Reads a text into the lists lows, highs and states.
+type Reads<T> = fn(&[u8], &mut [u16], &mut [u16], &mut [u16]) -> T;
+
+/// An operation that does so: the library's and the second version's, by its name.
+pub struct Reader {
+    name: &'static str,
+    library: Reads<Report>,
+    reference: Reads<Result<(u16, u16), Refusal>>,
+}
+
+const READ: Reader = Reader { name: "read", library: library::read, reference: text::read };
+pub const IMPORT: Reader = Reader { name: "import", library: library::import, reference: dimacs::import };
+
+/// A text through one of them, with every entry of the three lists, which have these lengths; gives the lists.
+pub fn into_lists(random: &mut Random, tally: &mut Tally, reader: &Reader, input: &[u8], lengths: [usize; 3]) -> [Vec<u16>; 3] {
+    let mut ours = lengths.map(|length| random.numbers(length));
     let mut theirs = ours.clone();
     let [lows, highs, states] = &mut ours;
-    states::lent(input, lows.len().min(highs.len()), states.len()).into_iter().for_each(|kind| tally.states(kind));
-    let reference = Report::of(text::read(input, lows, highs, states).map(|(n, m)| [n.into(), m.into()]));
+    let reference = Report::of((reader.reference)(input, lows, highs, states).map(|(n, m)| [n.into(), m.into()]));
     let [lows, highs, states] = &mut theirs;
-    let report = library::read(input, lows, highs, states);
-    tally.same("read", reference.code, (report, theirs), (reference, ours), &String::from_utf8_lossy(input));
+    let report = (reader.library)(input, lows, highs, states);
+    tally.same(reader.name, reference.code, (report, &theirs), (reference, &ours), &String::from_utf8_lossy(input));
+    theirs
+}
+
+/// A text through Read.
+pub fn read(random: &mut Random, tally: &mut Tally, input: &[u8], lengths: Lengths) {
+    let (links, relays) = announced(input);
+    let lengths = [links, links, relays].map(|exact| lengths(random, exact));
+    states::lent(input, lengths[0].min(lengths[1]), lengths[2]).into_iter().for_each(|kind| tally.states(kind));
+    into_lists(random, tally, &READ, input, lengths);
 }
 
 /// The planner's input: the line of a wish, and where it ends the network's text.
