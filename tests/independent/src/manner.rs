@@ -1,6 +1,7 @@
 //! How an input is answered, coarsely: the fuzzer keeps what is answered in a new manner. What the two versions agree on is taken
 //! from the second one, so the manners stand for the ways through the reader, the refusals and the sweep.
 
+use crate::dimacs::network;
 use crate::forests::{earlier, ordering, places};
 use crate::sweep::{Wish, sweep};
 use crate::table::{Network, Refusal, check, known};
@@ -8,7 +9,7 @@ use crate::text::form;
 use crate::verify::{Fault, verify};
 use std::cell::RefCell;
 
-/// A manner of answering: an input's of the planner, a refused table's, a sweep's or a sheet's that is read back.
+/// A manner of answering: an input's of the planner, a refused table's, a sweep's, a sheet's that is read back or a drawing's.
 #[derive(Clone, Debug, PartialEq, Eq, Hash)]
 pub enum Manner {
     /// The number printed, 0 for a sheet, the line that it is about by its shape, what stands there or k, and two sizes.
@@ -20,6 +21,9 @@ pub enum Manner {
     Sweep(u16, [u32; 4], u32, [u32; 2]),
     /// The number, or 0 and the faults; for 14 the ends of the line up to the byte by their shape, and what stands there.
     Sheet(u32, Vec<Fault>, [Vec<u8>; 2], u8),
+    /// The number, the line that it is about by its shape, what stands there, and the sizes of how many lines of each letter there are
+    /// before it, or of the network and its comments.
+    Drawing(u32, Vec<u8>, u8, [u32; 3]),
 }
 
 impl Manner {
@@ -29,6 +33,7 @@ impl Manner {
             Manner::Sheet(0, faults, ..) => faults.first().map_or(0, |fault| 100 + *fault as u32),
             Manner::Sheet(class, ..) => *class,
             Manner::Printed(class, ..) | Manner::Table(class, _) | Manner::Sweep(_, _, class, _) => *class,
+            Manner::Drawing(class, ..) => *class,
         }
     }
 }
@@ -114,6 +119,27 @@ pub fn read_back(net: &Network, text: &[u8]) -> Manner {
             Manner::Sheet(14, vec![], [front, &rest[rest.len().saturating_sub(6)..]].map(shape), found(text, place))
         }
         Err(refusal) => Manner::Sheet(refusal.number, vec![], [vec![], vec![]], 0),
+    }
+}
+
+/// The manner of a drawing, with room for any: the line up to the byte for 18, of a comment only how it begins, the link's line for 5 to
+/// 7, otherwise the `p` line.
+pub fn drawn(text: &[u8]) -> Manner {
+    let all = lines(text);
+    let of = |letter: u8, all: &[&[u8]]| all.iter().filter(|line| line[0] == letter).count();
+    let line =
+        |letter: u8, place: usize| all.iter().filter(|line| line[0] == letter).nth(place).map_or(vec![], |line| shape(line));
+    match network(text, 3000, 1000) {
+        Ok(net) => Manner::Drawing(0, vec![], 0, [usize::from(net.n), net.lows.len(), of(b'c', &all)].map(size)),
+        Err(Refusal { number: 18, place }) => {
+            let start = line_start(text, place);
+            let most = if text[start..].starts_with(b"c ") { 2 } else { 40 };
+            let before = lines(&text[..start]);
+            let met = [b'c', b'p', b'e'].map(|letter| size(of(letter, &before)).min(3));
+            Manner::Drawing(18, shape(&text[start..place.min(start + most)]), found(text, place), met)
+        }
+        Err(Refusal { number: number @ 5..=7, place }) => Manner::Drawing(number, line(b'e', place), 0, [size(place), 0, 0]),
+        Err(Refusal { number, .. }) => Manner::Drawing(number, line(b'p', 0), 0, [0, 0, size(all.len())]),
     }
 }
 

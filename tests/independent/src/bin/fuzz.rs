@@ -1,17 +1,20 @@
-//! Changes texts, tables and sheets for a time, keeps those that are answered in a new manner and changes them on, and compares the
-//! proved library with the second version on each: Read, the planner and the keeper on texts, every operation on tables, sheets read
-//! back with their tables.
+//! Changes texts, tables, sheets and drawings for a time, keeps those that are answered in a new manner and changes them on, and
+//! compares the proved library with the second version on each: Read, the planner and the keeper on texts, every operation on tables,
+//! sheets read back with their tables, the import on drawings.
 //! fuzz [SECONDS [SEED]]: 60 seconds and seed 1 if not given. The same seed tries the same inputs in the same order.
 
 use independent::against::operations;
+use independent::drawings::{self, drawn};
 use independent::forests::numbers;
 use independent::generate::{alter, any, damage, mend, scratch};
+use independent::imported::import;
 use independent::lengths::{any_length, mostly_enough};
 use independent::manner::{self, Lefts, Manner};
 use independent::outs::{OUTS, with_outs};
 use independent::printed::{KEEP, PLAN, keep_input, printed};
 use independent::random::Random;
 use independent::sheets::{CHANGES, Known, STILL, crossing, direct_twice, flowing, formerly, there_and_back};
+use independent::spoilt::ways;
 use independent::table::Network;
 use independent::tally::Tally;
 use independent::texts::{input, read};
@@ -55,8 +58,10 @@ struct Fuzz {
     nets: Kept<Network>,
     /// By what is said of them, each with its table.
     sheets: Kept<(Network, Vec<u8>)>,
+    /// By the number that the import refuses them with.
+    drawings: Kept<Vec<u8>>,
     known: HashSet<Manner>,
-    tried: [u64; 3],
+    tried: [u64; 4],
 }
 
 /// A sheet of a network to begin with, without a route where none is found.
@@ -66,18 +71,35 @@ fn first_sheet(random: &mut Random, net: &Network) -> Vec<u8> {
     sheet.map_or("(sheet (from 0) (to 1) (k 1))\n(kept 0)\n(end)\n".into(), |sheet| sheet.text()).into_bytes()
 }
 
+/// A text with one to four changes, at times with the end of another kept one, and half the time mended.
+fn damaged(random: &mut Random, kept: &Kept<Vec<u8>>, mut text: Vec<u8>, mend: fn(&mut Vec<u8>)) -> Vec<u8> {
+    let changes = if random.once_in(2) { 1 } else { random.within(2, 4) };
+    (0..changes).for_each(|_| scratch(random, &mut text));
+    if random.once_in(10) {
+        let other = kept.pick(random);
+        let (here, there) = (random.below(text.len() + 1), random.below(other.len() + 1));
+        text.splice(here.., other[there..].iter().copied());
+    }
+    if random.once_in(2) {
+        mend(&mut text);
+    }
+    text
+}
+
 impl Fuzz {
     fn new(seed: u64) -> Fuzz {
         let mut random = Random::new(seed);
-        let (mut texts, mut nets, mut sheets) = (Kept(BTreeMap::new()), Kept(BTreeMap::new()), Kept(BTreeMap::new()));
+        let (mut texts, mut drawings) = (Kept(BTreeMap::new()), Kept(BTreeMap::new()));
+        let (mut nets, mut sheets) = (Kept(BTreeMap::new()), Kept(BTreeMap::new()));
         for _ in 0..FIRST {
             let net = any(&mut random, 60);
             let wish = any_wish(&mut random, &net);
             texts.keep(0, input(&net, wish).0);
             sheets.keep(0, (net.clone(), first_sheet(&mut random, &net)));
+            drawings.keep(0, drawn(&mut random, &net).1.concat());
             nets.keep(0, net);
         }
-        Fuzz { random, tally: Tally::default(), texts, nets, sheets, known: HashSet::new(), tried: [0; 3] }
+        Fuzz { random, tally: Tally::default(), texts, nets, sheets, drawings, known: HashSet::new(), tried: [0; 4] }
     }
 
     /// A network's text behind a wish, with its out lines changed.
@@ -96,17 +118,24 @@ impl Fuzz {
             let most = if self.random.once_in(10) { 1000 } else { 60 };
             text = self.fresh(most);
         }
-        let changes = if self.random.once_in(2) { 1 } else { self.random.within(2, 4) };
-        (0..changes).for_each(|_| scratch(&mut self.random, &mut text));
-        if self.random.once_in(10) {
-            let other = self.texts.pick(&mut self.random);
-            let (here, there) = (self.random.below(text.len() + 1), self.random.below(other.len() + 1));
-            text.splice(here.., other[there..].iter().copied());
+        damaged(&mut self.random, &self.texts, text, mend)
+    }
+
+    /// The same of a drawing, where a new one is spoilt half the time.
+    fn redrawn(&mut self) -> Vec<u8> {
+        let random = &mut self.random;
+        let mut text = self.drawings.pick(random).clone();
+        if random.once_in(50) {
+            let most = *random.pick(&[6, 60, 60, 60, 60, 1000]);
+            let net = any(random, most);
+            let mut lines = drawn(random, &net).1;
+            let all: Vec<_> = ways().collect();
+            if random.once_in(2) {
+                random.pick(&all).2(random, &mut lines);
+            }
+            text = lines.concat();
         }
-        if self.random.once_in(2) {
-            mend(&mut text);
-        }
-        text
+        damaged(random, &self.drawings, text, drawings::mend)
     }
 
     /// A text through the planner and, behind its first line, through Read and the keeper.
@@ -184,6 +213,19 @@ impl Fuzz {
             self.sheets.keep(class, (net, text));
         }
     }
+
+    /// A drawing through the import.
+    fn drawing(&mut self) {
+        let text = self.redrawn();
+        import(&mut self.random, &mut self.tally, &text, any_length);
+        import(&mut self.random, &mut self.tally, &text, mostly_enough);
+        self.tried[3] += 1;
+        let manner = manner::drawn(&text);
+        let class = manner.class();
+        if self.known.insert(manner) && text.len() <= LONGEST {
+            self.drawings.keep(class, text);
+        }
+    }
 }
 
 fn main() {
@@ -195,18 +237,20 @@ fn main() {
     while start.elapsed() < Duration::from_secs(seconds) {
         (0..10).for_each(|_| fuzz.text());
         (0..5).for_each(|_| fuzz.sheet());
+        (0..5).for_each(|_| fuzz.drawing());
         fuzz.table();
     }
     fuzz.tally.lines().0.iter().for_each(|line| println!("{line}"));
-    let [texts, tables, sheets] = fuzz.tried;
+    let [texts, tables, sheets, drawings] = fuzz.tried;
     println!(
-        "{seconds} s from seed {seed}: {texts} texts, {tables} tables and {sheets} sheets tried, {} manners of answering met, \
-         {} texts, {} tables and {} sheets kept;\n\
+        "{seconds} s from seed {seed}: {texts} texts, {tables} tables, {sheets} sheets and {drawings} drawings tried, \
+         {} manners of answering met, {} texts, {} tables, {} sheets and {} drawings kept;\n\
          {} answers with their lists compared, 0 differ",
         fuzz.known.len(),
         fuzz.texts.count() - FIRST,
         fuzz.nets.count() - FIRST,
         fuzz.sheets.count() - FIRST,
+        fuzz.drawings.count() - FIRST,
         fuzz.tally.compared()
     );
 }
