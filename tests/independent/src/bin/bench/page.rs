@@ -45,12 +45,16 @@ fn beside_flow(rows: &[Row], better: &str, cost: impl Fn(&Row) -> Option<&Cost>)
 
 fn goals(page: &mut String, rows: &[Row]) {
     page.push_str("\n## Goals\n\n| goal | | worst |\n|---|---|---|\n");
-    for what in ["order", "split", "cut"] {
-        let of = |row: &Row| row.what.starts_with(what) && row.what != "order, by count";
+    let mut at_most = |what: &str, limit: f64, beside: &str, of: &dyn Fn(&Row) -> bool| {
         let (row, ratio) = worst(rows, |row| of(row).then(|| row.time.to_plain())).expect("a row");
         let shown = format!("{ratio:.2} times ({} {})", row.kind, row.n);
-        goal(page, &format!("`{what}` at most 1.5 times the plain version"), ratio <= 1.5, &shown);
+        goal(page, &format!("`{what}` at most {limit} times {beside}"), ratio <= limit, &shown);
+    };
+    for what in ["order", "split", "cut"] {
+        let of = |row: &Row| row.what.starts_with(what) && row.what != "order, by count";
+        at_most(what, 1.5, "the plain version", &of);
     }
+    at_most("import", 1.3, "`read` of the same links", &|row| row.what == "import, by read");
     let (ratio, mut shown) = beside_flow(rows, "faster", |row| Some(&row.time)).expect("a row");
     if let Some((_, counted)) = beside_flow(rows, "fewer", |row| row.count.as_ref()) {
         write!(shown, ". Instructions: {counted}").unwrap();
@@ -85,13 +89,15 @@ pub fn page(bench: &Bench, machine: &str) -> String {
     let mut page = format!(
         "# How fast it is\n\n\
          Written by `tests/bench`: the proved library beside an ordinary Rust program for the same operation (`tests/independent/src/swift.rs`,\n\
-         a scan over one array of keys, and `swift_text.rs`) and beside a flow program (Dinic on split relays, `flow.rs`), on the same networks in one run.\n\
+         a scan over one array of keys, `swift_text.rs` and `swift_dimacs.rs`) and beside a flow program (Dinic on split relays, `flow.rs`), on the same networks in one run.\n\
          The run was made on {machine}.\n\
-         Each time is the least of {batches} batches, in microseconds. Every operation but `read` and `plan` includes the table check.\n\
+         Each time is the least of {batches} batches, in microseconds. Every operation but `read`, `import` and `plan` includes the table check.\n\
          The flow program finds and writes its k routes; it checks nothing. A route joins the two ends of the widest stretch of places in\n\
          one tree of forest k, and `route with links` gives the indices of its links, too. `order, by count` sets the library's order beside\n\
          a plain scan that keeps the waiting relays by their count, as bits, as the library does. `plan` is the whole planner, from the bytes\n\
          of a wish and a network to the bytes of the sheet, and `verify` reads that sheet back with the table.\n\
+         `import` is given a drawing of the links without comments, the low end first in each line or, with `ends mixed`, in half of them; with\n\
+         `by read` the column of plain Rust has the library's own `read`, on a text of the same links without `out` lines.\n\
          Networks: `random` has three links a relay, `band` links each relay to the next three, `core` is a full network of 70 with a tree on it,\n\
          and `thinned` is `random` with each tenth relay withdrawn; in the others all are in service.\n\n\
          ![Time by size of the network](speed.svg)\n",

@@ -1,5 +1,6 @@
 //! The works of the benchmark: one list of rows, whether they are timed or counted.
 
+use independent::drawings::{exchange, plain};
 use independent::flow;
 use independent::forests::{earlier, places};
 use independent::library;
@@ -7,7 +8,7 @@ use independent::random::Random;
 use independent::sweep::Wish;
 use independent::table::Network;
 use independent::texts::input;
-use independent::{swift, swift_sheet, swift_text, text};
+use independent::{swift, swift_dimacs, swift_sheet, swift_text, text};
 use std::collections::HashSet;
 use std::hint::black_box;
 
@@ -26,6 +27,7 @@ pub fn each(measure: &mut dyn Measure) {
         for n in SIZES {
             let net = network(kind, n);
             operations(measure, kind, &net);
+            drawings(measure, kind, &net);
             routes(measure, kind, &net);
             eprintln!("{kind} {n}");
         }
@@ -105,6 +107,26 @@ fn operations(measure: &mut dyn Measure, kind: &'static str, net: &Network) {
     });
     row("split", &mut || run(library::split(net, &mut a)), &mut || run(swift::split(net, &mut c)));
     row("cut, k 2", &mut || run(library::cut(net, 2, &mut a)), &mut || run(swift::cut(net, 2, &mut c)));
+}
+
+/// The import of a drawing of the links, beside the plain program with the low end first and with the ends in either order, and beside
+/// the library's own Read of a text of the same links.
+fn drawings(measure: &mut dyn Measure, kind: &'static str, net: &Network) {
+    let serving = Network::serving(net.n, net.lows.clone(), net.highs.clone());
+    let written = text::text(&serving).into_bytes();
+    let (random, mut mixed) = (&mut Random::new(1), plain(net));
+    mixed.iter_mut().filter(|_| random.once_in(2)).for_each(exchange);
+    let [mut a, mut b, mut c, mut d] = [(); 4].map(|()| vec![0u16; 3000]);
+    let (mut e, mut f) = (vec![0u16; 1000], vec![0u16; 1000]);
+    for (what, text) in [("import", plain(net).concat()), ("import, ends mixed", mixed.concat())] {
+        assert_eq!(library::import(&text, &mut a, &mut b, &mut e).code, 0);
+        assert!(swift_dimacs::import(&text, &mut c, &mut d, &mut f).is_ok() && [&a, &b, &e] == [&c, &d, &f]);
+        let library: &mut dyn FnMut() = &mut || run(library::import(&text, &mut a, &mut b, &mut e));
+        measure.row(kind, net, what, &mut [library, &mut || run(swift_dimacs::import(&text, &mut c, &mut d, &mut f))]);
+    }
+    let drawn = plain(net).concat();
+    let library: &mut dyn FnMut() = &mut || run(library::import(&drawn, &mut a, &mut b, &mut e));
+    measure.row(kind, net, "import, by read", &mut [library, &mut || run(library::read(&written, &mut c, &mut d, &mut f))]);
 }
 
 fn planned(measure: &mut dyn Measure, kind: &'static str, net: &Network, wish: Wish) {
