@@ -66,8 +66,8 @@ extern "C" {
 #define NOLKISEI_STACK 262144
 
 /* What a function returns: 0 when it is done, or the number of its refusal. It writes both entries of `answer`: after a refusal its
- * place in the input (the byte offset for 2 and 14, the link's index for 5 to 7, 0 for a pair, else 0) and 0; done, the values named with
- * the function, and 0 for what is not named.
+ * place in the input (the byte offset for 2, 14 and 18, the link's index for 5 to 7, 0 for a pair, else 0) and 0; done, the values named
+ * with the function, and 0 for what is not named.
  * 'Unchanged' below means every entry of the list. After any other refusal than those named a list is unchanged. */
 enum nolkisei_refusal {
     NOLKISEI_DONE = 0,
@@ -75,9 +75,9 @@ enum nolkisei_refusal {
     NOLKISEI_FORM = 2,         /* the text departs from its form: at its first byte that does, or at its length */
     NOLKISEI_RELAY_COUNT = 3,  /* n is not 1 to 1,000 */
     NOLKISEI_LINK_COUNT = 4,   /* the lists have unequal lengths, or m is over 3,000 */
-    NOLKISEI_RELAY_RANGE = 5,  /* a relay number is not below n (of a pair: not below 1,000) */
-    NOLKISEI_NOT_BELOW = 6,    /* a link's low relay is not below its high relay */
-    NOLKISEI_REPEATED = 7,     /* an earlier link has the same pair */
+    NOLKISEI_RELAY_RANGE = 5,  /* a relay number is not below n (of a pair: not below 1,000; in a drawing: not 1 to n) */
+    NOLKISEI_NOT_BELOW = 6,    /* a link's low relay is not below its high relay; in a drawing, its two relays are equal */
+    NOLKISEI_REPEATED = 7,     /* an earlier link has the same pair; in a drawing, in either order */
     NOLKISEI_TABLE_ROOM = 8,   /* a table list is shorter than m, or a state list shorter than n */
     NOLKISEI_ROUTE_COUNT = 9,  /* k is not 1 to 32 */
     NOLKISEI_END_RANGE = 10,   /* `from` or `to` is not below n */
@@ -88,7 +88,8 @@ enum nolkisei_refusal {
     NOLKISEI_SHEET_COUNT = 15, /* a sheet's k is not 1 to 32 */
     NOLKISEI_STATES = 16,      /* the state list is not n long, or has an entry other than 0 and 1; in a text, the relay of an `out`
                                   line is not below n or not above the one before */
-    NOLKISEI_WITHDRAWN = 17    /* `from` or `to` is withdrawn */
+    NOLKISEI_WITHDRAWN = 17,   /* `from` or `to` is withdrawn */
+    NOLKISEI_DRAWING_FORM = 18 /* a drawing departs from its form: at its first byte that does, or at its length */
 };
 
 /* The table check: 3, 4, then link by link 5, 6, 7, and last 16. All functions below that take a table begin with it. */
@@ -104,6 +105,19 @@ uint32_t nolkisei_pair(uint16_t a, uint16_t b, uint64_t answer[2]);
  * three lists are all zeros. Each list may be longer than it need be. */
 uint32_t nolkisei_read(const uint8_t *text, size_t text_length, uint16_t *lows, size_t lows_length, uint16_t *highs,
                        size_t highs_length, uint16_t *states, size_t states_length, uint64_t answer[2]);
+
+/* Imports a drawing in the DIMACS edge format into a table, with all relays in service. A drawing's text, of any length, each line ended
+ * by byte 10, single spaces, numbers as in a network's text:
+ *
+ *    c ANYTHING                     a comment: c alone, or c, a space and any or no bytes other than 10; any number of them, anywhere
+ *    p edge N M                     one such line
+ *    e U V                          M such lines behind it, relays counted from 1, in either order
+ *
+ * The links come in the order of their lines, with numbers one lower and the lower one as the low relay.
+ * 18 where it is met; 3, 4, 8 behind the line p; behind a line e 5 for U or V not 1 to N, 6 for U equal to V, and 7, with the place of the
+ * line among those of e, from 0. answer and lists are as of nolkisei_read, and each list may be longer than it need be. */
+uint32_t nolkisei_import(const uint8_t *text, size_t text_length, uint16_t *lows, size_t lows_length, uint16_t *highs,
+                         size_t highs_length, uint16_t *states, size_t states_length, uint64_t answer[2]);
 
 /* Writes a table's text: the table check, then 12 where the buffer is shorter than the text.
  * answer: the text's length in bytes. Done, the text stands at the buffer's start and the rest is unchanged. */

@@ -1,5 +1,5 @@
 /* Document 01's examples through the C header: P1 to P12 as they are since #104 of document 02, with the links that #101 asks for,
- * and the others; and the mesh without relay 2 (#105). */
+ * and the others; the mesh without relay 2 (#105), and as a drawing (#106). */
 #include "nolkisei.h"
 #include <stdio.h>
 #include <string.h>
@@ -215,6 +215,44 @@ static void refused_states(void) {
        NOLKISEI_TABLE_ROOM);
 }
 
+/* What the import says of a drawing. */
+static uint64_t import_text(const char *text) {
+    return nolkisei_import((const uint8_t *)text, strlen(text), LENT(lows), LENT(highs), LENT(states), answer);
+}
+
+/* A drawing that is refused with this number, at this place, and leaves zeros. */
+static void undrawn(const char *what, const char *text, uint64_t number, uint64_t place) {
+    lows[0] = highs[0] = states[0] = 7;
+    is(what, import_text(text), number);
+    is(what, answer[0], place);
+    is(what, answer[1] | lows[0] | highs[0] | states[0], 0);
+}
+
+/* The mesh as a drawing, and drawings that are refused (#106). */
+static void drawings(void) {
+    const char *mesh = "c the mesh\np edge 5 7\ne 1 2\nc\ne 3 1\ne 2 3\ne 4 2\ne 3 4\ne 5 3\nc \ne 4 5\nc end\n";
+    is("a drawing", import_text(mesh), 0);
+    is("a drawing, n", answer[0], 5);
+    is("a drawing, m", answer[1], 7);
+    list("a drawing, lows", lows, (const uint16_t[]){0, 0, 1, 1, 2, 2, 3, 0}, 8);
+    list("a drawing, highs", highs, (const uint16_t[]){1, 2, 2, 3, 3, 4, 4, 0}, 8);
+    list("a drawing, states", states, (const uint16_t[]){1, 1, 1, 1, 1, 0}, 6);
+    is("a drawing, 6 lows", nolkisei_import((const uint8_t *)mesh, strlen(mesh), lows, 6, LENT(highs), LENT(states), answer),
+       NOLKISEI_TABLE_ROOM);
+    is("a drawing, 4 states", nolkisei_import((const uint8_t *)mesh, strlen(mesh), LENT(lows), LENT(highs), states, 4, answer),
+       NOLKISEI_TABLE_ROOM);
+    undrawn("no drawing", "", NOLKISEI_DRAWING_FORM, 0);
+    undrawn("cx", "cx\n", NOLKISEI_DRAWING_FORM, 1);
+    undrawn("p col", "c\np col 3 1\n", NOLKISEI_DRAWING_FORM, 4);
+    undrawn("e 01 2", "p edge 3 1\ne 01 2\n", NOLKISEI_DRAWING_FORM, 14);
+    undrawn("an e line too many", "p edge 3 1\ne 1 2\ne 1 3\n", NOLKISEI_DRAWING_FORM, 17);
+    undrawn("drawn, n 0", "p edge 0 3001\n", NOLKISEI_RELAY_COUNT, 0);
+    undrawn("drawn, m 3,001", "p edge 1 3001\n", NOLKISEI_LINK_COUNT, 0);
+    undrawn("e 0 1", "p edge 3 2\ne 3 2\ne 0 1\n", NOLKISEI_RELAY_RANGE, 1);
+    undrawn("e 2 2", "p edge 3 2\ne 3 2\nc\ne 2 2\n", NOLKISEI_NOT_BELOW, 1);
+    undrawn("e 2 3", "p edge 3 2\ne 3 2\ne 2 3\n", NOLKISEI_REPEATED, 1);
+}
+
 /* The longest text: 3,000 links whose numbers have three digits, and all relays withdrawn. */
 static void longest_text(void) {
     static uint8_t text[NOLKISEI_TEXT + 1];
@@ -243,6 +281,7 @@ int main(void) {
     others();
     withdrawn();
     refused_states();
+    drawings();
     longest_text();
     printf("document 01's examples through the C header: %s\n", failed ? "some differ" : "as printed");
     return failed != 0;

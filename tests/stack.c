@@ -13,9 +13,10 @@
 
 typedef struct {
     uint16_t n, k, from, to;
-    size_t m, length, sheet_length;
+    size_t m, length, sheet_length, drawing_length;
     uint16_t lows[NOLKISEI_LINKS], highs[NOLKISEI_LINKS], states[NOLKISEI_RELAYS];
     uint8_t text[NOLKISEI_TEXT], sheet[NOLKISEI_SHEET];
+    char drawing[NOLKISEI_TEXT];
 } network;
 
 static network large, small, thin;
@@ -44,6 +45,10 @@ static void pair(const network *net) { returned = nolkisei_pair(net->to, net->fr
 
 static void read_text(const network *net) {
     returned = nolkisei_read(net->text, net->length, LENT(first), LENT(second), LENT(third), answer);
+}
+
+static void import(const network *net) {
+    returned = nolkisei_import((const uint8_t *)net->drawing, net->drawing_length, LENT(first), LENT(second), LENT(third), answer);
 }
 
 static void write_text(const network *net) { returned = nolkisei_write(TABLE, LENT(output), answer); }
@@ -80,6 +85,15 @@ static void verify(const network *net) {
     returned = nolkisei_verify(TABLE, net->sheet, net->sheet_length, answer);
 }
 
+/* The network as a drawing, with a comment in front of each line and the high relay first. */
+static void draw(network *net) {
+    char *end = net->drawing + sprintf(net->drawing, "c\np edge %u %zu\n", (unsigned)net->n, net->m);
+    for (size_t i = 0; i < net->m; i++) {
+        end += sprintf(end, "c \ne %u %u\n", net->highs[i] + 1u, net->lows[i] + 1u);
+    }
+    net->drawing_length = (size_t)(end - net->drawing);
+}
+
 /* A path over the relays 100 to `path`, and every pair among the last `core` relays. The others are in service or withdrawn. */
 static void make(network *net, uint16_t n, uint16_t path, uint16_t core, uint16_t k, uint16_t others) {
     net->n = n, net->k = k, net->from = n - 1, net->to = n - 2, net->m = 0;
@@ -96,6 +110,7 @@ static void make(network *net, uint16_t n, uint16_t path, uint16_t core, uint16_
     }
     nolkisei_write(TABLE, LENT(net->text), answer);
     net->length = answer[0];
+    draw(net);
     plan(net);
     net->sheet_length = answer[0];
     memcpy(net->sheet, output, net->sheet_length);
@@ -136,9 +151,9 @@ int main(void) {
     static const struct {
         const char *name;
         void (*call)(const network *);
-    } calls[] = {{"check", check}, {"pair", pair},   {"read", read_text}, {"write", write_text},       {"order", order},
-                 {"split", split}, {"cut", cut},     {"route", route},    {"route_links", route_links}, {"plan", plan},
-                 {"keep", keep},   {"verify", verify}};
+    } calls[] = {{"check", check}, {"pair", pair}, {"read", read_text}, {"import", import},           {"write", write_text},
+                 {"order", order}, {"split", split}, {"cut", cut},      {"route", route},             {"route_links", route_links},
+                 {"plan", plan},   {"keep", keep}, {"verify", verify}};
     int failed = 0;
     make(&large, 1000, 174, 77, 32, 1);
     make(&small, 28, 0, 28, 27, 1);
