@@ -113,9 +113,10 @@ uint32_t nolkisei_read(const uint8_t *text, size_t text_length, uint16_t *lows, 
  *    p edge N M                     one such line
  *    e U V                          M such lines behind it, relays counted from 1, in either order
  *
- * The links come in the order of their lines, with numbers one lower and the lower one as the low relay.
- * 18 where it is met; 3, 4, 8 behind the line p; behind a line e 5 for U or V not 1 to N, 6 for U equal to V, and 7, with the place of the
- * line among those of e, from 0. answer and lists are as of nolkisei_read, and each list may be longer than it need be. */
+ * The links come in the order of their lines, with numbers one lower, the lower one as the low relay.
+ * 18 where it is met; 3, 4, 8 behind the line of p; behind a line of e 5 where U or V is not 1 to N, 6 where they are equal, 7 where an
+ * earlier line has the two in either order. The place of 5 to 7 is the line's index among those of e, from 0. Answer and lists are as of
+ * nolkisei_read. */
 uint32_t nolkisei_import(const uint8_t *text, size_t text_length, uint16_t *lows, size_t lows_length, uint16_t *highs,
                          size_t highs_length, uint16_t *states, size_t states_length, uint64_t answer[2]);
 
