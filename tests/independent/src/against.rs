@@ -1,10 +1,11 @@
 //! The proved library against the second version: the same answers and lists from both, and what must hold of them.
 
 use crate::boundaries::{boundaries, withdrawn};
+use crate::drawings::drawn;
 use crate::facts::{first_relay, forest_counts, kept, parts};
 use crate::flow::greatest;
 use crate::generate::{any, damage};
-use crate::imported::{drawings, every_byte};
+use crate::imported::{drawings, every_byte, import};
 use crate::lengths::{Lengths, any_length, mostly_enough};
 use crate::library::{self, Report};
 use crate::printed::{KEEP, PLAN, keep_input, printed};
@@ -188,6 +189,8 @@ fn exactly(random: &mut Random, tally: &mut Tally, net: &Network) {
     let (input, line) = input(net, wish);
     written(random, tally, net, exact);
     read(random, tally, &input[line..], exact);
+    let drawing = drawn(random, net).1.concat();
+    import(random, tally, &drawing, exact);
     ordered(random, tally, net, exact);
     routed(random, tally, net, wish, exact);
     printed(random, tally, &PLAN, &input, exact);
