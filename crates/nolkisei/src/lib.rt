@@ -3,6 +3,7 @@
 ghost use mathlib.Core.Path.{_≡_};
 ghost use Rattle.definitions.specs.Network.{pairAnswer, tableCheck};
 ghost use Rattle.definitions.specs.Text.{readAnswer, lowsAfter, highsAfter, statesAfter, writeAnswer, bufferAfter};
+ghost use Rattle.definitions.specs.Dimacs.{importAnswer, importLows, importHighs, importStates};
 ghost use Rattle.definitions.specs.Order.{orderAnswer, relaysAfter, placesAfter};
 ghost use Rattle.definitions.specs.Forests.{splitAnswer, forestsAfter, cutAnswer, marksAfter};
 ghost use Rattle.definitions.specs.Over.{routeLinksAnswer, routeLinksCounts, routeLinksRelays, routeLinksLinks, routeLinksScratch};
@@ -23,7 +24,6 @@ use network::Relay;
 use routes::RouteAnswer;
 use sheet::into::PrintAnswer;
 use sheet_check::SheetAnswer;
-use text::ReadAnswer;
 use text::WriteAnswer;
 
 // The table check.
@@ -68,10 +68,24 @@ pub extern "C" fn nolkisei_read(
     ensures highList { λ _. ⌜ now (highs .exit) ≡ highsAfter (now (text .entry)) (now (lows .entry)) (now (highs .entry)) (now (states .entry)) ⌝ }
     ensures stateList { λ _. ⌜ now (states .exit) ≡ statesAfter (now (text .entry)) (now (lows .entry)) (now (highs .entry)) (now (states .entry)) ⌝ }
 {
-    match text::read(text, lows, highs, states) {
-        ReadAnswer::Table(n, m) => report::give(n as u64, m as u64, answer),
-        ReadAnswer::Refused(refusal) => report::refuse(refusal, answer),
-    }
+    report::table(text::read(text, lows, highs, states), answer)
+}
+
+// Import: a drawing in the DIMACS edge format into a table, all relays in service.
+#[no_mangle]
+pub extern "C" fn nolkisei_import(
+    text: &[u8],
+    lows: &mut [u16],
+    highs: &mut [u16],
+    states: &mut [u16],
+    answer: &mut [u64; 2],
+) -> u32
+    ensures answer { λ r. ⌜ reported (importAnswer (now (text .entry)) (now (lows .entry)) (now (highs .entry)) (now (states .entry))) ≡ (r, now (answer .exit)) ⌝ }
+    ensures lowList { λ _. ⌜ now (lows .exit) ≡ importLows (now (text .entry)) (now (lows .entry)) (now (highs .entry)) (now (states .entry)) ⌝ }
+    ensures highList { λ _. ⌜ now (highs .exit) ≡ importHighs (now (text .entry)) (now (lows .entry)) (now (highs .entry)) (now (states .entry)) ⌝ }
+    ensures stateList { λ _. ⌜ now (states .exit) ≡ importStates (now (text .entry)) (now (lows .entry)) (now (highs .entry)) (now (states .entry)) ⌝ }
+{
+    report::table(dimacs::import(text, lows, highs, states), answer)
 }
 
 // Write: the text of a table into the buffer.
