@@ -81,12 +81,15 @@ judged drawing roomLows roomHighs roomStates =
     let n = drawing .relays in
     sized n (length (drawing .edges)) roomLows roomHighs roomStates (judgedEdges n [] [] (drawing .edges))
 
--- The edges are these links in turn: "relays from 1", and "Ends may come in either order".
+-- "relays from 1", and "Ends may come in either order": a line `e U V` is the link a b.
+abbrev pub DrawsLink : (u v a b : ℕ) → Type 0
+DrawsLink u v a b = ((u ≡ a + 1) × (v ≡ b + 1)) ⊎ ((u ≡ b + 1) × (v ≡ a + 1))
+
+-- The edges are these links in turn.
 abbrev pub Draws : (edges : List EdgeLine) (lows highs : List ℕ) → Type 0
 Draws [] [] [] = Unit {0}
 Draws [] [] (b ∷ highs) = ⊥
 Draws [] (a ∷ lows) highs = ⊥
 Draws (edge ∷ edges) [] highs = ⊥
 Draws (edge ∷ edges) (a ∷ lows) [] = ⊥
-Draws (edge ∷ edges) (a ∷ lows) (b ∷ highs) =
-    (((edge .u ≡ a + 1) × (edge .v ≡ b + 1)) ⊎ ((edge .u ≡ b + 1) × (edge .v ≡ a + 1))) × Draws edges lows highs
+Draws (edge ∷ edges) (a ∷ lows) (b ∷ highs) = DrawsLink (edge .u) (edge .v) a b × Draws edges lows highs

@@ -5,18 +5,17 @@ use mathlib.Core.Bool.{Bool, true, false, true≢false}
 use mathlib.Core.List.{List, [], _∷_, _++_}
 use mathlib.Core.Path.{_≡_, refl, sym, _∙_, ap}
 use native.Mathlib.Omega.{arith}
-use lib.Dec.{eqb, leb}
 use lib.ListN.{length, take, set}
 use lib.Seq.{length-take-le}
-use borrow.Author.Tests.{lt-ltb, lt-leb, le-leb, leb-true, eq-eqb, eqb-true}
+use borrow.Author.Tests.{lt-ltb}
 use Rattle.definitions.specs.Outcome.{refused, refuseIf}
 use Rattle.definitions.specs.Lists.{outside}
-use Rattle.definitions.specs.Network.{linkFault}
 use Rattle.definitions.specs.Form.{departs, reads, onScan}
 use Rattle.definitions.specs.Text.{Network}
 use Rattle.definitions.specs.Dimacs.{edgeForm, scanLine, lowEnd, highEnd, edgeFault, readEdges}
 use Rattle.lists.specs.Ranges.{inside, below, above, inside-range}
-use Rattle.lists.specs.Tests.{or-left, or-right, or-neither, or-false, tests-same}
+use Rattle.lists.specs.Tests.{or-left, or-right, or-neither, or-false}
+use Rattle.text_theory.specs.EdgeFaults.{edge-link-fault}
 use Rattle.network.specs.Answers.{refusalOf}
 use Rattle.network.specs.Seen.{faultOf, LinkChecked, Seen, seen-fault}
 use Rattle.network.specs.declared.LinkCheck.{LinkCheck}
@@ -27,20 +26,6 @@ use Rattle.text.specs.Read.{fine-link}
 use Rattle.text.specs.Rows.{LinkRead}
 use Rattle.text.specs.declared.rows.Step.the-variants.{Next, Refused}
 use Rattle.dimacs.specs.Edges.{outOfRange, EdgeChecked}
-
--- Both ends within range: the fault of an edge is that of the link that it is.
-edge-link-fault : (n : ℕ) (lows highs : List ℕ) (u v : ℕ) → outOfRange n u v ≡ false
-    → edgeFault n lows highs u v ≡ linkFault n lows highs (length lows) (lowEnd u v) (highEnd u v)
-unfolding edgeFault linkFault lowEnd highEnd
-edge-link-fault n lows highs u v e =
-    let (first, second) = or-false (outside 1 n u) (outside 1 n v) e in
-    let (one, few) = inside-range 1 n u first in
-    let (two, less) = inside-range 1 n v second in
-    let same : leb (highEnd u v) (lowEnd u v) ≡ eqb u v =
-    tests-same (leb (highEnd u v) (lowEnd u v)) (eqb u v)
-    (λ t. eq-eqb u v (omega (arith, leb-true (highEnd u v) (lowEnd u v) t)))
-    (λ t. le-leb (highEnd u v) (lowEnd u v) (omega (arith, eqb-true u v t))) in
-    rw (e, lt-leb n (lowEnd u v) (omega arith), lt-leb n (highEnd u v) (omega arith), same)
 
 -- An end out of range, and both within it.
 module _ (n u v : ℕ) (bits : List ℕ) where

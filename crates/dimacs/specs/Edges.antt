@@ -1,4 +1,4 @@
--- What reading a line behind comments, checking an edge and reading what is behind the last one promise. Assumes nothing.
+-- What checking an edge and reading what is behind the last one promise. Assumes nothing.
 use Prim.Native.Nat.{ℕ}
 use mathlib.Core.Bool.{Bool, true, false, _||_}
 use mathlib.Core.List.{List}
@@ -6,17 +6,11 @@ use mathlib.Core.Path.{_≡_}
 use lib.ListN.{replicate}
 use Rattle.definitions.specs.Outcome.{done}
 use Rattle.definitions.specs.Lists.{outside}
-use Rattle.definitions.specs.Form.{bytes, Item}
 use Rattle.definitions.specs.Dimacs.{lowEnd, highEnd, readEdges}
 use Rattle.network.specs.Seen.{faultOf, LinkChecked}
 use Rattle.network.specs.declared.LinkCheck.{LinkCheck}
 use Rattle.text.specs.Rows.{onStep}
-use Rattle.text.specs.Scans.{pairForm}
 use Rattle.text.specs.declared.rows.Step.{Step}
-
--- A line of two numbers behind a word, each line ended by byte 10.
-abbrev pub numbersBehind : (front : List ℕ) → List Item
-numbersBehind front = pairForm front (bytes " ") (bytes "\n")
 
 -- "5 for U or V outside 1 to N"
 abbrev pub outOfRange : (n u v : ℕ) → Bool

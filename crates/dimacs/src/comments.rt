@@ -1,12 +1,9 @@
 // Comment lines, wherever they stand, and the lines of two numbers behind them.
-ghost use mathlib.Core.Bool.{true};
 ghost use mathlib.Core.Path.{_≡_};
 ghost use Prim.Native.Nat.{_-_};
 ghost use lib.ListN.{length};
-ghost use Rattle.definitions.specs.Dimacs.{behindWords, scanComment, scanComments, scanLine};
-ghost use Rattle.text_theory.specs.Forms.{noZero};
+ghost use Rattle.definitions.specs.Dimacs.{problemForm, edgeForm, behindWords, scanComment, scanComments, scanLine};
 ghost use Rattle.text.specs.Scans.{wordGives, pairGives};
-ghost use Rattle.dimacs.specs.Edges.{numbersBehind};
 use text::scan;
 use text::scan::PairScan;
 use text::scan::WordScan;
@@ -63,13 +60,23 @@ pub(crate) fn comments(text: &[u8], at: usize) -> WordScan
     WordScan::Reads(p)
 }
 
-// A line of two numbers with this word in front of them, behind comments.
-pub(crate) fn pair_behind(text: &[u8], front: &[u8], at: usize) -> PairScan
-    requires { ⌜ noZero (now front) ≡ true ⌝ }
-    ensures { λ r. ⌜ pairGives r ≡ scanLine (now (text .entry)) (numbersBehind (now (front .entry))) at ⌝ }
+// `p edge N M` behind the comments at the front of the text. This line and the next are functions of their own, each called once, so that
+// the compiler takes them in where they are called and hands no answer on through memory.
+pub(crate) fn problem_line(text: &[u8]) -> PairScan
+    ensures { λ r. ⌜ pairGives r ≡ scanLine (now (text .entry)) problemForm 0 ⌝ }
+{
+    match comments(text, 0) {
+        WordScan::Departs(p) => PairScan::Departs(p),
+        WordScan::Reads(p) => scan::pair_line(text, b"p edge ", b" ", b"\n", p),
+    }
+}
+
+// `e U V` behind comments.
+pub(crate) fn edge_line(text: &[u8], at: usize) -> PairScan
+    ensures { λ r. ⌜ pairGives r ≡ scanLine (now (text .entry)) edgeForm at ⌝ }
 {
     match comments(text, at) {
         WordScan::Departs(p) => PairScan::Departs(p),
-        WordScan::Reads(p) => scan::pair_line(text, front, b" ", b"\n", p),
+        WordScan::Reads(p) => scan::pair_line(text, b"e ", b" ", b"\n", p),
     }
 }

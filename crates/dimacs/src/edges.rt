@@ -67,7 +67,7 @@ fn read_edge(
     ensures { λ r. ⌜ LinkRead (readEdges (now (text .entry)) n) n i at (now (lows .entry)) (now (highs .entry)) (now (lows .exit))
         (now (highs .exit)) (now (seen .exit)) r ⌝ }
 {
-    match comments::pair_behind(text, b"e ", at) {
+    match comments::edge_line(text, at) {
         PairScan::Departs(p) => Step::Refused(Refusal::DrawingForm(p)),
         PairScan::Reads(u, v, next) => match check_edge(n, u, v, rows, seen) {
             LinkCheck::RelayRange => Step::Refused(Refusal::RelayRange(i)),

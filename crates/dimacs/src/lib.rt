@@ -79,7 +79,7 @@ fn import_table(text: &[u8], lows: &mut [u16], highs: &mut [u16], states: &mut [
         (length (now (states .entry)))) (now (lows .entry)) (now (highs .entry)) (now (states .entry)) (now (lows .exit))
         (now (highs .exit)) (now (states .exit)) r ⌝ }
 {
-    match comments::pair_behind(text, b"p edge ", 0) {
+    match comments::problem_line(text) {
         PairScan::Departs(p) => ReadAnswer::Refused(Refusal::DrawingForm(p)),
         PairScan::Reads(n, m, p) => import_rows(text, n, m, p, lows, highs, states),
     }

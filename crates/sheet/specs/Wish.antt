@@ -5,7 +5,8 @@ use mathlib.Core.Path.{_≡_, refl, sym, _∙_, ap}
 use Rattle.definitions.specs.Form.{bytes, Item, word, numeral, Scan, departs, reads, scanWord, scanNumber, scanItem, withFront, following, scanForm}
 use Rattle.definitions.specs.Plan.{wishForm}
 use Rattle.text.specs.Scans.{pairForm}
-use Rattle.text.specs.ItemByItem.{front-none, form-word}
+use Rattle.text_theory.specs.Forms.{front-none}
+use Rattle.text.specs.ItemByItem.{form-word}
 use Rattle.sheet.specs.declared.wish.WishScan.{WishScan}
 use Rattle.sheet.specs.declared.wish.WishScan.the-variants as wishes
 

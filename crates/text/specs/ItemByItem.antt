@@ -16,12 +16,7 @@ use Rattle.definitions.specs.Form.{
   following,
   scanForm,
 }
-
--- No number in front changes nothing.
-pub front-none : (s : Scan) → withFront [] s ≡ s
-unfolding withFront
-front-none (departs q) = refl
-front-none (reads values q) = refl
+use Rattle.text_theory.specs.Forms.{front-none}
 
 -- What follows a departure, and what follows where no number was read.
 pub following-departs : (s : Scan) (next : ℕ → Scan) (q : ℕ) → s ≡ departs q → following s next ≡ departs q

@@ -2,11 +2,14 @@
 use Prim.Native.Nat.{ℕ, _≤_, _<_}
 use mathlib.Core.Bool.{true, false}
 use mathlib.Core.Path.{_≡_, sym, _∙_, ap, subst}
+use lib.Dec.{ltb}
 use borrow.Author.Tests.{lt-ltb, le-ltb}
 use Rattle.definitions.specs.Outcome.{Outcome, refused, refuseIf}
 use Rattle.definitions.specs.Lists.{outside}
 use Rattle.definitions.specs.Text.{Network, sized}
 use Rattle.lists.specs.Ranges.{inside}
+use Rattle.lists.specs.Tests.{or-neither}
+use Rattle.text_theory.specs.Sized.{sized-passed}
 use Rattle.network.specs.Answers.{refusalOf}
 use Rattle.network.specs.declared.Check.{Check}
 use Rattle.network.specs.declared.Check.the-variants.{Accepted, Refused}
@@ -71,17 +74,17 @@ module _ (n m roomLows roomHighs roomStates : ℕ) where
         }
 
   pub has-room : HasRoom n m roomLows roomHighs roomStates → Checks Accepted
-  unfolding refuseIf
   has-room room =
       record {
         decides = λ rest.
-            rw (
-              inside 1 1000 n (room .some) (room .few),
-              le-ltb 3000 m (room .short),
-              le-ltb roomLows m (room .inLows),
-              le-ltb roomHighs m (room .inHighs),
-              le-ltb roomStates n (room .inStates),
-            );
+            sized-passed n m roomLows roomHighs roomStates rest
+            (record {
+              size = inside 1 1000 n (room .some) (room .few);
+              few = room .short;
+              room =
+                  or-neither (ltb roomLows m) _ (le-ltb roomLows m (room .inLows))
+                  (or-neither (ltb roomHighs m) _ (le-ltb roomHighs m (room .inHighs)) (le-ltb roomStates n (room .inStates)));
+            });
         room = room;
       }
 

@@ -10,12 +10,13 @@ use lib.ListN.{length}
 use borrow.Author.Tests.{eqb-true, eq-eqb}
 use Rattle.definitions.specs.Outcome.{pick}
 use Rattle.definitions.specs.Lists.{has}
-use Rattle.definitions.specs.Form.{bytes, Scan, departs, reads, byteAt, scanWord, withFront, following}
+use Rattle.definitions.specs.Form.{bytes, departs, reads, byteAt, scanWord, following}
 use Rattle.definitions.specs.Dimacs.{behindWords, scanComment}
 use Rattle.definitions.specs.DimacsText.{Comment, alone, saying, commentLine}
 use Rattle.lists.specs.Tests.{or-false, or-neither}
 use Rattle.lists.specs.Parts.{Part, part-empty, part-cons, part-head, part-tail, part-first, part-second}
 use Rattle.text_theory.specs.Numbers.{byte-within, byte-then}
+use Rattle.text_theory.specs.Forms.{front-none}
 
 -- A comment line without its line end.
 unfoldable pub commentFront : (comment : Comment) → List ℕ
@@ -34,12 +35,8 @@ endDue text p = pick (eqb (byteAt text (p + 1)) 32) (behindWords text (p + 1 + 1
 -- A line that begins with c is read if its line end stands where it is due, and departs there if not.
 pub comment-scan : (text : List ℕ) (p : ℕ) → eqb (byteAt text p) 99 ≡ true
     → scanComment text p ≡ pick (eqb (byteAt text (endDue text p)) 10) (reads [] (endDue text p + 1)) (departs (endDue text p))
-unfolding scanComment scanWord following withFront endDue
-comment-scan text p c = rw c (without (scanWord text (10 ∷ []) (endDue text p)))
-  where
-    without : (scan : Scan) → withFront [] scan ≡ scan
-    without (departs q) = refl
-    without (reads values q) = refl
+unfolding scanComment scanWord following endDue
+comment-scan text p c = rw c (front-none (scanWord text (10 ∷ []) (endDue text p)))
 
 -- Words that a line end stops are passed, and what was passed has no line end.
 words-read : (words text : List ℕ) (p q most : ℕ) → has words 10 ≡ false → length words ≤ most → byteAt text q ≡ 10

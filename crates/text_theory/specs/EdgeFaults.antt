@@ -3,71 +3,55 @@
 use Prim.Native.Nat.{ℕ, _+_, _≤_, _<_, min, max}
 use mathlib.Core.Bool.{Bool, true, false, _||_}
 use mathlib.Core.List.{List}
-use mathlib.Core.Logic.{_⊎_, inl, inr, _≢_}
-use mathlib.Core.Path.{_≡_, refl}
+use mathlib.Core.Logic.{inl, inr}
+use mathlib.Core.Path.{_≡_, refl, sym, _∙_}
 use native.Mathlib.Omega.{arith}
-use lib.Dec.{eqb, ltb}
+use lib.Dec.{eqb, ltb, leb}
 use lib.ListN.{length}
-use borrow.Author.Tests.{eqb-false, ne-eqb, ltb-true, ltb-false}
+use borrow.Author.Tests.{eq-eqb, eqb-true, ltb-true, ltb-false, lt-leb, le-leb, leb-true}
 use Rattle.definitions.specs.Outcome.{pick}
 use Rattle.definitions.specs.Lists.{outside, someBelow}
 use Rattle.definitions.specs.Network.{isPair, linkFault}
 use Rattle.definitions.specs.Dimacs.{lowEnd, highEnd, edgeFault}
+use Rattle.definitions.specs.DimacsText.{DrawsLink}
 use Rattle.lists.specs.Ranges.{inside, inside-range}
-use Rattle.lists.specs.Tests.{or-false, or-neither}
-use Rattle.theory.specs.Accepted.{fault-none, no-fault}
+use Rattle.lists.specs.Tests.{or-false, or-neither, tests-same}
+use Rattle.theory.specs.Accepted.{fault-none}
 
--- "relays from 1", "Ends may come in either order": the line draws the link a b.
-abbrev pub DrawsLink : (u v a b : ℕ) → Type 0
-DrawsLink u v a b = ((u ≡ a + 1) × (v ≡ b + 1)) ⊎ ((u ≡ b + 1) × (v ≡ a + 1))
+-- Both ends within range: the fault of a line is that of the link that it draws.
+pub edge-link-fault : (n : ℕ) (lows highs : List ℕ) (u v : ℕ) → (outside 1 n u || outside 1 n v) ≡ false
+    → edgeFault n lows highs u v ≡ linkFault n lows highs (length lows) (lowEnd u v) (highEnd u v)
+unfolding edgeFault linkFault lowEnd highEnd
+edge-link-fault n lows highs u v e =
+    let (first, second) = or-false (outside 1 n u) (outside 1 n v) e in
+    let (one, few) = inside-range 1 n u first in
+    let (two, less) = inside-range 1 n v second in
+    let same : leb (highEnd u v) (lowEnd u v) ≡ eqb u v =
+    tests-same (leb (highEnd u v) (lowEnd u v)) (eqb u v)
+    (λ t. eq-eqb u v (omega (arith, leb-true (highEnd u v) (lowEnd u v) t)))
+    (λ t. le-leb (highEnd u v) (lowEnd u v) (omega (arith, eqb-true u v t))) in
+    rw (e, lt-leb n (lowEnd u v) (omega arith), lt-leb n (highEnd u v) (omega arith), same)
 
--- What a line without fault has, and what makes one.
-record GoodEdge (n : ℕ) (lows highs : List ℕ) (u v : ℕ) : Type 0 where
-  some : (1 ≤ u) × (u ≤ n)
-  other : (1 ≤ v) × (v ≤ n)
-  apart : u ≢ v
-  isNew : someBelow (isPair lows highs (lowEnd u v) (highEnd u v)) (length lows) ≡ false
-
-edge-good : (n : ℕ) (lows highs : List ℕ) (u v : ℕ) → edgeFault n lows highs u v ≡ 0 → GoodEdge n lows highs u v
+-- A line without fault has both ends within range.
+edge-range : (n : ℕ) (lows highs : List ℕ) (u v : ℕ) → edgeFault n lows highs u v ≡ 0 → (outside 1 n u || outside 1 n v) ≡ false
 unfolding edgeFault
-edge-good n lows highs u v none =
-    go (outside 1 n u || outside 1 n v) refl (eqb u v) refl
-    (someBelow (isPair lows highs (lowEnd u v) (highEnd u v)) (length lows)) refl none
+edge-range n lows highs u v none =
+    go (outside 1 n u || outside 1 n v) (pick (eqb u v) 6 (pick (someBelow (isPair lows highs (lowEnd u v) (highEnd u v)) (length lows)) 7 0))
+    none
   where
-    go : (s : Bool) → (outside 1 n u || outside 1 n v) ≡ s → (t : Bool) → eqb u v ≡ t → (d : Bool)
-        → someBelow (isPair lows highs (lowEnd u v) (highEnd u v)) (length lows) ≡ d
-        → _≡_ {A = ℕ} (pick s 5 (pick t 6 (pick d 7 0))) 0 → GoodEdge n lows highs u v
-    go true five t six d seven z = absurd (omega arith)
-    go false five true six d seven z = absurd (omega arith)
-    go false five false six true seven z = absurd (omega arith)
-    go false five false six false seven z =
-        let each = or-false (outside 1 n u) (outside 1 n v) five in
-        record {
-          some = inside-range 1 n u (each .0);
-          other = inside-range 1 n v (each .1);
-          apart = eqb-false u v six;
-          isNew = seven;
-        }
-
-good-edge : (n : ℕ) (lows highs : List ℕ) (u v : ℕ) → GoodEdge n lows highs u v → edgeFault n lows highs u v ≡ 0
-unfolding edgeFault
-good-edge n lows highs u v good =
-    let five = or-neither (outside 1 n u) (outside 1 n v) (inside 1 n u (good .some .0) (good .some .1))
-    (inside 1 n v (good .other .0) (good .other .1)) in
-    rw (five, ne-eqb u v (good .apart), good .isNew)
+    go : (s : Bool) (rest : ℕ) → _≡_ {A = ℕ} (pick s 5 rest) 0 → s ≡ false
+    go true rest z = absurd (omega arith)
+    go false rest z = refl
 
 -- The link of a line without fault has none, and the line draws it.
 pub edge-link : (n : ℕ) (lows highs : List ℕ) (u v : ℕ) → edgeFault n lows highs u v ≡ 0
     → (linkFault n lows highs (length lows) (lowEnd u v) (highEnd u v) ≡ 0) × DrawsLink u v (lowEnd u v) (highEnd u v)
 unfolding lowEnd highEnd
 edge-link n lows highs u v none =
-    let good = edge-good n lows highs u v none in
-    let (someU, fewU) = good .some in
-    let (someV, fewV) = good .other in
-    let apart = good .apart in (
-      no-fault n lows highs (length lows) (lowEnd u v) (highEnd u v)
-          (record { below = omega arith; ordered = omega arith; isNew = good .isNew }),
-      go (ltb u v) refl someU someV,
+    let range = edge-range n lows highs u v none in
+    let (first, second) = or-false (outside 1 n u) (outside 1 n v) range in (
+      sym (edge-link-fault n lows highs u v range) ∙ none,
+      go (ltb u v) refl (inside-range 1 n u first .0) (inside-range 1 n v second .0),
     )
   where
     go : (b : Bool) → ltb u v ≡ b → 1 ≤ u → 1 ≤ v → DrawsLink u v (lowEnd u v) (highEnd u v)
@@ -94,14 +78,9 @@ link-edge n lows highs u v a b none draws =
     let (lower, higher) = ends u v a b ordered draws in
     let low : lowEnd u v ≡ a = omega arith in
     let high : highEnd u v ≡ b = omega arith in
-    let good : GoodEdge n lows highs u v =
-    record {
-      some = (omega arith, omega arith);
-      other = (omega arith, omega arith);
-      apart = λ e. omega arith;
-      isNew = rw (low, high) (link .isNew);
-    } in
-    (good-edge n lows highs u v good, low, high)
+    let range : (outside 1 n u || outside 1 n v) ≡ false =
+    or-neither (outside 1 n u) (outside 1 n v) (inside 1 n u (omega arith) (omega arith)) (inside 1 n v (omega arith) (omega arith)) in
+    (edge-link-fault n lows highs u v range ∙ rw (low, high) none, low, high)
 
 -- The faults of a line are 5, 6 and 7.
 pub fault-not-eighteen : (n : ℕ) (lows highs : List ℕ) (u v : ℕ) → edgeFault n lows highs u v ≡ 18 → ⊥

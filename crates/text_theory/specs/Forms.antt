@@ -163,6 +163,12 @@ form-read (numeral ∷ items) behind (x ∷ values) text p q good fits clear par
       form-read items true values text (p + length (decimal x)) q goodRest (fits .1) clear partRest,
     )
 
+-- No number in front changes nothing.
+pub front-none : (scan : Scan) → withFront [] scan ≡ scan
+unfolding withFront
+front-none (departs q) = refl
+front-none (reads values q) = refl
+
 -- What two readings, one behind the other, gave.
 pub record Followed (scan : Scan) (next : ℕ → Scan) (values : List ℕ) (q : ℕ) : Type 0 where
   pub front : List ℕ

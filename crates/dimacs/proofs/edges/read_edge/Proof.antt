@@ -1,10 +1,8 @@
 -- `dimacs::edges::read_edge` meets its contract: the line departs, the edge has a fault, or its link is stored. Assumes nothing.
-use mathlib.Core.Path.{refl, sym, _∙_, ap}
+use mathlib.Core.Path.{sym, _∙_, ap}
 use native.Mathlib.Omega.{arith}
 use borrow.Author.Needs.{needs}
 use denote.Ref.{now}
-use Rattle.definitions.specs.Dimacs.{edgeForm}
-use Rattle.text_theory.specs.Forms.{noZero}
 use Rattle.network.specs.Seen.{faultOf}
 use Rattle.network.specs.declared.Refusal.the-variants.{RelayRange, NotBelow, Repeated}
 use Rattle.text.specs.Scans.{pairGives}
@@ -12,12 +10,8 @@ use Rattle.dimacs.proofs.EdgeLaws.{fine-ends, read-departs, read-faulty
 use Rattle.dimacs.proofs.edges.read_edge.Statement.{statement}
 use Rattle.dimacs.proofs.edges.read_edge.Tie as tie
 
-slice-aggregate-pair-behind : tie.Need-slice-aggregate-pair-behind
-slice-aggregate-pair-behind c = search needs
-
-pair-behind-requires : tie.Need-pair-behind-requires
-unfolding noZero
-pair-behind-requires c κs = refl
+edge-line-requires : tie.Need-edge-line-requires
+edge-line-requires c κs = search needs
 
 enum-known-p : tie.Need-enum-known-p
 enum-known-p c = search needs
@@ -27,7 +21,7 @@ enum-known-u c = search needs
 
 check-edge-requires : tie.Need-check-edge-requires
 check-edge-requires c κs =
-    let start = c .before .before .before .before .before .before .before .before .before .before .before in
+    let start = c .before .before .before .before .before .before .before .before .before .before in
     (start .pre .0 .0, start .pre .1 .0, start .pre .1 .1 .room)
 
 enum-told : tie.Need-enum-told
@@ -64,60 +58,56 @@ slice-write-highs : tie.Need-slice-write-highs
 slice-write-highs c = search needs
 
 returns : tie.Need-returns
-unfolding edgeForm
 returns c =
     let atLine = c .before .before .before in
-    let a = atLine .before .before .before .before .before .before .before .args in
+    let a = atLine .before .before .before .before .before .before .args in
     read-departs (now (a .text)) (a .n) (a .i) (a .at) (now (a .lows)) (now (a .highs)) _ _
-    (sym (atLine .pair-behind .ensures) ∙ ap pairGives (c .before .p .given .1))
+    (sym (atLine .edge-line .ensures) ∙ ap pairGives (c .before .p .given .1))
 
 same-length : tie.Need-same-length
 same-length c = search needs
 
 returns-2 : tie.Need-returns-2
-unfolding edgeForm
 returns-2 c =
     let atCheck = c .before .before .before .before in
     let atU = atCheck .before .before .before in
     let atLine = atU .before .before in
-    let start = atLine .before .before .before .before .before .before .before in
+    let start = atLine .before .before .before .before .before .before in
     let a = start .args in
     let fault = ap faultOf (c .enum-told .given .1) in
     read-faulty (now (a .text)) (a .n) (a .i) (a .at) (now (a .lows)) (now (a .highs)) (now (a .seen)) _ _ _ _ _
     (start .pre .0 .1) (start .pre .0 .2) (start .pre .1 .1) (atCheck .check-edge .ensures)
-    (sym (atLine .pair-behind .ensures) ∙ ap pairGives (atU .u .given .1)) (RelayRange (a .i)) (omega (arith, fault)) (rw fault)
+    (sym (atLine .edge-line .ensures) ∙ ap pairGives (atU .u .given .1)) (RelayRange (a .i)) (omega (arith, fault)) (rw fault)
 
 same-length-2 : tie.Need-same-length-2
 same-length-2 c = search needs
 
 returns-3 : tie.Need-returns-3
-unfolding edgeForm
 returns-3 c =
     let atCheck = c .before .before .before .before in
     let atU = atCheck .before .before .before in
     let atLine = atU .before .before in
-    let start = atLine .before .before .before .before .before .before .before in
+    let start = atLine .before .before .before .before .before .before in
     let a = start .args in
     let fault = ap faultOf (c .enum-told2 .given .1) in
     read-faulty (now (a .text)) (a .n) (a .i) (a .at) (now (a .lows)) (now (a .highs)) (now (a .seen)) _ _ _ _ _
     (start .pre .0 .1) (start .pre .0 .2) (start .pre .1 .1) (atCheck .check-edge .ensures)
-    (sym (atLine .pair-behind .ensures) ∙ ap pairGives (atU .u .given .1)) (NotBelow (a .i)) (omega (arith, fault)) (rw fault)
+    (sym (atLine .edge-line .ensures) ∙ ap pairGives (atU .u .given .1)) (NotBelow (a .i)) (omega (arith, fault)) (rw fault)
 
 same-length-3 : tie.Need-same-length-3
 same-length-3 c = search needs
 
 returns-4 : tie.Need-returns-4
-unfolding edgeForm
 returns-4 c =
     let atCheck = c .before .before .before .before in
     let atU = atCheck .before .before .before in
     let atLine = atU .before .before in
-    let start = atLine .before .before .before .before .before .before .before in
+    let start = atLine .before .before .before .before .before .before in
     let a = start .args in
     let fault = ap faultOf (c .enum-told3 .given .1) in
     read-faulty (now (a .text)) (a .n) (a .i) (a .at) (now (a .lows)) (now (a .highs)) (now (a .seen)) _ _ _ _ _
     (start .pre .0 .1) (start .pre .0 .2) (start .pre .1 .1) (atCheck .check-edge .ensures)
-    (sym (atLine .pair-behind .ensures) ∙ ap pairGives (atU .u .given .1)) (Repeated (a .i)) (omega (arith, fault)) (rw fault)
+    (sym (atLine .edge-line .ensures) ∙ ap pairGives (atU .u .given .1)) (Repeated (a .i)) (omega (arith, fault)) (rw fault)
 
 same-length-4 : tie.Need-same-length-4
 same-length-4 c = search needs
@@ -129,25 +119,23 @@ same-length-6 : tie.Need-same-length-6
 same-length-6 c = search needs
 
 returns-5 : tie.Need-returns-5
-unfolding edgeForm
 returns-5 c =
     let atTold = c .before .before in
     let atCheck = atTold .before .before .before .before in
     let atU = atCheck .before .before .before in
     let atLine = atU .before .before in
-    let start = atLine .before .before .before .before .before .before .before in
+    let start = atLine .before .before .before .before .before .before in
     let a = start .args in
     read-fine (now (a .text)) (a .n) (a .i) (a .at) (now (a .lows)) (now (a .highs)) (now (a .seen)) _ _ _ _ _
     (start .pre .0 .1) (start .pre .0 .2) (start .pre .1 .1) (atCheck .check-edge .ensures)
-    (sym (atLine .pair-behind .ensures) ∙ ap pairGives (atU .u .given .1)) _ _ (c .before .low-end .ensures) (c .high-end .ensures)
+    (sym (atLine .edge-line .ensures) ∙ ap pairGives (atU .u .given .1)) _ _ (c .before .low-end .ensures) (c .high-end .ensures)
     (ap faultOf (atTold .enum-told4 .given .1))
 
 pub read-edge-spec : {M : Type 1} → statement M
 read-edge-spec =
     tie.close
     (tie.spec
-    slice-aggregate-pair-behind
-    pair-behind-requires
+    edge-line-requires
     enum-known-p
     enum-known-u
     check-edge-requires

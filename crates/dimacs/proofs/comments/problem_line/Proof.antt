@@ -1,12 +1,13 @@
--- `dimacs::comments::pair_behind` meets its contract: a comment departs, or the line is read behind them. Assumes nothing.
+-- `dimacs::comments::problem_line` meets its contract: a comment departs, or the `p` line is read behind them. Assumes nothing.
 use mathlib.Core.Path.{refl, sym, _∙_, ap}
 use borrow.Author.Needs.{needs}
 use denote.Ref.{now}
+use Rattle.definitions.specs.Dimacs.{problemForm}
 use Rattle.text_theory.specs.Forms.{noZero}
 use Rattle.text.specs.Scans.{wordGives}
 use Rattle.dimacs.proofs.CommentLaws.{line-departs, line-reads}
-use Rattle.dimacs.proofs.comments.pair_behind.Statement.{statement}
-use Rattle.dimacs.proofs.comments.pair_behind.Tie as tie
+use Rattle.dimacs.proofs.comments.problem_line.Statement.{statement}
+use Rattle.dimacs.proofs.comments.problem_line.Tie as tie
 
 comments-requires : tie.Need-comments-requires
 comments-requires c κs = search needs
@@ -23,26 +24,30 @@ slice-aggregate-pair-line c = search needs
 slice-aggregate-pair-line-2 : tie.Need-slice-aggregate-pair-line-2
 slice-aggregate-pair-line-2 c = search needs
 
+slice-aggregate-pair-line-3 : tie.Need-slice-aggregate-pair-line-3
+slice-aggregate-pair-line-3 c = search needs
+
 pair-line-requires : tie.Need-pair-line-requires
 unfolding noZero
-pair-line-requires c κs = (c .before .before .before .before .before .before .before .before .pre, (refl, refl))
+pair-line-requires c κs = (refl, (refl, refl))
 
 returns : tie.Need-returns
 returns c =
     let atComments = c .before .before .before in
-    let a = atComments .before .before .before .args in
-    sym (line-departs (now (a .text)) _ (a .at) _ (sym (atComments .comments .ensures) ∙ ap wordGives (c .before .p .given .1)))
+    let a = atComments .before .before .args in
+    sym (line-departs (now (a .text)) problemForm 0 _ (sym (atComments .comments .ensures) ∙ ap wordGives (c .before .p .given .1)))
 
 returns-2 : tie.Need-returns-2
+unfolding problemForm
 returns-2 c =
-    let atP = c .before .before .before .before in
+    let atP = c .before .before .before .before .before in
     let atComments = atP .before .before in
-    let a = atComments .before .before .before .args in
+    let a = atComments .before .before .args in
     c .pair-line .ensures
-    ∙ sym (line-reads (now (a .text)) _ (a .at) _ (sym (atComments .comments .ensures) ∙ ap wordGives (atP .p2 .given .1)))
+    ∙ sym (line-reads (now (a .text)) problemForm 0 _ (sym (atComments .comments .ensures) ∙ ap wordGives (atP .p2 .given .1)))
 
-pub pair-behind-spec : {M : Type 1} → statement M
-pair-behind-spec =
+pub problem-line-spec : {M : Type 1} → statement M
+problem-line-spec =
     tie.close
     (tie.spec
     comments-requires
@@ -50,6 +55,7 @@ pair-behind-spec =
     enum-known-p-2
     slice-aggregate-pair-line
     slice-aggregate-pair-line-2
+    slice-aggregate-pair-line-3
     pair-line-requires
     returns
     returns-2)
