@@ -7,10 +7,11 @@ use mathlib.Core.Path.{_≡_}
 use lib.ListN.{length, replicate}
 use Rattle.definitions.specs.Outcome.{refused, done}
 use Rattle.definitions.specs.Network.{Accepted}
-use Rattle.definitions.specs.Text.{Network, sized}
+use Rattle.definitions.specs.Text.{Network, sized, readNetwork}
 use Rattle.definitions.specs.Departs.{DepartsFrom}
 use Rattle.definitions.specs.Dimacs.{importNetwork}
-use Rattle.definitions.specs.DimacsText.{Drawing, CommentsFit, DrawingFits, EdgeLine, dimacsText, judged, Draws}
+use Rattle.definitions.specs.DimacsText.{Drawing, DrawingFits, dimacsText, judged, Draws}
+use Rattle.definitions.specs.Import.{importText}
 
 -- No number that comes before is refused: the import gives no other refusal than 18.
 abbrev pub NumbersPass : (text : List ℕ) (roomLows roomHighs roomStates : ℕ) → Type 0
@@ -48,3 +49,9 @@ pub record ImportPromise (roomLows roomHighs roomStates : ℕ) : Type 0 where
       → importNetwork (dimacsText drawing) roomLows roomHighs roomStates
       ≡ sized (drawing .relays) (length lows) roomLows roomHighs roomStates
       (done (record { relays = drawing .relays; lows = lows; highs = highs; states = replicate (drawing .relays) 1 }))
+
+-- What the program prints of a drawing that it imports is the text of that network: Read gives it back.
+abbrev pub PrintedRead : Type 0
+PrintedRead =
+    (input : List ℕ) (network : Network) → importNetwork input 3000 3000 1000 ≡ done network
+    → readNetwork (importText input) 3000 3000 1000 ≡ done network

@@ -22,8 +22,8 @@ pub mod ReadBackPromise
 pub mod Departs
 pub mod Dimacs
 pub mod DimacsText
-pub mod ImportPromise
 pub mod Import
+pub mod ImportPromise
 pub mod Networks
 pub mod Opened
 pub mod PExamples

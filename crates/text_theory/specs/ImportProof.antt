@@ -1,18 +1,26 @@
 -- What the import promises, proved for every room. Assumes nothing.
 use Prim.Native.Nat.{ℕ}
+use mathlib.Core.Bool.{false, _||_}
 use mathlib.Core.List.{List, []}
 use mathlib.Core.Path.{_≡_, sym, _∙_, ap}
 use native.Mathlib.Omega.{arith}
+use lib.Dec.{ltb}
 use lib.ListN.{length, replicate}
+use borrow.Author.Tests.{le-ltb}
 use Rattle.definitions.specs.Outcome.{done}
 use Rattle.definitions.specs.Network.{Accepted}
 use Rattle.definitions.specs.Text.{Network, sized}
 use Rattle.definitions.specs.Dimacs.{importNetwork}
 use Rattle.definitions.specs.DimacsText.{Drawing, DrawingFits, dimacsText, judgedEdges, judged, Draws}
-use Rattle.definitions.specs.ImportPromise.{ImportedAs, ImportPromise}
+use Rattle.definitions.specs.Plan.{printed}
+use Rattle.definitions.specs.Import.{networkText, importText}
+use Rattle.definitions.specs.ImportPromise.{ImportedAs, ImportPromise, PrintedRead}
+use Rattle.lists.specs.Outcomes.{refuse-not}
+use Rattle.theory.specs.Accepted.{accepted}
 use Rattle.text_theory.specs.LinkByLink.{accepted-faultless, faultless-accepted}
 use Rattle.text_theory.specs.OutByOut.{all-serve}
 use Rattle.text_theory.specs.Sized.{sized-done}
+use Rattle.text_theory.specs.RoundTrip.{read-written}
 use Rattle.text_theory.specs.DimacsRoundTrip.{drawing-read}
 use Rattle.text_theory.specs.JudgedEdges.{drawn, judged-good, good-judged, draws-many}
 use Rattle.text_theory.specs.DimacsRead.{import-written}
@@ -72,3 +80,16 @@ import-promise roomLows roomHighs roomStates =
       back = λ drawing lows highs states check draws fits.
           drawn-back drawing lows highs states roomLows roomHighs roomStates check draws fits;
     }
+
+-- The printed text of what was imported is read back.
+pub printed-read : PrintedRead
+unfolding importText printed networkText
+printed-read input network e =
+    let n = network .relays in
+    let m = length (network .lows) in
+    let check = imported-as input 3000 3000 1000 network e .accepted in
+    let table = accepted n (network .lows) (network .highs) (network .states) check in
+    let full = ltb 3000 m || (ltb 3000 m || ltb 1000 n) in
+    let some : full ≡ false = rw (le-ltb 3000 m (table .short), le-ltb 1000 n (table .few)) in
+    rw e
+    (read-written n (network .lows) (network .highs) (network .states) check 3000 3000 1000 ∙ refuse-not full 8 0 (done network) some)
