@@ -1,9 +1,6 @@
 // The table of a network: relay numbers and places, pair numbers, and the table check. What each refusal and answer
 // stands for is said in specs/Answers.antt, what the marks of the links seen so far hold in specs/Seen.antt.
-use row_starts::first_row_starts;
 use row_starts::row_start;
-use row_starts::row_starts;
-use states::states_check;
 ghost use mathlib.Core.Bool.{_||_};
 ghost use mathlib.Core.Path.{_≡_};
 ghost use Prim.Native.Nat.{_+_, _<_, _≤_};
@@ -251,11 +248,11 @@ fn all_links_check(n: u16, lows: &[u16], highs: &[u16]) -> Check
         return links_check(n, lows, highs, &front, &mut fewest);
     }
     if n <= 128 {
-        let first = first_row_starts();
+        let first = row_starts::first_row_starts();
         let mut few = no_pairs_of_128();
         return links_check(n, lows, highs, &first, &mut few);
     }
-    let rows = row_starts();
+    let rows = row_starts::row_starts();
     if n <= 512 {
         let mut more = no_pairs_of_512();
         return links_check(n, lows, highs, &rows, &mut more);
@@ -280,7 +277,7 @@ pub fn table_check(n: u16, lows: &[u16], highs: &[u16], states: &[u16]) -> Check
     if 3000 < lows.len() {
         return Check::Refused(Refusal::LinkCount);
     }
-    states_check(all_links_check(n, lows, highs), n, states)
+    states::states_check(all_links_check(n, lows, highs), n, states)
 }
 
 // The pair number of the link a b.
@@ -298,6 +295,6 @@ pub fn pair_number(a: Relay, b: Relay) -> Pair
     if high <= low {
         return Pair::Refused(Refusal::NotBelow(0));
     }
-    let rows = row_starts();
+    let rows = row_starts::row_starts();
     Pair::Number(pair_index(low, high, &rows))
 }

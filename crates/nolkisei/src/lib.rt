@@ -18,8 +18,6 @@ mod report;
 use forests::CutAnswer;
 use forests::OrderAnswer;
 use forests::SplitAnswer;
-use network::Check;
-use network::Pair;
 use network::Relay;
 use routes::RouteAnswer;
 use sheet::into::PrintAnswer;
@@ -38,8 +36,8 @@ pub extern "C" fn nolkisei_check(
     ensures { λ r. ⌜ reported (tableCheck n (now (lows .entry)) (now (highs .entry)) (now (states .entry))) ≡ (r, now (answer .exit)) ⌝ }
 {
     match network::table_check(n, lows, highs, states) {
-        Check::Accepted => report::give(0, 0, answer),
-        Check::Refused(refusal) => report::refuse(refusal, answer),
+        network::Check::Accepted => report::give(0, 0, answer),
+        network::Check::Refused(refusal) => report::refuse(refusal, answer),
     }
 }
 
@@ -49,8 +47,8 @@ pub extern "C" fn nolkisei_pair(a: u16, b: u16, answer: &mut [u64; 2]) -> u32
     ensures { λ r. ⌜ reported (pairAnswer a b) ≡ (r, now (answer .exit)) ⌝ }
 {
     match network::pair_number(Relay(a), Relay(b)) {
-        Pair::Number(number) => report::give(number as u64, 0, answer),
-        Pair::Refused(refusal) => report::refuse(refusal, answer),
+        network::Pair::Number(number) => report::give(number as u64, 0, answer),
+        network::Pair::Refused(refusal) => report::refuse(refusal, answer),
     }
 }
 
