@@ -53,7 +53,8 @@ importExamples =
     -- Zeros behind the links and states, whatever stood there.
     ∷ takes "p edge 3 1\ne 3 1\n" (done (3 ∷ 1 ∷ [])) ((0 ∷ 0 ∷ []) ∷ (2 ∷ 0 ∷ []) ∷ (1 ∷ 1 ∷ 1 ∷ 0 ∷ []) ∷ [])
     ∷ takes "p edge 1 0\n" (done (1 ∷ 0 ∷ [])) ((0 ∷ 0 ∷ []) ∷ (0 ∷ 0 ∷ []) ∷ (1 ∷ 0 ∷ 0 ∷ 0 ∷ []) ∷ [])
-    -- "any or no bytes other than 10": byte 0 too.
+    -- Comments behind the last `e` line; and "any or no bytes other than 10": byte 0 too.
+    ∷ takes "p edge 3 1\ne 1 2\nc a\nc b\n" (done (3 ∷ 1 ∷ [])) ((0 ∷ 0 ∷ []) ∷ (1 ∷ 0 ∷ []) ∷ (1 ∷ 1 ∷ 1 ∷ 0 ∷ []) ∷ [])
     ∷ imports (bytes "c " ++ (0 ∷ 255 ∷ 13 ∷ []) ++ bytes "\np edge 1 0\n") 0 0 1 (done (1 ∷ 0 ∷ [])) ([] ∷ [] ∷ (1 ∷ []) ∷ [])
     -- 18: nothing at all; `c` and another byte; a comment without its line end; another word than `edge`.
     ∷ refuses "" 18 0
@@ -65,7 +66,7 @@ importExamples =
     ∷ refuses "p edge 3 1\ne 01 2\n" 18 14
     ∷ refuses "p edge 10000 1\n" 18 11
     ∷ refuses "p edge 3 1 \n" 18 10
-    ∷ takes "p edge 3 1\ne 1 2\nc a\nc b\n" (done (3 ∷ 1 ∷ [])) ((0 ∷ 0 ∷ []) ∷ (1 ∷ 0 ∷ []) ∷ (1 ∷ 1 ∷ 1 ∷ 0 ∷ []) ∷ [])
+    ∷ imports (bytes "p edge 3 1" ++ (13 ∷ 10 ∷ [])) 0 0 0 (refused 18 10) ([] ∷ [] ∷ [] ∷ [])
     -- An `e` line before the `p` line, too few of them, too many, a second `p` line, a blank line.
     ∷ refuses "e 1 2\np edge 3 1\n" 18 0
     ∷ refuses "p edge 3 2\ne 1 2\n" 18 17

@@ -22,7 +22,7 @@ use Rattle.network.specs.declared.LinkCheck.{LinkCheck}
 use Rattle.network.specs.declared.LinkCheck.the-variants as link
 use Rattle.network.specs.declared.Refusal.{Refusal}
 use Rattle.network.specs.declared.Refusal.the-variants.{DrawingForm}
-use Rattle.text.specs.Read.{fine-link}
+use Rattle.text.specs.Read.{stopped-link, fine-link}
 use Rattle.text.specs.Rows.{LinkRead}
 use Rattle.text.specs.declared.rows.Step.the-variants.{Next, Refused}
 use Rattle.dimacs.specs.Edges.{outOfRange, EdgeChecked}
@@ -100,12 +100,8 @@ module _ (text : List ℕ) (n i at : ℕ) (lows highs : List ℕ) where
   pub read-departs : (then : List ℕ) (p : ℕ) → scanLine text edgeForm at ≡ departs p
       → LinkRead (readEdges text n) n i at lows highs lows highs then (Refused (DrawingForm p))
   read-departs then p e =
-      record {
-        follows = λ count. edge-departs text n (take i lows) (take i highs) at count p e;
-        seen = tt;
-        sameLows = refl;
-        sameHighs = refl;
-      }
+      stopped-link (readEdges text n) n i at lows highs then (DrawingForm p)
+      (λ count. edge-departs text n (take i lows) (take i highs) at count p e)
 
   module _ (bits : List ℕ) (u v p : ℕ) (then : List ℕ) (r : LinkCheck) (lowRoom : i < length lows) (highRoom : i < length highs)
       (marks : Seen n bits (take i lows) (take i highs) i) (checked : EdgeChecked n u v bits then r)
@@ -119,14 +115,9 @@ module _ (text : List ℕ) (n i at : ℕ) (lows highs : List ℕ) where
     pub read-faulty : (refusal : Refusal) → 0 < faultOf r → refusalOf {A = Network} refusal ≡ refused (faultOf r) i
         → LinkRead (readEdges text n) n i at lows highs lows highs then (Refused refusal)
     read-faulty refusal h e =
-        record {
-          follows = λ count.
-              edge-faulty text n (take i lows) (take i highs) at count u v p (faultOf r) scanned fault-of h
-              ∙ ap (refused (faultOf r)) count-of ∙ sym e;
-          seen = tt;
-          sameLows = refl;
-          sameHighs = refl;
-        }
+        stopped-link (readEdges text n) n i at lows highs then refusal
+        (λ count. edge-faulty text n (take i lows) (take i highs) at count u v p (faultOf r) scanned fault-of h
+        ∙ ap (refused (faultOf r)) count-of ∙ sym e)
 
     pub read-fine : (low high : ℕ) → low ≡ lowEnd u v → high ≡ highEnd u v → faultOf r ≡ 0
         → LinkRead (readEdges text n) n i at lows highs (set lows i low) (set highs i high) then (Next p)

@@ -27,7 +27,7 @@ use Rattle.text.specs.declared.WriteAnswer.{WriteAnswer}
 use Rattle.text.specs.declared.WriteAnswer.the-variants as written
 use Rattle.sheet.specs.ReadStage.{Rooms, FrontTable, reading-refused, reading-done, whole-put}
 use Rattle.sheet.specs.RefusedLine.{LinePut}
-use Rattle.importer.specs.Whole.{Printed}
+use Rattle.importer.specs.Printed.{Printed}
 
 -- Write with an accepted network and room for every text.
 module _ (n : ℕ) (lows highs states buffer : List ℕ) (good : Accepted n lows highs states) (roomy : 54929 ≤ length buffer) where

@@ -1,2 +1,2 @@
 -- What the importer's functions leave in its output.
-pub mod Whole
+pub mod Printed

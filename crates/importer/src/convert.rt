@@ -6,7 +6,7 @@ ghost use Rattle.definitions.specs.Lists.{overwrite};
 ghost use Rattle.definitions.specs.Network.{Accepted};
 ghost use Rattle.definitions.specs.Text.{textOf};
 ghost use Rattle.definitions.specs.Import.{importText};
-ghost use Rattle.importer.specs.Whole.{Printed};
+ghost use Rattle.importer.specs.Printed.{Printed};
 use dimacs::import;
 use sheet::refusal::put_any;
 use sheet::rooms;

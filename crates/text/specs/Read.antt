@@ -71,6 +71,13 @@ clear-end list i h =
     let e : length list - i ≡ 0 = omega arith in
     rw (take-all i list h, e) (append-nil list)
 
+-- A line that is refused leaves the lists as they were, however it is read.
+pub stopped-link : (reading : LineReading) (n i at : ℕ) (lows highs then : List ℕ) (refusal : Refusal)
+    → ((count : ℕ) → reading (take i lows) (take i highs) at (suc count) ≡ refusalOf refusal)
+    → LinkRead reading n i at lows highs lows highs then (Refused refusal)
+stopped-link reading n i at lows highs then refusal stops =
+    record { follows = stops; seen = tt; sameLows = refl; sameHighs = refl }
+
 -- A link with no fault is stored and its pair marked, however its line is read.
 pub fine-link : (reading : LineReading) (n i at : ℕ) (lows highs bits : List ℕ) (a b p : ℕ) (then : List ℕ) (r : LinkCheck)
     → i < length lows → i < length highs → Seen n bits (take i lows) (take i highs) i → LinkChecked n a b bits then r → faultOf r ≡ 0
@@ -101,12 +108,8 @@ module _ (text : List ℕ) (n i at : ℕ) (lows highs : List ℕ) where
   pub read-departs : (then : List ℕ) (p : ℕ) → scanForm text linkForm at ≡ departs p
       → LinkRead (readLinks text n) n i at lows highs lows highs then (Refused (Form p))
   read-departs then p e =
-      record {
-        follows = λ count. link-departs text n (take i lows) (take i highs) at count p e;
-        seen = tt;
-        sameLows = refl;
-        sameHighs = refl;
-      }
+      stopped-link (readLinks text n) n i at lows highs then (Form p)
+      (λ count. link-departs text n (take i lows) (take i highs) at count p e)
 
   module _ (bits : List ℕ) (a b p : ℕ) (then : List ℕ) (r : LinkCheck) (lowRoom : i < length lows) (highRoom : i < length highs)
       (marks : Seen n bits (take i lows) (take i highs) i) (checked : LinkChecked n a b bits then r)
@@ -120,14 +123,9 @@ module _ (text : List ℕ) (n i at : ℕ) (lows highs : List ℕ) where
     pub read-faulty : (refusal : Refusal) → 0 < faultOf r → refusalOf {A = Network} refusal ≡ refused (faultOf r) i
         → LinkRead (readLinks text n) n i at lows highs lows highs then (Refused refusal)
     read-faulty refusal h e =
-        record {
-          follows = λ count.
-              link-faulty text n (take i lows) (take i highs) at count a b p (faultOf r) scanned fault-of h
-              ∙ ap (refused (faultOf r)) count-of ∙ sym e;
-          seen = tt;
-          sameLows = refl;
-          sameHighs = refl;
-        }
+        stopped-link (readLinks text n) n i at lows highs then refusal
+        (λ count. link-faulty text n (take i lows) (take i highs) at count a b p (faultOf r) scanned fault-of h
+        ∙ ap (refused (faultOf r)) count-of ∙ sym e)
 
     pub read-fine : faultOf r ≡ 0
         → LinkRead (readLinks text n) n i at lows highs (set lows i a) (set highs i b) then (Next p)
