@@ -14,7 +14,8 @@ use Rattle.definitions.specs.Lists.{has}
 use Rattle.definitions.specs.Forests.{forestsOf}
 use Rattle.definitions.specs.Route.{routeAnswer, routesOf}
 use Rattle.definitions.specs.Text.{Network}
-use Rattle.definitions.specs.Demand.{LinkOf, InService, InForest, Along, uses, RouteHolds, Apart}
+use Rattle.definitions.specs.DisjointRoutes.{LinkOf, InService, Along, uses, RouteHolds, Apart}
+use Rattle.definitions.specs.Demand.{InForest}
 use Rattle.definitions.specs.Networks.{square, lent}
 use Rattle.definitions.specs.Opened.{opened}
 

@@ -1,17 +1,18 @@
 -- Document 01, 'What demand 3 speaks of', and demand 3 as one statement about the results of Order, Split, Cut and Route.
 -- The statement is a type; the crate `theory` proves it. Assumes nothing.
 use Prim.Native.Nat.{ℕ, _+_, _-_, _*_, _≤_, _<_}
-use mathlib.Core.Bool.{Bool, true, false, _||_}
+use mathlib.Core.Bool.{Bool, true, false}
 use mathlib.Core.List.{List, [], _∷_}
-use mathlib.Core.Logic.{_⊎_, _↔_, _≢_}
+use mathlib.Core.Logic.{_↔_, _≢_}
 use mathlib.Core.Path.{_≡_}
 use lib.Dec.{eqb}
 use lib.ListN.{length, getD, take, drop}
 use Rattle.definitions.specs.Outcome.{Answer, refused, done}
-use Rattle.definitions.specs.Lists.{table, has, count, total}
-use Rattle.definitions.specs.Network.{joins, linked, serves, linkServes, Accepted}
+use Rattle.definitions.specs.Lists.{table, count, total}
+use Rattle.definitions.specs.Network.{linked, serves, linkServes, Accepted}
 use Rattle.definitions.specs.Order.{servingRelays, linksAt, relaysAfter, placesAfter}
 use Rattle.definitions.specs.Forests.{forestsAfter, marksAfter}
+use Rattle.definitions.specs.DisjointRoutes.{LinkOf, InService, RouteHolds, Apart}
 use Rattle.definitions.specs.Route.{tooShort, routeAnswer, countsAfter, routeRelaysAfter}
 
 -- "Two relays are joined through live relays over some links if a chain of live relays, both of them included, leads from
@@ -19,14 +20,6 @@ use Rattle.definitions.specs.Route.{tooShort, routeAnswer, countsAfter, 
 pub data Joined (live : ℕ → Type 0) (link : ℕ → ℕ → Type 0) : ℕ → ℕ → Type 0 where
   alone : {a : ℕ} → live a → Joined live link a a
   onward : {a b c : ℕ} → live a → link a b → Joined live link b c → Joined live link a c
-
--- A link of the table, of those that the property picks by their index, joins a and b.
-abbrev pub LinkOf : (lows highs : List ℕ) (picked : ℕ → Type 0) (a b : ℕ) → Type 0
-LinkOf lows highs picked a b = (i : ℕ) × (i < length lows) × (joins lows highs a b i ≡ true) × picked i
-
--- "all the links means those with both ends in service" (document 02, #105)
-abbrev pub InService : (lows highs states : List ℕ) (i : ℕ) → Type 0
-InService lows highs states i = linkServes lows highs states i ≡ true
 
 -- "A link is kept if Cut marks it 1."
 abbrev pub Kept : (marks : List ℕ) (i : ℕ) → Type 0
@@ -50,46 +43,10 @@ deadCount n states dead = count dead (servingRelays n states)
 abbrev pub OneTree : (lows highs forests : List ℕ) (f a b : ℕ) → Type 0
 OneTree lows highs forests f a b = Joined (λ _. Unit {0}) (LinkOf lows highs (InForest forests f)) a b
 
--- "its links join each of its relays to the next"
-abbrev pub AlongFrom : (link : ℕ → ℕ → Type 0) (a : ℕ) (rest : List ℕ) → Type 0
-AlongFrom link a [] = Unit {0}
-AlongFrom link a (b ∷ rest) = link a b × AlongFrom link b rest
-
-abbrev pub Along : (link : ℕ → ℕ → Type 0) (route : List ℕ) → Type 0
-Along link [] = Unit {0}
-Along link (a ∷ rest) = AlongFrom link a rest
-
--- Link i of the table joins some relay of the route, from a on, to the next.
-unfoldable pub usesFrom : (lows highs : List ℕ) (i a : ℕ) (rest : List ℕ) → Bool
-usesFrom lows highs i a [] = false
-usesFrom lows highs i a (b ∷ rest) = joins lows highs a b i || usesFrom lows highs i b rest
-
-unfoldable pub uses : (lows highs : List ℕ) (i : ℕ) (route : List ℕ) → Bool
-uses lows highs i [] = false
-uses lows highs i (a ∷ rest) = usesFrom lows highs i a rest
-
--- No relay stands twice.
-abbrev pub NoRepeat : (route : List ℕ) → Type 0
-NoRepeat [] = Unit {0}
-NoRepeat (r ∷ rest) = (has rest r ≡ false) × NoRepeat rest
-
 -- "A route is as Route's two lists give it": the relay list cut up by the counts.
 unfoldable pub cutUp : (counts relays : List ℕ) → List (List ℕ)
 cutUp [] relays = []
 cutUp (size ∷ counts) relays = take size relays ∷ cutUp counts (drop size relays)
-
--- One route: from `from` to `to`, along links that the property picks by their index, repeating no relay.
-pub record RouteHolds (lows highs : List ℕ) (picked : ℕ → Type 0) (from to : ℕ) (route : List ℕ) : Type 0 where
-  pub long : 2 ≤ length route
-  pub starts : getD route 0 0 ≡ from
-  pub ends : getD route (length route - 1) 0 ≡ to
-  pub along : Along (LinkOf lows highs picked) route
-  pub noRepeat : NoRepeat route
-
--- Two routes: "sharing no link and no relay but the ends".
-pub record Apart (lows highs : List ℕ) (from to : ℕ) (one other : List ℕ) : Type 0 where
-  pub relays : (r : ℕ) → has one r ≡ true → has other r ≡ true → (r ≡ from) ⊎ (r ≡ to)
-  pub links : (i : ℕ) → i < length lows → uses lows highs i one ≡ true → uses lows highs i other ≡ true → ⊥
 
 -- The routes that Route's two lists give, and what it answers: "the sum of the k counts, which is also Route's answer".
 pub record RoutesHold (n : ℕ) (lows highs marks : List ℕ) (k from to : ℕ) (counts relays : List ℕ) : Type 0 where

@@ -15,7 +15,8 @@ use Rattle.definitions.specs.Form.{departs, reads, scanForm, writeForm}
 use Rattle.definitions.specs.Text.{Network, endForm, readNetwork}
 use Rattle.definitions.specs.Plan.{keptForm, refusedForm, room}
 use Rattle.definitions.specs.Lease.{keepForm, leaseForm, keptLinkForm, droppedLinkForm, idleLinkForm, droppedForm, withdrawnForm, keepText}
-use Rattle.definitions.specs.Demand.{Joined, LinkOf, InService, Kept, Live, deadCount}
+use Rattle.definitions.specs.DisjointRoutes.{LinkOf, InService}
+use Rattle.definitions.specs.Demand.{Joined, Kept, Live, deadCount}
 
 -- A line `(keep K)`, and behind it the text of an accepted network.
 pub record KeepAsked (input : List ℕ) (k : ℕ) (network : Network) : Type 0 where

@@ -11,6 +11,7 @@ pub mod Form
 pub mod Text
 pub mod Plan
 pub mod Lease
+pub mod DisjointRoutes
 pub mod Demand
 pub mod SheetHolds
 pub mod SheetPromise

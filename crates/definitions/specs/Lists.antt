@@ -3,6 +3,7 @@
 use Prim.Native.Nat.{ℕ, zero, suc, _+_, max}
 use mathlib.Core.Bool.{Bool, true, false, _||_}
 use mathlib.Core.List.{List, [], _∷_, _++_}
+use mathlib.Core.Path.{_≡_}
 use lib.Dec.{eqb, ltb}
 use lib.ListN.{length, drop, replicate}
 use Rattle.definitions.specs.Outcome.{pick}
@@ -89,3 +90,8 @@ greatest (x ∷ list) = max x (greatest list)
 unfoldable pub joinAll : List (List ℕ) → List ℕ
 joinAll [] = []
 joinAll (list ∷ lists) = list ++ joinAll lists
+
+-- No number stands twice.
+abbrev pub NoRepeat : (list : List ℕ) → Type 0
+NoRepeat [] = Unit {0}
+NoRepeat (x ∷ list) = (has list x ≡ false) × NoRepeat list

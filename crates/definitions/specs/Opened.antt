@@ -12,7 +12,8 @@ use Rattle.definitions.specs.Form.{byteAt, scanWord, scanDigits, scanNum
 use Rattle.definitions.specs.Text.{headerForm, linkForm, outForm, endForm, withdrawn, allStates, readEnd, readOuts, readLinks, readNetwork, readAnswer, filled, lowsAfter, highsAfter, statesAfter, linkLines, outLine, outLines, textOf, writeAnswer, bufferAfter}
 use Rattle.definitions.specs.Plan.{wishForm, sheetForm, keptForm, refusedForm, room, inputRoom, outputRoom, sheetFor, planned, spaced, numbersLine, routeLines, sheetText, printed, planText, printAnswer, outputAfter}
 use Rattle.definitions.specs.Lease.{keepForm, leaseForm, keptLinkForm, droppedLinkForm, idleLinkForm, droppedForm, withdrawnForm, leaseRoom, leaseFor, leased, leaseLine, leaseLines, droppedCount, idleCount, leaseText, keepText}
-use Rattle.definitions.specs.Demand.{usesFrom, uses, cutUp}
+use Rattle.definitions.specs.DisjointRoutes.{usesFrom, uses}
+use Rattle.definitions.specs.Demand.{cutUp}
 use Rattle.definitions.specs.LeasePromise.{dispensable, linkLine}
 use Rattle.definitions.specs.SheetForm.{routeFront, overFront, lineEnd, scanMore, scanNumbers, readKept, readRoutes, readSheet}
 use Rattle.definitions.specs.SheetTest.{alsoMet, stepHolds, metAt, walk, walkRoute, goodSteps, routesHold, sheetHolds, yesOrNo, sheetAnswer}

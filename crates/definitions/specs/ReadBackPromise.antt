@@ -11,7 +11,7 @@ use Rattle.definitions.specs.Network.{Accepted}
 use Rattle.definitions.specs.Form.{bytes}
 use Rattle.definitions.specs.Text.{Network}
 use Rattle.definitions.specs.Plan.{Sheet, planned, planText}
-use Rattle.definitions.specs.Demand.{InService}
+use Rattle.definitions.specs.DisjointRoutes.{InService}
 use Rattle.definitions.specs.SheetHolds.{SheetHolds}
 use Rattle.definitions.specs.SheetPromise.{Asked}
 use Rattle.definitions.specs.SheetForm.{readSheet}

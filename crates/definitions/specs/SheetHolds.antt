@@ -11,7 +11,7 @@ use Rattle.definitions.specs.Lists.{has, count}
 use Rattle.definitions.specs.Forests.{marksOf}
 use Rattle.definitions.specs.Over.{OverHolds}
 use Rattle.definitions.specs.Plan.{Sheet}
-use Rattle.definitions.specs.Demand.{RouteHolds, Apart}
+use Rattle.definitions.specs.DisjointRoutes.{RouteHolds, Apart}
 
 -- "k routes from `from` to `to`, along links of the network, no relay twice in a route, no two routes sharing a link or an inner
 -- relay, `over` lines right, `kept` equal to the cut's count"; k is from 1 to 32, and every relay is below n. The property picks the

@@ -10,10 +10,9 @@ use borrow.Author.Tests.{eq-eqb, ne-eqb}
 use lib.Dec.{eqb}
 use lib.ListN.{length, getD}
 use Rattle.definitions.specs.Outcome.{pick}
-use Rattle.definitions.specs.Lists.{has, count, position}
+use Rattle.definitions.specs.Lists.{has, count, position, NoRepeat}
 use Rattle.definitions.specs.Network.{linked}
 use Rattle.definitions.specs.Order.{weight, nextRelay, placeNext, placedAfter, servingRelays, firstRelay}
-use Rattle.definitions.specs.Demand.{NoRepeat}
 use Rattle.lists.specs.Tests.{or-none}
 use Rattle.lists.specs.Members.{has-at, has-append}
 use Rattle.lists.specs.Counting.{count-append}

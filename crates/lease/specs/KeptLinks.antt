@@ -14,7 +14,8 @@ use Rattle.definitions.specs.Network.{linkServes, Accepted}
 use Rattle.definitions.specs.Forests.{forestsOf, marksOf}
 use Rattle.definitions.specs.Form.{Item, writeForm}
 use Rattle.definitions.specs.Lease.{keptLinkForm, droppedLinkForm, idleLinkForm, leaseLine, leaseLines, droppedCount, idleCount, leaseText}
-use Rattle.definitions.specs.Demand.{Joined, LinkOf, InService, Kept, Live, deadCount}
+use Rattle.definitions.specs.DisjointRoutes.{LinkOf, InService}
+use Rattle.definitions.specs.Demand.{Joined, Kept, Live, deadCount}
 use Rattle.definitions.specs.LeasePromise.{dispensable, linkLine, LeaseHolds}
 use Rattle.theory.specs.JoinedRelays.{joined-map}
 use Rattle.theory.specs.Certificate.{survives}

@@ -6,8 +6,7 @@ use mathlib.Core.Logic.{_⊎_, inl, inr}
 use mathlib.Core.Path.{_≡_, refl, sym, subst}
 use lib.Dec.{eqb}
 use borrow.Author.Tests.{eqb-true, eq-eqb}
-use Rattle.definitions.specs.Lists.{has}
-use Rattle.definitions.specs.Demand.{NoRepeat}
+use Rattle.definitions.specs.Lists.{has, NoRepeat}
 use Rattle.lists.specs.Searches.{clash}
 
 pub has-here : (x : ℕ) (rest : List ℕ) → has (x ∷ rest) x ≡ true

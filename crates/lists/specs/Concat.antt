@@ -7,8 +7,7 @@ use mathlib.Core.Logic.{_⊎_, inl, inr, _≢_}
 use mathlib.Core.Path.{_≡_}
 use lib.Dec.{eqb}
 use lib.ListN.{length, getD, length-append}
-use Rattle.definitions.specs.Lists.{has, keep, joinAll}
-use Rattle.definitions.specs.Demand.{NoRepeat}
+use Rattle.definitions.specs.Lists.{has, keep, joinAll, NoRepeat}
 use Rattle.lists.specs.Searches.{clash}
 use Rattle.lists.specs.Cases.{has-nil, has-either, Disjoint, noRepeat-append}
 use Rattle.lists.specs.Counting.{count-or, count-not, count-once, length-keep}

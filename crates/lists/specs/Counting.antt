@@ -8,8 +8,7 @@ use borrow.Author.Tests.{eqb-true, eq-eqb}
 use lib.Dec.{eqb}
 use lib.ListN.{length}
 use Rattle.definitions.specs.Outcome.{pick}
-use Rattle.definitions.specs.Lists.{table, consIf, keep, has, count}
-use Rattle.definitions.specs.Demand.{NoRepeat}
+use Rattle.definitions.specs.Lists.{table, consIf, keep, has, count, NoRepeat}
 use Rattle.lists.specs.Tests.{or-left, or-right, eqb-sym}
 
 pub count-append : (test : ℕ → Bool) (l k : List ℕ) → count test (l ++ k) ≡ count test l + count test k

@@ -7,8 +7,7 @@ use native.Mathlib.Omega.{arith}
 use borrow.Author.Tests.{ltb-true, ltb-false, eq-eqb}
 use lib.Dec.{eqb, ltb}
 use lib.ListN.{length, getD}
-use Rattle.definitions.specs.Lists.{table, consIf, keep, has}
-use Rattle.definitions.specs.Demand.{NoRepeat}
+use Rattle.definitions.specs.Lists.{table, consIf, keep, has, NoRepeat}
 use Rattle.lists.specs.Tests.{or-left, or-right, or-false, eqb-sym}
 use Rattle.lists.specs.Members.{has-append, has-at, has-keep, has-map, range-bounds}
 

@@ -9,8 +9,7 @@ use native.Mathlib.Omega.{arith}
 use borrow.Author.Tests.{eqb-true, eq-eqb}
 use lib.Dec.{eqb}
 use lib.ListN.{getD}
-use Rattle.definitions.specs.Lists.{table, keep, has, count}
-use Rattle.definitions.specs.Demand.{NoRepeat}
+use Rattle.definitions.specs.Lists.{table, keep, has, count, NoRepeat}
 use Rattle.lists.specs.Tables.{length-table}
 use Rattle.lists.specs.Tests.{or-left, and-both, and-all}
 use Rattle.lists.specs.Members.{has-keep}

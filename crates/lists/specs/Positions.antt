@@ -8,8 +8,7 @@ use borrow.Author.Tests.{eqb-true}
 use lib.Dec.{eqb}
 use lib.ListN.{length, getD}
 use Rattle.definitions.specs.Outcome.{pick}
-use Rattle.definitions.specs.Lists.{has, positionFrom, position}
-use Rattle.definitions.specs.Demand.{NoRepeat}
+use Rattle.definitions.specs.Lists.{has, positionFrom, position, NoRepeat}
 use Rattle.lists.specs.Members.{has-at}
 use Rattle.lists.specs.Distinct.{same-index}
 use Rattle.lists.specs.Tests.{or-false}

@@ -4,7 +4,7 @@ use native.Mathlib.Omega.{arith}
 use mathlib.Core.List.{List, [], _∷_, map, reverseAux, reverse, reverse-reverse}
 use mathlib.Core.Path.{_≡_, refl, sym, _∙_, ap}
 use lib.ListN.{length, getD}
-use Rattle.definitions.specs.Demand.{AlongFrom, Along}
+use Rattle.definitions.specs.DisjointRoutes.{AlongFrom, Along}
 
 -- A list turned round onto another begins with the last of the one and ends with the last of the other.
 pub first-reverseAux : (x : ℕ) (rest onto : List ℕ) → getD (reverseAux (x ∷ rest) onto) 0 0 ≡ getD (x ∷ rest) (length rest) 0

@@ -10,8 +10,7 @@ use lib.Dec.{eqb, ltb, leb}
 use lib.ListN.{length, getD, take, length-append, List·getD-append}
 use lib.Seq.{take-suc, getD-at}
 use Rattle.definitions.specs.Outcome.{pick}
-use Rattle.definitions.specs.Lists.{snocIf, rising, has, count}
-use Rattle.definitions.specs.Demand.{NoRepeat}
+use Rattle.definitions.specs.Lists.{snocIf, rising, has, count, NoRepeat}
 use Rattle.lists.specs.Tests.{or-left, or-right}
 use Rattle.lists.specs.Members.{has-append, index-of}
 use Rattle.lists.specs.Distinct.{no-repeat-snoc}

@@ -10,7 +10,7 @@ use Rattle.definitions.specs.Outcome.{done}
 use Rattle.definitions.specs.Lists.{outside}
 use Rattle.definitions.specs.Network.{tableCheck, Accepted}
 use Rattle.definitions.specs.Plan.{Sheet}
-use Rattle.definitions.specs.Demand.{InService}
+use Rattle.definitions.specs.DisjointRoutes.{InService}
 use Rattle.definitions.specs.SheetHolds.{SheetHolds}
 use Rattle.definitions.specs.SheetForm.{readSheet}
 use Rattle.definitions.specs.SheetTest.{sheetHolds, yesOrNo, sheetAnswer}

@@ -14,7 +14,8 @@ use Rattle.definitions.specs.Forests.{marksOf}
 use Rattle.definitions.specs.Form.{bytes, reads, writeForm}
 use Rattle.definitions.specs.Text.{Network, readNetwork}
 use Rattle.definitions.specs.Plan.{sheetForm, refusedForm, Sheet, planned, sheetText, printed, planText}
-use Rattle.definitions.specs.Demand.{LinkOf, InService, Kept, AlongFrom, Along, RouteHolds}
+use Rattle.definitions.specs.DisjointRoutes.{LinkOf, InService, AlongFrom, Along, RouteHolds}
+use Rattle.definitions.specs.Demand.{Kept}
 use Rattle.definitions.specs.SheetHolds.{SheetHolds}
 use Rattle.definitions.specs.SheetPromise.{Asked, SheetPrinted, RefusalPrinted}
 use Rattle.definitions.specs.SheetTest.{sheetAnswer}

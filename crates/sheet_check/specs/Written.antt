@@ -13,7 +13,7 @@ use Rattle.definitions.specs.Network.{Accepted}
 use Rattle.definitions.specs.Forests.{marksOf}
 use Rattle.definitions.specs.Over.{OverFrom, OverHolds}
 use Rattle.definitions.specs.Plan.{Sheet, sheetText}
-use Rattle.definitions.specs.Demand.{InService}
+use Rattle.definitions.specs.DisjointRoutes.{InService}
 use Rattle.definitions.specs.SheetHolds.{SheetHolds}
 use Rattle.definitions.specs.SheetTest.{sheetAnswer}
 use Rattle.lists.specs.Cases.{has-here, has-there}

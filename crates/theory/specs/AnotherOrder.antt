@@ -7,10 +7,11 @@ use mathlib.Core.Logic.{_↔_}
 use mathlib.Core.Path.{_≡_, refl}
 use native.Mathlib.Omega.{arith}
 use lib.ListN.{length}
-use Rattle.definitions.specs.Lists.{has, count}
+use Rattle.definitions.specs.Lists.{has, count, NoRepeat}
 use Rattle.definitions.specs.Network.{linked}
 use Rattle.definitions.specs.Order.{placedAfter}
-use Rattle.definitions.specs.Demand.{Joined, LinkOf, Kept, OneTree, NoRepeat}
+use Rattle.definitions.specs.DisjointRoutes.{LinkOf}
+use Rattle.definitions.specs.Demand.{Joined, Kept, OneTree}
 use Rattle.definitions.specs.Networks.{mesh}
 use Rattle.definitions.specs.Opened.{opened}
 use Rattle.theory.specs.Accepted.{accepted}

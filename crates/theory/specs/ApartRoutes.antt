@@ -9,7 +9,7 @@ use native.Mathlib.Omega.{arith}
 use lib.ListN.{length}
 use Rattle.definitions.specs.Lists.{has}
 use Rattle.definitions.specs.Network.{joins}
-use Rattle.definitions.specs.Demand.{LinkOf, Along, usesFrom, uses, RouteHolds, Apart}
+use Rattle.definitions.specs.DisjointRoutes.{LinkOf, Along, usesFrom, uses, RouteHolds, Apart}
 use Rattle.lists.specs.Tests.{or-left}
 use Rattle.lists.specs.Ends.{two-entries}
 use Rattle.theory.specs.SharedLinks.{shared-link}

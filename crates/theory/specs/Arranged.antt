@@ -6,11 +6,10 @@ use mathlib.Core.List.{List}
 use mathlib.Core.Path.{_≡_}
 use native.Mathlib.Omega.{arith}
 use lib.ListN.{length}
-use Rattle.definitions.specs.Lists.{has}
+use Rattle.definitions.specs.Lists.{has, NoRepeat}
 use Rattle.definitions.specs.Network.{joins, linked, Accepted}
 use Rattle.definitions.specs.Order.{placedAfter, servingRelays, firstRelay, orderOf}
 use Rattle.definitions.specs.Forests.{left}
-use Rattle.definitions.specs.Demand.{NoRepeat}
 use Rattle.theory.specs.LeftLaws.{LeftLaws}
 use Rattle.theory.specs.Accepted.{LowBelowHigh, ProperTable, accepted}
 use Rattle.theory.specs.Ordering.{placed-length, placed-no-repeat, placed-maximal}

@@ -12,7 +12,8 @@ use Rattle.definitions.specs.Lists.{has, count}
 use Rattle.definitions.specs.Network.{Accepted}
 use Rattle.definitions.specs.Order.{servingRelays, orderOf, placeOf, relayAt}
 use Rattle.definitions.specs.Route.{routesBetween}
-use Rattle.definitions.specs.Demand.{Joined, alone, onward, LinkOf, InService, Kept, Live, deadCount}
+use Rattle.definitions.specs.DisjointRoutes.{LinkOf, InService}
+use Rattle.definitions.specs.Demand.{Joined, alone, onward, Kept, Live, deadCount}
 use Rattle.lists.specs.Pigeonhole.{count-within, pigeonhole, firstPassing, free-list}
 use Rattle.theory.specs.JoinedRelays.{joined-map, joined-replace, route-joined}
 use Rattle.theory.specs.LeftLaws.{LeftLaws}

@@ -12,9 +12,8 @@ use lib.Dec.{eqb, ltb, leb}
 use lib.ListN.{length, getD, take, length-map}
 use lib.Seq.{take-length}
 use Rattle.definitions.specs.Outcome.{done, refuseIf}
-use Rattle.definitions.specs.Lists.{table, overwrite, keep, has, count, total, greatest}
+use Rattle.definitions.specs.Lists.{table, overwrite, keep, has, count, total, greatest, NoRepeat}
 use Rattle.definitions.specs.Network.{linked, linkServes, tableCheck, Accepted}
-use Rattle.definitions.specs.Demand.{NoRepeat}
 use Rattle.definitions.specs.Order.{servingRelays, orderOf, relayAt}
 use Rattle.definitions.specs.Forests.{forestOf, forestsOf, splitAnswer, forestsAfter}
 use Rattle.lists.specs.Outcomes.{refuse-not, then-done, if-done}

@@ -9,9 +9,8 @@ use native.Mathlib.Omega.{arith}
 use borrow.Author.Tests.{ltb-true, ltb-false}
 use lib.Dec.{ltb}
 use lib.ListN.{length, getD}
-use Rattle.definitions.specs.Lists.{has}
+use Rattle.definitions.specs.Lists.{has, NoRepeat}
 use Rattle.definitions.specs.Network.{joins, linked, serves, linkServes, Accepted}
-use Rattle.definitions.specs.Demand.{NoRepeat}
 use Rattle.definitions.specs.Order.{orderOf, placeOf, relayAt}
 use Rattle.definitions.specs.Forests.{left, forestBetween, forestOf}
 use Rattle.definitions.specs.Route.{leftOf}

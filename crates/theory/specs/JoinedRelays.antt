@@ -7,7 +7,8 @@ use mathlib.Core.Path.{_≡_, sym, subst}
 use native.Mathlib.Omega.{arith}
 use lib.ListN.{length, getD}
 use Rattle.definitions.specs.Lists.{has}
-use Rattle.definitions.specs.Demand.{Joined, alone, onward, Along, AlongFrom}
+use Rattle.definitions.specs.DisjointRoutes.{Along, AlongFrom}
+use Rattle.definitions.specs.Demand.{Joined, alone, onward}
 use Rattle.lists.specs.Members.{has-at}
 
 module _ {live : ℕ → Type 0} {link : ℕ → ℕ → Type 0} where

@@ -9,7 +9,8 @@ use Rattle.definitions.specs.Network.{serves, Accepted}
 use Rattle.definitions.specs.Order.{relaysAfter, placesAfter}
 use Rattle.definitions.specs.Forests.{forestsAfter, marksAfter}
 use Rattle.definitions.specs.Route.{tooShort, countsAfter, routeRelaysAfter}
-use Rattle.definitions.specs.Demand.{Joined, alone, onward, LinkOf, InService, Kept, Live, deadCount, OneTree, Holds, RoutesHold}
+use Rattle.definitions.specs.DisjointRoutes.{LinkOf, InService}
+use Rattle.definitions.specs.Demand.{Joined, alone, onward, Kept, Live, deadCount, OneTree, Holds, RoutesHold}
 use Rattle.definitions.specs.Networks.{mesh, lent}
 use Rattle.definitions.specs.Opened.{opened}
 use Rattle.theory.specs.DemandThree.{demand-three}

@@ -9,8 +9,7 @@ use borrow.Author.Tests.{leb-true, leb-false, not-true}
 use lib.Dec.{eqb, leb}
 use lib.ListN.{length, getD, take, length-append}
 use lib.Seq.{take-all, take-append-le, getD-at, getD-take}
-use Rattle.definitions.specs.Lists.{has, count}
-use Rattle.definitions.specs.Demand.{NoRepeat}
+use Rattle.definitions.specs.Lists.{has, count, NoRepeat}
 use Rattle.definitions.specs.Network.{linked as linkedIn, serves}
 use Rattle.definitions.specs.Order.{weight, unplaced, heaviestOf, nextRelay, placeNext, placedAfter, servingRelays, firstRelay, orderOf}
 use Rattle.lists.specs.Tests.{and-both}

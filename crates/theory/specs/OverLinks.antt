@@ -14,7 +14,7 @@ use Rattle.definitions.specs.Order.{orderOf, placeOf, relayAt}
 use Rattle.definitions.specs.Forests.{leftEntry, forestsOf, marksOf}
 use Rattle.definitions.specs.Route.{leftOf, routesBetween, routesOf, oneTreeOf}
 use Rattle.definitions.specs.Over.{oversBetween, entryOf, oversOf, OverFrom, OverHolds}
-use Rattle.definitions.specs.Demand.{LinkOf, AlongFrom, Along}
+use Rattle.definitions.specs.DisjointRoutes.{LinkOf, AlongFrom, Along}
 use Rattle.lists.specs.Tests.{or-turn}
 use Rattle.lists.specs.Searches.{first-holds}
 use Rattle.lists.specs.Maps.{map-map}

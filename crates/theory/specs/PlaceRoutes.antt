@@ -9,8 +9,8 @@ use mathlib.Core.Path.{_≡_, refl, sym, _∙_, ap, subst}
 use lib.Dec.{eqb}
 use borrow.Author.Tests.{eq-eqb}
 use lib.ListN.{length, getD, length-map, length-reverse, List·getD-map}
-use Rattle.definitions.specs.Lists.{has, keep, table, joinAll}
-use Rattle.definitions.specs.Demand.{Along, NoRepeat}
+use Rattle.definitions.specs.Lists.{has, keep, table, joinAll, NoRepeat}
+use Rattle.definitions.specs.DisjointRoutes.{Along}
 use Rattle.lists.specs.Tests.{and-both, or-left, or-right}
 use Rattle.lists.specs.Searches.{clash}
 use Rattle.lists.specs.Tables.{length-table}

@@ -11,9 +11,9 @@ use borrow.Author.Tests.{le-ltb}
 use lib.Dec.{ltb}
 use lib.ListN.{length, getD}
 use Rattle.definitions.specs.Outcome.{done, refuseIf}
-use Rattle.definitions.specs.Lists.{overwrite, has}
+use Rattle.definitions.specs.Lists.{overwrite, has, NoRepeat}
 use Rattle.definitions.specs.Network.{serves, tableCheck, Accepted}
-use Rattle.definitions.specs.Demand.{NoRepeat, MaximalOrder}
+use Rattle.definitions.specs.Demand.{MaximalOrder}
 use Rattle.definitions.specs.Order.{servingRelays, firstRelay, orderOf, placeOf, relayAt, orderAnswer, placesOf, relaysAfter, placesAfter}
 use Rattle.lists.specs.Outcomes.{refuse-not, then-done, if-done}
 use Rattle.lists.specs.Tests.{or-neither}

@@ -11,7 +11,8 @@ use Rattle.definitions.specs.Lists.{has, joinAll}
 use Rattle.definitions.specs.Network.{Accepted}
 use Rattle.definitions.specs.Order.{orderOf, placeOf, relayAt}
 use Rattle.definitions.specs.Route.{leftOf, routesBetween, routesOf}
-use Rattle.definitions.specs.Demand.{LinkOf, Kept, RouteHolds, Apart}
+use Rattle.definitions.specs.DisjointRoutes.{LinkOf, RouteHolds, Apart}
+use Rattle.definitions.specs.Demand.{Kept}
 use Rattle.lists.specs.Members.{has-map}
 use Rattle.lists.specs.Distinct.{no-repeat-map}
 use Rattle.lists.specs.Maps.{getD-map}

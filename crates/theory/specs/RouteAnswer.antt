@@ -13,7 +13,8 @@ use Rattle.definitions.specs.Outcome.{refused, done, refuseIf, andThen}
 use Rattle.definitions.specs.Lists.{overwrite, total, joinAll}
 use Rattle.definitions.specs.Network.{Accepted}
 use Rattle.definitions.specs.Route.{routeUnless, routesOf, oneTreeOf, tooShort, routeAnswer, countsAfter, routeRelaysAfter}
-use Rattle.definitions.specs.Demand.{Kept, OneTree, cutUp, RouteHolds, Apart, RoutesHold, RouteDelivers}
+use Rattle.definitions.specs.DisjointRoutes.{RouteHolds, Apart}
+use Rattle.definitions.specs.Demand.{Kept, OneTree, cutUp, RoutesHold, RouteDelivers}
 use Rattle.lists.specs.Outcomes.{if-done}
 use Rattle.lists.specs.Overwritten.{take-overwrite}
 use Rattle.lists.specs.Cuts.{cut-up, total-lengths}

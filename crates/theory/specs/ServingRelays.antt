@@ -6,10 +6,9 @@ use mathlib.Core.List.{List}
 use mathlib.Core.Path.{_≡_, sym, _∙_}
 use native.Mathlib.Omega.{arith}
 use lib.ListN.{length}
-use Rattle.definitions.specs.Lists.{has}
+use Rattle.definitions.specs.Lists.{has, NoRepeat}
 use Rattle.definitions.specs.Network.{serves}
 use Rattle.definitions.specs.Order.{allRelays, servingRelays, linksAt, firstRelay}
-use Rattle.definitions.specs.Demand.{NoRepeat}
 use Rattle.lists.specs.Ascending.{Ascending, ascending-range, ascending-keep}
 use Rattle.lists.specs.Counting.{count-length, length-keep}
 use Rattle.lists.specs.Distinct.{range-no-repeat, no-repeat-keep}

@@ -8,7 +8,7 @@ use native.Mathlib.Omega.{arith}
 use lib.ListN.{length, getD}
 use Rattle.definitions.specs.Lists.{has}
 use Rattle.definitions.specs.Network.{joins}
-use Rattle.definitions.specs.Demand.{usesFrom, uses, RouteHolds}
+use Rattle.definitions.specs.DisjointRoutes.{usesFrom, uses, RouteHolds}
 use Rattle.lists.specs.Tests.{or-either}
 use Rattle.lists.specs.Members.{has-at}
 use Rattle.lists.specs.Ends.{ends-meet}

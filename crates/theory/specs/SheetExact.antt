@@ -13,7 +13,7 @@ use Rattle.definitions.specs.Lists.{count}
 use Rattle.definitions.specs.Network.{Accepted}
 use Rattle.definitions.specs.Forests.{marksOf}
 use Rattle.definitions.specs.Plan.{Sheet}
-use Rattle.definitions.specs.Demand.{InService, RouteHolds}
+use Rattle.definitions.specs.DisjointRoutes.{InService, RouteHolds}
 use Rattle.definitions.specs.SheetHolds.{SheetHolds}
 use Rattle.definitions.specs.SheetTest.{routesHold, sheetHolds}
 use Rattle.lists.specs.Tests.{and-both, and-all}

@@ -12,7 +12,7 @@ use Rattle.definitions.specs.Outcome.{pick}
 use Rattle.definitions.specs.Lists.{has}
 use Rattle.definitions.specs.Network.{joins}
 use Rattle.definitions.specs.Over.{OverHolds}
-use Rattle.definitions.specs.Demand.{InService, RouteHolds}
+use Rattle.definitions.specs.DisjointRoutes.{InService, RouteHolds}
 use Rattle.definitions.specs.SheetTest.{Walk, walk, walkRoute}
 use Rattle.lists.specs.Searches.{clash}
 use Rattle.lists.specs.Cases.{has-there, has-cases}

@@ -9,7 +9,7 @@ use borrow.Author.Tests.{eqb-true, eqb-false, eq-eqb, ne-eqb, not-true, not-fals
 use lib.Dec.{eqb}
 use lib.ListN.{length, getD}
 use Rattle.definitions.specs.Lists.{has}
-use Rattle.definitions.specs.Demand.{Apart}
+use Rattle.definitions.specs.DisjointRoutes.{Apart}
 use Rattle.definitions.specs.SheetTest.{Walk, walkRoute, goodSteps, routesHold}
 use Rattle.lists.specs.Tests.{or-left, or-right, or-false, or-neither, or-either, and-both, and-all, and-false}
 use Rattle.lists.specs.Searches.{clash}

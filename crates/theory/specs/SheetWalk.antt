@@ -10,10 +10,10 @@ use borrow.Author.Tests.{ltb-true, lt-ltb, eqb-true, eqb-false, eq-eqb, ne-eqb, 
 use lib.Dec.{eqb, ltb}
 use lib.ListN.{length, getD}
 use Rattle.definitions.specs.Outcome.{pick}
-use Rattle.definitions.specs.Lists.{has}
+use Rattle.definitions.specs.Lists.{has, NoRepeat}
 use Rattle.definitions.specs.Network.{joins, linkServes}
 use Rattle.definitions.specs.Over.{OverFrom}
-use Rattle.definitions.specs.Demand.{LinkOf, InService, AlongFrom, NoRepeat}
+use Rattle.definitions.specs.DisjointRoutes.{LinkOf, InService, AlongFrom}
 use Rattle.definitions.specs.SheetTest.{alsoMet, stepHolds, metAt, Walk, walk}
 use Rattle.lists.specs.Tests.{or-left, or-right, or-false, or-neither, or-either, or-none, or-assoc, and-both, and-all, eqb-sym}
 use Rattle.lists.specs.Searches.{clash}

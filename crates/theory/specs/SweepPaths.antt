@@ -6,8 +6,7 @@ use mathlib.Core.List.{List, [], _∷_}
 use mathlib.Core.Logic.{_⊎_, inl, inr, _≢_}
 use mathlib.Core.Path.{_≡_, refl, sym, subst}
 use lib.ListN.{length}
-use Rattle.definitions.specs.Lists.{has}
-use Rattle.definitions.specs.Demand.{NoRepeat}
+use Rattle.definitions.specs.Lists.{has, NoRepeat}
 use Rattle.definitions.specs.Sweep as Sweep
 use Rattle.lists.specs.Searches.{clash}
 use Rattle.lists.specs.Cases.{has-nil, has-cases, has-not}

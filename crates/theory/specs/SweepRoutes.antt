@@ -12,7 +12,7 @@ use borrow.Author.Tests.{ltb-true, ltb-false}
 use lib.ListN.{length, getD, length-map, length-reverseAux, List·getD-map}
 use Rattle.definitions.specs.Outcome.{pick}
 use Rattle.definitions.specs.Lists.{has, table}
-use Rattle.definitions.specs.Demand.{AlongFrom}
+use Rattle.definitions.specs.DisjointRoutes.{AlongFrom}
 use Rattle.definitions.specs.Sweep as Sweep
 use Rattle.definitions.specs.Sweep.{slotAt, slotRoute, sweepRoutes}
 use Rattle.definitions.specs.Route.{routesBetween}

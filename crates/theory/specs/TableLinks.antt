@@ -9,7 +9,8 @@ use native.Mathlib.Omega.{arith}
 use lib.ListN.{length, getD}
 use Rattle.definitions.specs.Network.{joins}
 use Rattle.definitions.specs.Order.{placeOf, relayAt}
-use Rattle.definitions.specs.Demand.{LinkOf, InForest, Kept}
+use Rattle.definitions.specs.DisjointRoutes.{LinkOf}
+use Rattle.definitions.specs.Demand.{InForest, Kept}
 use Rattle.theory.specs.Trees.{TreeLink, treeLink-sym}
 use Rattle.theory.specs.Links.{joins-ends, joins-sym}
 use Rattle.theory.specs.ForestNumbers.{forestIn, Placed, AllPlaced, places-placed, left-is-link}

@@ -1,0 +1,49 @@
+-- What a route is, and when two are apart, for demand 3 and for every list of routes in later requests.
+-- Assumes nothing.
+use Prim.Native.Nat.{ℕ, _-_, _≤_, _<_}
+use mathlib.Core.Bool.{Bool, true, false, _||_}
+use mathlib.Core.List.{List, [], _∷_}
+use mathlib.Core.Logic.{_⊎_}
+use mathlib.Core.Path.{_≡_}
+use lib.ListN.{length, getD}
+use Rattle.definitions.specs.Lists.{has, NoRepeat}
+use Rattle.definitions.specs.Network.{joins, linkServes}
+
+-- A link of the table, of those that the property picks by their index, joins a and b.
+abbrev pub LinkOf : (lows highs : List ℕ) (picked : ℕ → Type 0) (a b : ℕ) → Type 0
+LinkOf lows highs picked a b = (i : ℕ) × (i < length lows) × (joins lows highs a b i ≡ true) × picked i
+
+-- "all the links means those with both ends in service" (document 02, #105)
+abbrev pub InService : (lows highs states : List ℕ) (i : ℕ) → Type 0
+InService lows highs states i = linkServes lows highs states i ≡ true
+
+-- "its links join each of its relays to the next"
+abbrev pub AlongFrom : (link : ℕ → ℕ → Type 0) (a : ℕ) (rest : List ℕ) → Type 0
+AlongFrom link a [] = Unit {0}
+AlongFrom link a (b ∷ rest) = link a b × AlongFrom link b rest
+
+abbrev pub Along : (link : ℕ → ℕ → Type 0) (route : List ℕ) → Type 0
+Along link [] = Unit {0}
+Along link (a ∷ rest) = AlongFrom link a rest
+
+-- Link i of the table joins some relay of the route, from a on, to the next.
+unfoldable pub usesFrom : (lows highs : List ℕ) (i a : ℕ) (rest : List ℕ) → Bool
+usesFrom lows highs i a [] = false
+usesFrom lows highs i a (b ∷ rest) = joins lows highs a b i || usesFrom lows highs i b rest
+
+unfoldable pub uses : (lows highs : List ℕ) (i : ℕ) (route : List ℕ) → Bool
+uses lows highs i [] = false
+uses lows highs i (a ∷ rest) = usesFrom lows highs i a rest
+
+-- One route: from `from` to `to`, along links that the property picks by their index, repeating no relay.
+pub record RouteHolds (lows highs : List ℕ) (picked : ℕ → Type 0) (from to : ℕ) (route : List ℕ) : Type 0 where
+  pub long : 2 ≤ length route
+  pub starts : getD route 0 0 ≡ from
+  pub ends : getD route (length route - 1) 0 ≡ to
+  pub along : Along (LinkOf lows highs picked) route
+  pub noRepeat : NoRepeat route
+
+-- Two routes: "sharing no link and no relay but the ends".
+pub record Apart (lows highs : List ℕ) (from to : ℕ) (one other : List ℕ) : Type 0 where
+  pub relays : (r : ℕ) → has one r ≡ true → has other r ≡ true → (r ≡ from) ⊎ (r ≡ to)
+  pub links : (i : ℕ) → i < length lows → uses lows highs i one ≡ true → uses lows highs i other ≡ true → ⊥
