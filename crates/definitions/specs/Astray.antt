@@ -11,6 +11,7 @@ use lib.ListN.{length, replicate}
 use borrow.Author.Tests.{eqb-true}
 use Rattle.definitions.specs.Outcome.{refused}
 use Rattle.definitions.specs.Lists.{has}
+use Rattle.definitions.specs.Network.{Serving}
 use Rattle.definitions.specs.Forests.{forestsOf}
 use Rattle.definitions.specs.Route.{routeAnswer, routesOf}
 use Rattle.definitions.specs.Text.{Network}
@@ -51,7 +52,8 @@ not-tree-paths = (
 -- "Taking 13 to mean that no routes exist. P3 has two": Route refuses, and over all the links of the square 0 1 2 and
 -- 0 3 2 are routes that share the ends alone.
 abbrev squareRoute : List ℕ → Type 0
-squareRoute = RouteHolds (square .lows) (square .highs) (InService (square .lows) (square .highs) (square .states)) 0 2
+squareRoute =
+    RouteHolds 4 (square .lows) (square .highs) (square .states) (InService (square .lows) (square .highs) (square .states)) 0 2
 
 not-both : false ≡ true → ⊥
 not-both e = let z : _≡_ {A = ℕ} 0 1 = cc in omega arith
@@ -67,6 +69,23 @@ one-of a b c r = go (eqb a r) (eqb b r) (eqb c r) refl refl refl
     go false true s ea eb ec h = inr (inl (eqb-true b r eb))
     go false false true ea eb ec h = inr (inr (eqb-true c r ec))
     go false false false ea eb ec h = absurd (not-both h)
+
+-- All four relays of the square are in service, and so are those of each of the two routes.
+square-serves : (r : ℕ) → r < 4 → Serving 4 (square .states) r
+unfolding opened
+square-serves zero h = (h, refl)
+square-serves (suc zero) h = (h, refl)
+square-serves (suc (suc zero)) h = (h, refl)
+square-serves (suc (suc (suc zero))) h = (h, refl)
+square-serves (suc (suc (suc (suc r)))) h = absurd (omega arith)
+
+square-through : (b : ℕ) → b < 4 → (r : ℕ) → has (0 ∷ b ∷ 2 ∷ []) r ≡ true → Serving 4 (square .states) r
+square-through b low r h = square-serves r (go (one-of 0 b 2 r h))
+  where
+    go : (0 ≡ r) ⊎ ((b ≡ r) ⊎ (2 ≡ r)) → r < 4
+    go (inl e) = omega arith
+    go (inr (inl e)) = omega arith
+    go (inr (inr e)) = omega arith
 
 square-relays : (r : ℕ) → has (0 ∷ 1 ∷ 2 ∷ []) r ≡ true → has (0 ∷ 3 ∷ 2 ∷ []) r ≡ true → (r ≡ 0) ⊎ (r ≡ 2)
 square-relays r h l = go (one-of 0 1 2 r h) (one-of 0 3 2 r l)
@@ -100,6 +119,7 @@ thirteen-with-routes = (
     starts = refl;
     ends = refl;
     along = ((0, omega arith, refl, refl), ((1, omega arith, refl, refl), tt));
+    through = square-through 1 (omega arith);
     noRepeat = (refl, (refl, (refl, tt)));
   },
   record {
@@ -107,6 +127,7 @@ thirteen-with-routes = (
     starts = refl;
     ends = refl;
     along = ((3, omega arith, refl, refl), ((2, omega arith, refl, refl), tt));
+    through = square-through 3 (omega arith);
     noRepeat = (refl, (refl, (refl, tt)));
   },
   record { relays = square-relays; links = square-links },

@@ -9,10 +9,10 @@ use lib.Dec.{eqb}
 use lib.ListN.{length, getD, take, drop}
 use Rattle.definitions.specs.Outcome.{Answer, refused, done}
 use Rattle.definitions.specs.Lists.{table, count, total}
-use Rattle.definitions.specs.Network.{linked, serves, linkServes, Accepted}
+use Rattle.definitions.specs.Network.{linked, serves, linkServes, Serving, Accepted}
 use Rattle.definitions.specs.Order.{servingRelays, linksAt, relaysAfter, placesAfter}
 use Rattle.definitions.specs.Forests.{forestsAfter, marksAfter}
-use Rattle.definitions.specs.DisjointRoutes.{LinkOf, InService, RouteHolds, Apart}
+use Rattle.definitions.specs.DisjointRoutes.{LinkOf, InService, DisjointRoutes}
 use Rattle.definitions.specs.Route.{tooShort, routeAnswer, countsAfter, routeRelaysAfter}
 
 -- "Two relays are joined through live relays over some links if a chain of live relays, both of them included, leads from
@@ -32,7 +32,7 @@ InForest forests f i = getD forests i 0 ≡ f
 -- "Any of its relays may be found dead, none or all of them"; "Live relays now means those in service and not found dead" (document
 -- 02, #105).
 abbrev pub Live : (n : ℕ) (states : List ℕ) (dead : ℕ → Bool) (r : ℕ) → Type 0
-Live n states dead r = (r < n) × (serves states r ≡ true) × (dead r ≡ false)
+Live n states dead r = Serving n states r × (dead r ≡ false)
 
 -- How many of the relays in service are dead. Fewer than k of these is what is asked below; where fewer than k of all the relays
 -- are dead, fewer than k of these are.
@@ -48,19 +48,24 @@ unfoldable pub cutUp : (counts relays : List ℕ) → List (List ℕ)
 cutUp [] relays = []
 cutUp (size ∷ counts) relays = take size relays ∷ cutUp counts (drop size relays)
 
--- The routes that Route's two lists give, and what it answers: "the sum of the k counts, which is also Route's answer".
-pub record RoutesHold (n : ℕ) (lows highs marks : List ℕ) (k from to : ℕ) (counts relays : List ℕ) : Type 0 where
-  pub each : (i : ℕ) → i < k → RouteHolds lows highs (Kept marks) from to (getD (cutUp (take k counts) relays) i [])
-  pub apart : (i j : ℕ) → i < k → j < k → i ≢ j
-      → Apart lows highs from to (getD (cutUp (take k counts) relays) i []) (getD (cutUp (take k counts) relays) j [])
+-- The routes that Route's two lists give: k of them along kept links, and how many relays were written in all, "the sum of the k
+-- counts, which is also Route's answer".
+pub record RoutesHold (n : ℕ) (lows highs states marks : List ℕ) (k from to : ℕ) (counts relays : List ℕ) : Type 0 where
+  pub number : length (cutUp (take k counts) relays) ≡ k
+  pub disjoint : DisjointRoutes n lows highs states (Kept marks) from to (cutUp (take k counts) relays)
   pub written : total (take k counts) ≤ n - 2 + 2 * k
+
+-- Route is not refused and gives its routes.
+pub record Delivered (n : ℕ) (lows highs states marks : List ℕ) (k from to : ℕ) (answer : Answer) (counts relays : List ℕ) : Type 0 where
+  pub answered : answer ≡ done (total (take k counts) ∷ [])
+  pub routes : RoutesHold n lows highs states marks k from to counts relays
 
 -- What demand 3 says of two different relays and of lists that are long enough ("Lists are long enough if Route has no cause
 -- for 12"), about Route's answer and its two lists afterwards: the k routes if the two are in one tree of forest k, and 13
 -- exactly if they are not.
-pub record RouteDelivers (n : ℕ) (lows highs forests marks : List ℕ) (k from to : ℕ) (answer : Answer) (counts relays : List ℕ) : Type 0 where
-  pub inOneTree : OneTree lows highs forests k from to
-      → (answer ≡ done (total (take k counts) ∷ [])) × RoutesHold n lows highs marks k from to counts relays
+pub record RouteDelivers
+    (n : ℕ) (lows highs states forests marks : List ℕ) (k from to : ℕ) (answer : Answer) (counts relays : List ℕ) : Type 0 where
+  pub inOneTree : OneTree lows highs forests k from to → Delivered n lows highs states marks k from to answer counts relays
   pub thirteen : (answer ≡ refused 13 0) ↔ (OneTree lows highs forests k from to → ⊥)
 
 -- How many relays are in service.
@@ -102,10 +107,10 @@ pub record Holds (n : ℕ) (lows highs states : List ℕ) (k : ℕ) (relays plac
   pub inNone : (i : ℕ) → i < length lows → linkServes lows highs states i ≡ false → (getD forests i 0 ≡ 0) × (getD marks i 0 ≡ 0)
   pub addUp : total (table (λ i. count (eqb i) (take (length lows) forests)) 1 (inServiceCount n states))
       ≡ count (linkServes lows highs states) (table (λ i. i) 0 (length lows))
-  pub routes : (from to : ℕ) → from < n → to < n → serves states from ≡ true → serves states to ≡ true → from ≢ to
+  pub routes : (from to : ℕ) → Serving n states from → Serving n states to → from ≢ to
       → (counts routeRelays scratch : List ℕ)
       → tooShort n k counts routeRelays scratch ≡ false
-      → RouteDelivers n lows highs forests marks k from to
+      → RouteDelivers n lows highs states forests marks k from to
       (routeAnswer n lows highs states k from to counts routeRelays scratch)
       (countsAfter n lows highs states k from to counts routeRelays scratch)
       (routeRelaysAfter n lows highs states k from to counts routeRelays scratch)

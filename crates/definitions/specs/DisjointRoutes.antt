@@ -1,13 +1,13 @@
--- What a route is, and when two are apart, for demand 3 and for every list of routes in later requests.
+-- What routes are, one and a list of them: the one definition for demand 3, for a sheet and for every other list of routes.
 -- Assumes nothing.
 use Prim.Native.Nat.{ℕ, _-_, _≤_, _<_}
 use mathlib.Core.Bool.{Bool, true, false, _||_}
 use mathlib.Core.List.{List, [], _∷_}
-use mathlib.Core.Logic.{_⊎_}
+use mathlib.Core.Logic.{_⊎_, _≢_}
 use mathlib.Core.Path.{_≡_}
 use lib.ListN.{length, getD}
 use Rattle.definitions.specs.Lists.{has, NoRepeat}
-use Rattle.definitions.specs.Network.{joins, linkServes}
+use Rattle.definitions.specs.Network.{joins, linkServes, Serving}
 
 -- A link of the table, of those that the property picks by their index, joins a and b.
 abbrev pub LinkOf : (lows highs : List ℕ) (picked : ℕ → Type 0) (a b : ℕ) → Type 0
@@ -35,15 +35,24 @@ unfoldable pub uses : (lows highs : List ℕ) (i : ℕ) (route : List ℕ) → B
 uses lows highs i [] = false
 uses lows highs i (a ∷ rest) = usesFrom lows highs i a rest
 
--- One route: from `from` to `to`, along links that the property picks by their index, repeating no relay.
-pub record RouteHolds (lows highs : List ℕ) (picked : ℕ → Type 0) (from to : ℕ) (route : List ℕ) : Type 0 where
+-- One route: from `from` to `to`, along links that the property picks by their index, repeating no relay, and "through relays in
+-- service as all routes are from here on" (document 02, #107).
+pub record RouteHolds (n : ℕ) (lows highs states : List ℕ) (picked : ℕ → Type 0) (from to : ℕ) (route : List ℕ) : Type 0 where
   pub long : 2 ≤ length route
   pub starts : getD route 0 0 ≡ from
   pub ends : getD route (length route - 1) 0 ≡ to
   pub along : Along (LinkOf lows highs picked) route
+  pub through : (r : ℕ) → has route r ≡ true → Serving n states r
   pub noRepeat : NoRepeat route
 
 -- Two routes: "sharing no link and no relay but the ends".
 pub record Apart (lows highs : List ℕ) (from to : ℕ) (one other : List ℕ) : Type 0 where
   pub relays : (r : ℕ) → has one r ≡ true → has other r ≡ true → (r ≡ from) ⊎ (r ≡ to)
   pub links : (i : ℕ) → i < length lows → uses lows highs i one ≡ true → uses lows highs i other ≡ true → ⊥
+
+-- A list of routes from `from` to `to`, each two of them apart.
+pub record DisjointRoutes
+    (n : ℕ) (lows highs states : List ℕ) (picked : ℕ → Type 0) (from to : ℕ) (routes : List (List ℕ)) : Type 0 where
+  pub each : (i : ℕ) → i < length routes → RouteHolds n lows highs states picked from to (getD routes i [])
+  pub apart : (i j : ℕ) → i < length routes → j < length routes → i ≢ j
+      → Apart lows highs from to (getD routes i []) (getD routes j [])

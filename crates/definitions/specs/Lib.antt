@@ -13,6 +13,7 @@ pub mod Plan
 pub mod Lease
 pub mod DisjointRoutes
 pub mod Demand
+pub mod LastTwo
 pub mod SheetHolds
 pub mod SheetPromise
 pub mod LeasePromise
@@ -31,5 +32,6 @@ pub mod PExamples
 pub mod OtherExamples
 pub mod SheetExamples
 pub mod StateExamples
+pub mod LastTwoExamples
 pub mod ImportExamples
 pub mod Astray

@@ -1,8 +1,8 @@
 -- Document 01, 'The network' and the table check: pair numbers, links, and what makes a table one of a network.
 -- A table is two lists of numbers, lows and highs; n is the number of relays. Since document 02, #105 a network also has a list of
 -- states, one for every relay. Assumes nothing.
-use Prim.Native.Nat.{ℕ, zero, suc, _+_, _-_, _*_, _/_}
-use mathlib.Core.Bool.{Bool, _&&_, _||_, not}
+use Prim.Native.Nat.{ℕ, zero, suc, _+_, _-_, _*_, _/_, _<_}
+use mathlib.Core.Bool.{Bool, true, _&&_, _||_, not}
 use mathlib.Core.List.{List, [], _∷_}
 use mathlib.Core.Path.{_≡_}
 use lib.Dec.{eqb, ltb, leb}
@@ -44,6 +44,10 @@ touches lows highs r i = eqb (getD lows i 0) r || eqb (getD highs i 0) r
 -- "a state for every relay, 1 in service or 0 withdrawn" (document 02, #105): relay r is in service.
 unfoldable pub serves : (states : List ℕ) (r : ℕ) → Bool
 serves states r = eqb (getD states r 0) 1
+
+-- Relay r of the network is in service.
+abbrev pub Serving : (n : ℕ) (states : List ℕ) (r : ℕ) → Type 0
+Serving n states r = (r < n) × (serves states r ≡ true)
 
 -- Link i of the table is one "with both ends in service".
 unfoldable pub linkServes : (lows highs states : List ℕ) (i : ℕ) → Bool

@@ -10,9 +10,9 @@ use borrow.Author.Tests.{eq-eqb, ne-eqb}
 use lib.ListN.{length, getD}
 use Rattle.definitions.specs.Outcome.{pick}
 use Rattle.definitions.specs.Lists.{has}
-use Rattle.definitions.specs.Network.{serves}
+use Rattle.definitions.specs.Network.{serves, Serving}
 use Rattle.definitions.specs.Order.{servingRelays, firstRelay}
-use Rattle.theory.specs.ServingRelays.{Serving, serving-has, serving-below, serving-serves, first-of-all, first-is}
+use Rattle.theory.specs.ServingRelays.{serving-has, serving-below, serving-serves, first-of-all, first-is}
 use Rattle.forests.specs.LinkCounts.{ServingCounted}
 use Rattle.forests.specs.Busiest.{keyOf, servingKey, Busiest}
 

@@ -17,7 +17,7 @@ use Rattle.lists.specs.Positions.{position-absent}
 use Rattle.lists.specs.Tables.{length-table, getD-table, length-overwrite}
 use Rattle.lists.specs.Overwritten.{getD-overwrite, getD-overwrite-past}
 use Rattle.theory.specs.ServingRelays.{serving-once, first-of-all}
-use Rattle.theory.specs.Ordering.{placed-front, placed-at, later-unplaced, order-length, order-serving, order-below}
+use Rattle.theory.specs.Ordering.{placed-front, placed-at, later-unplaced, order-length, order-serving, order-relay}
 use Rattle.theory.specs.Left.{forest-weight}
 use Rattle.theory.specs.Links.{joined-linked}
 use Rattle.theory.specs.ForestNumbers.{earlierPlace, laterPlace, accepted-link-facts, no-forest}
@@ -56,7 +56,7 @@ module _ (n : ℕ) (lows highs states : List ℕ) where
       order = placed n lows highs states (turnsOf n states)
 
       beyond : (r : ℕ) → n ≤ r → has order r ≡ false
-      beyond r h = has-not order r (λ e. omega (arith, order-below n lows highs states r e))
+      beyond r h = has-not order r (λ e. omega (arith, order-relay n lows highs states r e .0))
 
       go : (r : ℕ) → r < n → (b : Bool) → has order r ≡ b → getD places r 0 ≡ position order r
       go r h true e = f .place r e

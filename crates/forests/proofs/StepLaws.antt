@@ -16,12 +16,12 @@ use Rattle.definitions.specs.Network.{joins, linked, touches, serves, linkServe
 use Rattle.definitions.specs.Order.{weight, placedAfter}
 use Rattle.theory.specs.Accepted.{ProperTable}
 use Rattle.theory.specs.ServingRelays.{serving-has, serving-below, serving-serves, serving-not}
-use Rattle.theory.specs.Links.{joins-sym, joined-linked}
+use Rattle.theory.specs.Links.{joins-sym, joins-touch, joined-linked}
 use Rattle.forests.specs.Counts.{raisedCount, forestNumber, StartCounts, turnsOf}
 use Rattle.forests.specs.Walk.{otherEnd, farEnd, Walked}
 use Rattle.forests.specs.Scan.{placed, following, isServing, CountsAt, ForestsAt}
 use Rattle.forests.proofs.CountLaws.{raised-none, raised-some, number-none, number-some}
-use Rattle.forests.proofs.WalkLaws.{joins-far, joins-touch, apart-ends, touch-end}
+use Rattle.forests.proofs.WalkLaws.{joins-far, apart-ends, touch-end}
 use Rattle.forests.proofs.OrderLaws.{placed-earlier, following-new, following-below, has-new, has-same, another, waited, weight-linked, weight-apart}
 use Rattle.forests.proofs.ChoiceLaws.{count-waiting, count-placed, waits}
 
@@ -157,7 +157,7 @@ module _ {n : ℕ} {lows highs states : List ℕ} (t : ProperTable n lows highs)
           → isServing n states y ≡ true → has (placed n lows highs states k) y ≡ false
           → getD forests′ i 0 ≡ weight (linked lows highs) (placed n lows highs states (suc k)) y
       now-given i y h e s p =
-          let touch = joins-touch t (following n lows highs states k) y i e in
+          let touch = joins-touch lows highs (following n lows highs states k) y i e in
           let far : farEnd lows highs (following n lows highs states k) i ≡ y =
           eqb-true (farEnd lows highs (following n lows highs states k) i) y
           (sym (joins-far lows highs (following n lows highs states k) y i touch (t .ordered i h)) ∙ e) in

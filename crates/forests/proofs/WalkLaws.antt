@@ -195,13 +195,6 @@ module _ (lows highs : List ℕ) (x : ℕ) where
           same (no p) = le-ltb j i (omega arith) ∙ sym (le-ltb j (suc i) (omega arith))
 
 module _ {n : ℕ} {lows highs : List ℕ} (t : ProperTable n lows highs) where
-  pub joins-touch : (a b i : ℕ) → joins lows highs a b i ≡ true → touches lows highs a i ≡ true
-  joins-touch a b i e = go (touches lows highs a i) refl
-    where
-      go : (c : Bool) → touches lows highs a i ≡ c → c ≡ true
-      go true f = refl
-      go false f = absurd (true≢false (sym e ∙ joins-touches lows highs a b i f))
-
   -- The other end of a link is another relay.
   pub apart-ends : (a b i : ℕ) → i < length lows → joins lows highs a b i ≡ true → b ≢ a
   apart-ends a b i h e = go (joins-ends lows highs a b i e)

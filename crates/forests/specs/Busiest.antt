@@ -4,8 +4,8 @@ use mathlib.Core.List.{List}
 use mathlib.Core.Path.{_≡_}
 use lib.Dec.{eqb}
 use lib.ListN.{getD}
+use Rattle.definitions.specs.Network.{Serving}
 use Rattle.definitions.specs.Outcome.{pick}
-use Rattle.theory.specs.ServingRelays.{Serving}
 
 -- A relay's key: the greater the more links it has, of equals the lower its number is.
 abbrev pub keyOf : (r count : ℕ) → ℕ

@@ -10,11 +10,10 @@ use lib.ListN.{length, getD}
 use lib.Seq.{sets}
 use Rattle.definitions.specs.Outcome.{pick, refused, done, Answer, refuseIf, ifDone}
 use Rattle.definitions.specs.Lists.{overwrite, zeroed, outside, joinAll}
-use Rattle.definitions.specs.Network.{serves, Accepted}
+use Rattle.definitions.specs.Network.{serves, Accepted, Serving}
 use Rattle.definitions.specs.Forests.{Entry}
 use Rattle.definitions.specs.Route.{routesOf, oneTreeOf, tooShort, routeUnless, scratchUsed}
 use Rattle.definitions.specs.Over.{oversOf}
-use Rattle.theory.specs.ServingRelays.{Serving}
 use Rattle.network.specs.Answers.{refusalOf}
 use Rattle.forests.specs.Scan.{Scanned}
 use Rattle.forests.specs.Left.{LeftTable}

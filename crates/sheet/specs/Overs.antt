@@ -66,10 +66,11 @@ module _ (n : ℕ) (lows highs states : List ℕ) (k from to : ℕ) (passed : Ro
       → OverHolds lows highs (getD (routesOf n lows highs states k from to) i []) (getD (oversOf n lows highs states k from to) i [])
   overs-hold i h =
       let routes = routesOf n lows highs states k from to in
-      let holds = routes-of n lows highs states k from to passed .each i h in
+      let within : i < length routes = omega (arith, length-routes n lows highs states k from to) in
+      let holds = routes-of n lows highs states k from to passed .disjoint .each i within in
       let over : getD (oversOf n lows highs states k from to) i [] ≡ stepsOf (pairLink lows highs) (getD routes i []) =
       ap (λ (overs : List (List ℕ)). getD overs i []) overs-are
-      ∙ getD-map (stepsOf (pairLink lows highs)) routes i [] [] (omega (arith, length-routes n lows highs states k from to)) in
+      ∙ getD-map (stepsOf (pairLink lows highs)) routes i [] [] within in
       subst (OverHolds lows highs (getD routes i [])) (sym over)
       (over-holds lows highs (one-link n lows highs (accepted n lows highs states (passed .accepted))) (Kept (marksOf n lows highs states k))
       (getD routes i []) (omega (arith, holds .long)) (holds .along))

@@ -1,14 +1,14 @@
 -- The planner's promise, `SheetPromise`: every input gets a sheet whose routes never meet, or the line of the first refusal met.
 -- Rests on demand 3, which the routes of a sheet meet, and on the links found along them.
 use Prim.Native.Nat.{ℕ}
-use mathlib.Core.List.{List, []}
+use mathlib.Core.List.{List}
 use mathlib.Core.Logic.{_⊎_, inl, inr}
 use mathlib.Core.Path.{_≡_, refl, _∙_, ap, subst}
 use native.Mathlib.Omega.{arith}
 use lib.ListN.{getD, drop}
 use Rattle.definitions.specs.Outcome.{Outcome, refused, done, andThen}
 use Rattle.definitions.specs.Forests.{marksOf, cutAnswer}
-use Rattle.definitions.specs.Route.{routesOf, routeAnswer}
+use Rattle.definitions.specs.Route.{routeAnswer}
 use Rattle.definitions.specs.Form.{departs, reads, scanForm}
 use Rattle.definitions.specs.Text.{Network, readNetwork}
 use Rattle.definitions.specs.Plan.{wishForm, Sheet, room, sheetFor, planned, sheetText, printed, planText}
@@ -30,7 +30,7 @@ use Rattle.lists.specs.SameOutcomes.{refused-then}
 use Rattle.text_theory.specs.Refusals.{on-scan-refused}
 use Rattle.sheet.specs.Planned.{route-passed, sheetOf, keptOf, SheetFor, wish-read, wish-asked, planned-sheet}
 use Rattle.sheet.specs.Refusals.{Printable, planned-printable}
-use Rattle.sheet.specs.Routes.{below-at, below-has, routes-below, routes-of}
+use Rattle.sheet.specs.Routes.{routes-of}
 use Rattle.sheet.specs.Overs.{length-overs, overs-hold}
 
 -- A sheet for a network holds.
@@ -45,16 +45,12 @@ sheet-holds from to k network sheet given =
     let states = network .states in
     let passed = route-passed n lows highs states k from to (room 32) (room 1062) (room 32000) (given .answer) (given .routed) in
     let routes = routes-of n lows highs states k from to passed in
-    let all : List (List ℕ) = routesOf n lows highs states k from to in
     record {
       some = passed .some;
       few = passed .few;
       many = routes .number;
       differ = passed .differ;
-      each = routes .each;
-      below = λ i h r member. below-has n (getD all i []) r
-          (below-at n all i (routes-below n n lows highs states k from to (omega (arith, passed .starts .0)) (omega arith))) member;
-      apart = routes .apart;
+      disjoint = routes .disjoint;
       manyOvers = length-overs n lows highs states k from to passed;
       over = overs-hold n lows highs states k from to passed;
       kept = refl;

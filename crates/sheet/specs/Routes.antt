@@ -1,20 +1,18 @@
 -- The routes of a sheet: there are k of them, their relays are relays of the network, and they hold as demand 3 says.
-use Prim.Native.Nat.{ℕ, zero, suc, _≤_, _<_, pred}
-use mathlib.Core.Bool.{Bool, true, false, false≢true}
+use Prim.Native.Nat.{ℕ, _≤_, _<_, pred}
+use mathlib.Core.Bool.{Bool, true, false}
 use mathlib.Core.List.{List, [], _∷_, _++_, map, reverse}
-use mathlib.Core.Logic.{_⊎_, inl, inr}
 use mathlib.Core.Path.{_≡_, refl, _∙_}
 use native.Mathlib.Omega.{arith}
 use lib.Dec.{ltb}
 use lib.ListN.{length, getD, length-map, List·getD-eq-default}
 use borrow.Author.Tests.{ltb-true, ltb-false}
 use Rattle.definitions.specs.Outcome.{pick}
-use Rattle.definitions.specs.Lists.{has, joinAll}
+use Rattle.definitions.specs.Lists.{joinAll}
 use Rattle.definitions.specs.Order.{orderOf, placeOf, relayAt}
 use Rattle.definitions.specs.Forests.{marksOf}
 use Rattle.definitions.specs.Sweep.{slotRoute, sweepRoutes}
 use Rattle.definitions.specs.Route.{leftOf, routesBetween, routesOf}
-use Rattle.lists.specs.Cases.{has-cases}
 use Rattle.theory.specs.PlaceSweep.{sweep}
 use Rattle.theory.specs.Ordering.{order-at}
 use Rattle.theory.specs.Columns.{mark-entry}
@@ -57,28 +55,6 @@ pub below-joined : (bound : ℕ) (f : List ℕ → List ℕ) → ((l : List ℕ)
 unfolding joinAll
 below-joined bound f h [] = tt
 below-joined bound f h (l ∷ lists) = below-append bound (f l) _ (h l) (below-joined bound f h lists)
-
-below-parts : (bound : ℕ) (l k : List ℕ) → AllBelow bound (l ++ k) → AllBelow bound l × AllBelow bound k
-below-parts bound [] k h = (tt, h)
-below-parts bound (x ∷ l) k h =
-    let parts = below-parts bound l k (h .1) in
-    ((h .0, parts .0), parts .1)
-
--- Each of the lists that are joined.
-pub below-at : (bound : ℕ) (lists : List (List ℕ)) (i : ℕ) → AllBelow bound (joinAll lists) → AllBelow bound (getD lists i [])
-unfolding joinAll
-below-at bound [] i h = tt
-below-at bound (l ∷ lists) zero h = below-parts bound l (joinAll lists) h .0
-below-at bound (l ∷ lists) (suc i) h = below-at bound lists i (below-parts bound l (joinAll lists) h .1)
-
-pub below-has : (bound : ℕ) (l : List ℕ) (x : ℕ) → AllBelow bound l → has l x ≡ true → x < bound
-unfolding has
-below-has bound [] x h member = absurd (false≢true member)
-below-has bound (y ∷ l) x h member = go (has-cases y l x member) (below-has bound l x (h .1))
-  where
-    go : (y ≡ x) ⊎ (has l x ≡ true) → (has l x ≡ true → x < bound) → x < bound
-    go (inl same) later = omega (arith, h .0)
-    go (inr there) later = later there
 
 relay-below : (n : ℕ) (lows highs states : List ℕ) → 1 ≤ n → (v : ℕ) → relayAt (orderOf n lows highs states) v < n
 unfolding relayAt

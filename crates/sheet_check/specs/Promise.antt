@@ -43,14 +43,15 @@ module _ (lows highs states : List ℕ) (picked : ℕ → Type 0)
   serving-along [] along = tt
   serving-along (a ∷ rest) along = serving-from a rest along
 
-  serving-route : (from to : ℕ) (route : List ℕ) → RouteHolds lows highs picked from to route
-      → RouteHolds lows highs (InService lows highs states) from to route
-  serving-route from to route holds =
+  serving-route : {n from to : ℕ} (route : List ℕ) → RouteHolds n lows highs states picked from to route
+      → RouteHolds n lows highs states (InService lows highs states) from to route
+  serving-route route holds =
       record {
         long = holds .long;
         starts = holds .starts;
         ends = holds .ends;
         along = serving-along route (holds .along);
+        through = holds .through;
         noRepeat = holds .noRepeat;
       }
 
@@ -62,9 +63,11 @@ module _ (lows highs states : List ℕ) (picked : ℕ → Type 0)
         few = holds .few;
         many = holds .many;
         differ = holds .differ;
-        each = λ i less. serving-route (sheet .from) (sheet .to) (getD (sheet .routes) i []) (holds .each i less);
-        below = holds .below;
-        apart = holds .apart;
+        disjoint =
+            record {
+              each = λ i less. serving-route (getD (sheet .routes) i []) (holds .disjoint .each i less);
+              apart = holds .disjoint .apart;
+            };
         manyOvers = holds .manyOvers;
         over = holds .over;
         kept = holds .kept;

@@ -65,26 +65,25 @@ lines-fit (route ∷ routes) (over ∷ overs) even fits =
 
 module _ (n : ℕ) (lows highs states : List ℕ) (ok : Accepted n lows highs states) (sheet : Sheet)
     (holds : SheetHolds n lows highs states (InService lows highs states) sheet) where
-  line-fits : (i : ℕ) → i < sheet .k → LineFits (getD (sheet .routes) i []) (getD (sheet .overs) i [])
+  line-fits : (i : ℕ) → i < length (sheet .routes) → LineFits (getD (sheet .routes) i []) (getD (sheet .overs) i [])
   line-fits i less =
       let proper = accepted n lows highs states ok in
       let route = getD (sheet .routes) i [] in
       let over = getD (sheet .overs) i [] in
-      let long = holds .each i less .long in
-      let links = links-fit lows highs 10000 (omega (arith, proper .short)) route over (holds .over i less) in
-      let relays = members-below 10000 route (λ r member. omega (arith, proper .few, holds .below i less r member)) in
-      (long, omega (arith, links .many), relays, links .small)
+      let good = holds .disjoint .each i less in
+      let links = links-fit lows highs 10000 (omega (arith, proper .short)) route over (holds .over i (omega (arith, holds .many))) in
+      let relays = members-below 10000 route (λ r member. omega (arith, proper .few, good .through r member .0)) in
+      (good .long, omega (arith, links .many), relays, links .small)
 
   -- All its numbers have at most four digits.
   sheet-fits : SheetFits sheet
   sheet-fits =
       let proper = accepted n lows highs states ok in
       let route = getD (sheet .routes) 0 [] in
-      let least : 0 < sheet .k = omega (arith, holds .some) in
-      let first = holds .each 0 least in
-      let start : getD route 0 0 < n = holds .below 0 least _ (has-at route 0 (omega (arith, first .long))) in
+      let first = holds .disjoint .each 0 (omega (arith, holds .some, holds .many)) in
+      let start : getD route 0 0 < n = first .through _ (has-at route 0 (omega (arith, first .long))) .0 in
       let last = length route - 1 in
-      let end : getD route last 0 < n = holds .below 0 least _ (has-at route last (omega (arith, first .long))) in
+      let end : getD route last 0 < n = first .through _ (has-at route last (omega (arith, first .long))) .0 in
       record {
         smallFrom = omega (arith, start, first .starts, proper .few);
         smallTo = omega (arith, end, first .ends, proper .few);
@@ -99,7 +98,7 @@ module _ (n : ℕ) (lows highs states : List ℕ) (ok : Accepted n lows highs st
             );
         lines =
             lines-fit (sheet .routes) (sheet .overs) (holds .many ∙ sym (holds .manyOvers))
-            (λ i less. line-fits i (omega (arith, holds .many)));
+            line-fits;
       }
 
   -- Its text is answered with yes.

@@ -7,14 +7,16 @@ use mathlib.Core.Logic.{_↔_}
 use mathlib.Core.Path.{_≡_, refl}
 use native.Mathlib.Omega.{arith}
 use lib.ListN.{length}
-use Rattle.definitions.specs.Lists.{has, count, NoRepeat}
-use Rattle.definitions.specs.Network.{linked}
-use Rattle.definitions.specs.Order.{placedAfter}
+use Rattle.definitions.specs.Lists.{has, count}
+use Rattle.definitions.specs.Network.{linked, Serving}
+use Rattle.definitions.specs.Order.{servingRelays, placedAfter}
 use Rattle.definitions.specs.DisjointRoutes.{LinkOf}
 use Rattle.definitions.specs.Demand.{Joined, Kept, OneTree}
 use Rattle.definitions.specs.Networks.{mesh}
 use Rattle.definitions.specs.Opened.{opened}
 use Rattle.theory.specs.Accepted.{accepted}
+use Rattle.theory.specs.ServingRelays.{serving-once, serving-below, serving-serves}
+use Rattle.theory.specs.Ordering.{placed-candidates}
 use Rattle.theory.specs.ForestNumbers.{Placed, forest-placed}
 use Rattle.theory.specs.Arranged.{Arranged, arranged-placed}
 use Rattle.theory.specs.ForestBound.{linksIn, forest-size}
@@ -29,9 +31,12 @@ lows = mesh .lows
 abbrev highs : List ℕ
 highs = mesh .highs
 
--- The relays in service.
+-- The relays in service: relay 4 is not.
+abbrev states : List ℕ
+states = 1 ∷ 1 ∷ 1 ∷ 1 ∷ 0 ∷ []
+
 abbrev candidates : List ℕ
-candidates = 0 ∷ 1 ∷ 2 ∷ 3 ∷ []
+candidates = servingRelays 5 states
 
 abbrev order : List ℕ
 order = placedAfter (linked lows highs) 2 candidates 4
@@ -40,16 +45,23 @@ pub order-is : order ≡ 2 ∷ 0 ∷ 1 ∷ 3 ∷ []
 unfolding opened
 order-is = refl
 
-distinct : NoRepeat candidates
-unfolding opened
-distinct = (refl, (refl, (refl, (refl, tt))))
-
 first-in : has candidates 2 ≡ true
 unfolding opened
 first-in = refl
 
+four : 4 ≤ length candidates
+unfolding opened
+four = omega arith
+
 pub part-arranged : Arranged order lows highs
-part-arranged = arranged-placed 5 lows highs (accepted 5 lows highs (mesh .states) mesh-accepted) 2 candidates distinct (λ h. first-in) 4 (omega arith)
+part-arranged =
+    arranged-placed 5 lows highs (accepted 5 lows highs (mesh .states) mesh-accepted) 2 candidates (serving-once 5 states)
+    (λ h. first-in) 4 four
+
+part-serving : (r : ℕ) → has order r ≡ true → Serving 5 states r
+part-serving r h =
+    let found = placed-candidates (linked lows highs) 2 candidates (serving-once 5 states) (λ some. first-in) 4 four r h in
+    (serving-below 5 states r found, serving-serves 5 states r found)
 
 -- By link: 0 1, 0 2, 1 2, 1 3, 2 3, 2 4, 3 4.
 abbrev forests : List ℕ
@@ -101,4 +113,4 @@ few = omega arith
 pub part-survives : (a b : ℕ) → Joined (LiveIn order none) (LinkOf lows highs (Kept marks)) a b
     ↔ Joined (LiveIn order none) (LinkOf lows highs (Placed order lows highs)) a b
 part-survives =
-    survives-in order lows highs part-arranged 1 (omega arith) marks part-marked none few (Placed order lows highs) (λ i h p. p)
+    survives-in order lows highs part-arranged 5 states part-serving 1 (omega arith) marks part-marked none few (Placed order lows highs) (λ i h p. p)

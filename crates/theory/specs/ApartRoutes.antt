@@ -14,9 +14,10 @@ use Rattle.lists.specs.Tests.{or-left}
 use Rattle.lists.specs.Ends.{two-entries}
 use Rattle.theory.specs.SharedLinks.{shared-link}
 
-module _ (lows highs : List ℕ) {picked : ℕ → Type 0} {from to : ℕ} where
+module _ (lows highs : List ℕ) {n : ℕ} {states : List ℕ} {picked : ℕ → Type 0} {from to : ℕ} where
   -- Two routes that share no relay but the ends are apart if not both are of two relays.
-  pub relays-apart : (one other : List ℕ) → RouteHolds lows highs picked from to one → RouteHolds lows highs picked from to other
+  pub relays-apart : (one other : List ℕ) → RouteHolds n lows highs states picked from to one
+      → RouteHolds n lows highs states picked from to other
       → ((r : ℕ) → has one r ≡ true → has other r ≡ true → (r ≡ from) ⊎ (r ≡ to)) → (length one ≡ 2 → 2 < length other)
       → Apart lows highs from to one other
   relays-apart one other first second shared longer =
@@ -29,22 +30,23 @@ module _ (lows highs : List ℕ) {picked : ℕ → Type 0} {from to : ℕ} where
       }
 
   -- A route of two relays is its two ends,
-  direct-ends : (route : List ℕ) → RouteHolds lows highs picked from to route → length route ≡ 2 → route ≡ from ∷ to ∷ []
+  direct-ends : (route : List ℕ) → RouteHolds n lows highs states picked from to route → length route ≡ 2 → route ≡ from ∷ to ∷ []
   direct-ends route holds two = two-entries route two ∙ ap₂ (λ (a b : ℕ). a ∷ b ∷ []) (holds .starts) (holds .ends)
 
   -- so a link joins them,
-  direct-link : (route : List ℕ) → RouteHolds lows highs picked from to route → length route ≡ 2 → LinkOf lows highs picked from to
+  direct-link : (route : List ℕ) → RouteHolds n lows highs states picked from to route → length route ≡ 2 → LinkOf lows highs picked from to
   direct-link route holds two = subst (Along (LinkOf lows highs picked)) (direct-ends route holds two) (holds .along) .0
 
   -- and the route goes over every link that does.
-  direct-uses : (route : List ℕ) → RouteHolds lows highs picked from to route → length route ≡ 2
+  direct-uses : (route : List ℕ) → RouteHolds n lows highs states picked from to route → length route ≡ 2
       → (l : ℕ) → joins lows highs from to l ≡ true → uses lows highs l route ≡ true
   unfolding uses usesFrom
   direct-uses route holds two l e =
       ap (uses lows highs l) (direct-ends route holds two) ∙ or-left (joins lows highs from to l) false e
 
   -- Of two routes that are apart not both are of two relays.
-  pub apart-longer : (one other : List ℕ) → RouteHolds lows highs picked from to one → RouteHolds lows highs picked from to other
+  pub apart-longer : (one other : List ℕ) → RouteHolds n lows highs states picked from to one
+      → RouteHolds n lows highs states picked from to other
       → Apart lows highs from to one other → length one ≡ 2 → 2 < length other
   apart-longer one other first second apart two =
       by-cases (decLt 2 (length other)) (λ more. more)

@@ -9,7 +9,7 @@ use native.Mathlib.Decide.{decLe}
 use native.Mathlib.Omega.{arith}
 use lib.ListN.{length, getD}
 use Rattle.definitions.specs.Lists.{has, count}
-use Rattle.definitions.specs.Network.{Accepted}
+use Rattle.definitions.specs.Network.{Accepted, Serving}
 use Rattle.definitions.specs.Order.{servingRelays, orderOf, placeOf, relayAt}
 use Rattle.definitions.specs.Route.{routesBetween}
 use Rattle.definitions.specs.DisjointRoutes.{LinkOf, InService}
@@ -18,7 +18,7 @@ use Rattle.lists.specs.Pigeonhole.{count-within, pigeonhole, firstPassing, free
 use Rattle.theory.specs.JoinedRelays.{joined-map, joined-replace, route-joined}
 use Rattle.theory.specs.LeftLaws.{LeftLaws}
 use Rattle.theory.specs.Trees.{Alive, TreeLink, alive-lower, alive-left}
-use Rattle.theory.specs.Ordering.{order-no-repeat, order-serving, order-has, order-below, order-serves}
+use Rattle.theory.specs.Ordering.{order-no-repeat, order-serving, order-has, order-relay}
 use Rattle.theory.specs.ForestNumbers.{forestIn, Placed, joined-placed, placed-serves}
 use Rattle.theory.specs.Arranged.{leftIn, Arranged, arranged-forest, base-arranged}
 use Rattle.theory.specs.Columns.{MarkedIn, Marked, kept-forest}
@@ -48,11 +48,12 @@ link-differ left laws f p q (inr l) same = omega (arith, laws .below f q (omega 
 abbrev pub LiveIn : List ℕ → (ℕ → Bool) → ℕ → Type 0
 LiveIn order dead r = (has order r ≡ true) × (dead r ≡ false)
 
-module _ (order lows highs : List ℕ) (arranged : Arranged order lows highs) (k : ℕ) (one : 1 ≤ k) (marks : List ℕ)
+module _ (order lows highs : List ℕ) (arranged : Arranged order lows highs) (n : ℕ) (states : List ℕ)
+    (serving : (r : ℕ) → has order r ≡ true → Serving n states r) (k : ℕ) (one : 1 ≤ k) (marks : List ℕ)
     (marked : MarkedIn order lows highs k marks) (dead : ℕ → Bool) (few : count dead order < k) where
   -- Of k routes between two live relays one is live throughout: each dead relay is on at most one of them.
   live-route : (a b : ℕ) → LiveIn order dead a → LiveIn order dead b → (routes : List (List ℕ))
-      → RoutesIn order lows highs marks k a b routes → Joined (LiveIn order dead) (LinkOf lows highs (Kept marks)) a b
+      → RoutesIn order n lows highs states marks k a b routes → Joined (LiveIn order dead) (LinkOf lows highs (Kept marks)) a b
   live-route a b la lb routes holds = go (free-list dead (λ i. getD routes i []) k)
     where
       ends-live : (x : ℕ) → dead x ≡ true → (x ≡ a) ⊎ (x ≡ b) → ⊥
@@ -62,21 +63,24 @@ module _ (order lows highs : List ℕ) (arranged : Arranged order lows highs) (k
       found : ℕ → ℕ
       found i = firstPassing dead (getD routes i [])
 
+      within : (i : ℕ) → i < k → i < length routes
+      within i h = omega (arith, holds .number)
+
       go : ((i : ℕ) × (i < k) × ((x : ℕ) → has (getD routes i []) x ≡ true → dead x ≡ false))
           ⊎ ((i : ℕ) → i < k → (has (getD routes i []) (found i) ≡ true) × (dead (found i) ≡ true))
           → Joined (LiveIn order dead) (LinkOf lows highs (Kept marks)) a b
       go (inl free) =
           let route : List ℕ = getD routes (free .0) [] in
-          let route-holds = holds .each (free .0) (free .1) in
+          let route-holds = holds .disjoint .each (free .0) (within (free .0) (free .1)) in
           subst₂ (Joined (LiveIn order dead) (LinkOf lows highs (Kept marks))) (route-holds .starts) (route-holds .ends)
           (route-joined route (omega (arith, route-holds .long))
-          (λ x h. (holds .within (free .0) (free .1) x h, free .2 x h)) (route-holds .along))
+          (λ x h. (holds .within (free .0) (within (free .0) (free .1)) x h, free .2 x h)) (route-holds .along))
       go (inr blocked) =
           let all : k ≤ count dead order =
-          pigeonhole dead order k found (λ i h. (holds .within i h (found i) (blocked i h .0), blocked i h .1))
+          pigeonhole dead order k found (λ i h. (holds .within i (within i h) (found i) (blocked i h .0), blocked i h .1))
           (λ i j less h e.
           ends-live (found i) (blocked i (omega arith) .1)
-          (holds .apart i j (omega arith) h (omega arith) .relays (found i) (blocked i (omega arith) .0)
+          (holds .disjoint .apart i j (within i (omega arith)) (within j h) (omega arith) .relays (found i) (blocked i (omega arith) .0)
           (subst (λ (x : ℕ). has (getD routes j []) x ≡ true) (sym e) (blocked j h .0)))) in
           absurd (omega arith)
 
@@ -97,7 +101,7 @@ module _ (order lows highs : List ℕ) (arranged : Arranged order lows highs) (k
       let alive : AliveBetween left k p q =
       alive-lower left (arranged .laws) k f (min p q) (max p q) one (omega arith) (link-alive left (arranged .laws) f p q link) in
       live-route a b la lb (map (map (relayAt order)) (routesBetween left k p q))
-      (routes-in order lows highs arranged k marks marked one a b (la .0) (lb .0)
+      (routes-in order lows highs arranged n states serving k marks marked one a b (la .0) (lb .0)
       (λ e. link-differ left (arranged .laws) f p q link (ap (placeOf order) e)) alive))
 
   -- All the links: any choice that has every link with both ends in the order.
@@ -125,14 +129,15 @@ module _ (n : ℕ) (lows highs states : List ℕ) (ok : Accepted n lows highs st
       ↔ Joined (Live n states dead) (LinkOf lows highs (InService lows highs states)) a b
   survives a b =
       let general =
-      survives-in (orderOf n lows highs states) lows highs (base-arranged n lows highs states ok) k one marks marked dead few-placed
+      survives-in (orderOf n lows highs states) lows highs (base-arranged n lows highs states ok) n states
+      (order-relay n lows highs states) k one marks marked dead few-placed
       (InService lows highs states) (λ i h p. placed-serves n lows highs states i p) a b in
       (λ chain. back (general .0 (there chain)), λ chain. back (general .1 (there chain)))
     where
       there : {link : ℕ → ℕ → Type 0} → Joined (Live n states dead) link a b → Joined (LiveIn (orderOf n lows highs states) dead) link a b
-      there = joined-map (λ r. r) (λ r l. (order-has n lows highs states r (l .0, l .1), l .2)) (λ r s l. l)
+      there = joined-map (λ r. r) (λ r l. (order-has n lows highs states r (l .0), l .1)) (λ r s l. l)
 
       back : {link : ℕ → ℕ → Type 0} → Joined (LiveIn (orderOf n lows highs states) dead) link a b → Joined (Live n states dead) link a b
       back =
           joined-map (λ r. r)
-          (λ r l. (order-below n lows highs states r (l .0), order-serves n lows highs states r (l .0), l .1)) (λ r s l. l)
+          (λ r l. (order-relay n lows highs states r (l .0), l .1)) (λ r s l. l)

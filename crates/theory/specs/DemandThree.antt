@@ -22,7 +22,7 @@ demand-three n lows highs states ok k one most relays places forests marks roomR
         no-mark n lows highs states k i h e (marksAfter n lows highs states k marks) marked,
       );
       addUp = split-total n lows highs states ok forests roomForests;
-      routes = λ from to hf ht sf st differ counts routeRelays scratch room.
-          delivers n lows highs states ok k one most from to (hf, sf) (ht, st) differ counts routeRelays scratch room
+      routes = λ from to hf ht differ counts routeRelays scratch room.
+          delivers n lows highs states ok k one most from to hf ht differ counts routeRelays scratch room
           (forestsAfter n lows highs states forests) (marksAfter n lows highs states k marks) numbered marked;
     }

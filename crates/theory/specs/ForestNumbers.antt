@@ -17,7 +17,7 @@ use Rattle.definitions.specs.Route.{leftOf}
 use Rattle.lists.specs.Tests.{and-both, and-all}
 use Rattle.theory.specs.Accepted.{accepted}
 use Rattle.theory.specs.Links.{joins-ends, joins-low-high, joins-high-low, joined-linked, linked-joined}
-use Rattle.theory.specs.Ordering.{order-no-repeat, order-has, order-serves}
+use Rattle.theory.specs.Ordering.{order-no-repeat, order-has, order-relay}
 use Rattle.theory.specs.Places.{relay-of-place, place-of-relay, placed-in}
 use Rattle.theory.specs.Left.{left-range, left-below, left-linked, left-forest, forest-some, forest-left}
 
@@ -180,7 +180,7 @@ module _ (n : ℕ) (lows highs states : List ℕ) where
   unfolding linkServes
   placed-serves i placed =
       and-all (serves states (getD lows i 0)) (serves states (getD highs i 0))
-      (order-serves n lows highs states (getD lows i 0) (placed .0)) (order-serves n lows highs states (getD highs i 0) (placed .1))
+      (order-relay n lows highs states (getD lows i 0) (placed .0) .1) (order-relay n lows highs states (getD highs i 0) (placed .1) .1)
 
   pub accepted-link-facts : Accepted n lows highs states → (i : ℕ) → i < length lows → linkServes lows highs states i ≡ true
       → LinkFacts (orderOf n lows highs states) lows highs i

@@ -25,6 +25,7 @@ pub mod Columns
 pub mod TableLinks
 pub mod RelayTrees
 pub mod SharedLinks
+pub mod RouteLinks
 pub mod SweepReady
 pub mod SweepStep
 pub mod SweepHolds
@@ -35,6 +36,8 @@ pub mod RouteAnswer
 pub mod RoutePassed
 pub mod Certificate
 pub mod DemandThree
+pub mod LastLinks
+pub mod LastTwo
 pub mod Mesh
 pub mod AnotherOrder
 pub mod SweepTrades

@@ -1,6 +1,6 @@
 -- The links of a table: which link joins two relays, either way round, and that of an accepted table at most one does.
 use Prim.Native.Nat.{ℕ, _<_}
-use mathlib.Core.Bool.{true}
+use mathlib.Core.Bool.{true, _||_}
 use mathlib.Core.List.{List}
 use mathlib.Core.Logic.{_⊎_, inl, inr}
 use mathlib.Core.Path.{_≡_, sym, _∙_}
@@ -8,7 +8,7 @@ use native.Mathlib.Omega.{arith}
 use borrow.Author.Tests.{eqb-true, eq-eqb}
 use lib.Dec.{eqb}
 use lib.ListN.{length, getD}
-use Rattle.definitions.specs.Network.{isPair, joins, linked}
+use Rattle.definitions.specs.Network.{isPair, joins, linked, touches}
 use Rattle.lists.specs.Tests.{or-left, or-right, or-either, and-both, and-all}
 use Rattle.lists.specs.Below.{below-some, below-which}
 use Rattle.theory.specs.Accepted.{ProperTable, same-link}
@@ -51,6 +51,24 @@ module _ (lows highs : List ℕ) where
           → joins lows highs b a i ≡ true
       go (inl e) = joins-high-low b a i (e .0) (e .1)
       go (inr e) = joins-low-high b a i (e .0) (e .1)
+
+  -- A link that joins a and b has a as an end, and what has r as an end has it as its low or its high relay.
+  pub joins-touch : (a b i : ℕ) → joins lows highs a b i ≡ true → touches lows highs a i ≡ true
+  unfolding touches
+  joins-touch a b i h = go (joins-ends a b i h)
+    where
+      go : ((getD lows i 0 ≡ a) × (getD highs i 0 ≡ b)) ⊎ ((getD lows i 0 ≡ b) × (getD highs i 0 ≡ a))
+          → (eqb (getD lows i 0) a || eqb (getD highs i 0) a) ≡ true
+      go (inl e) = or-left (eqb (getD lows i 0) a) (eqb (getD highs i 0) a) (eq-eqb (getD lows i 0) a (e .0))
+      go (inr e) = or-right (eqb (getD lows i 0) a) (eqb (getD highs i 0) a) (eq-eqb (getD highs i 0) a (e .1))
+
+  pub touch-ends : (r i : ℕ) → touches lows highs r i ≡ true → (getD lows i 0 ≡ r) ⊎ (getD highs i 0 ≡ r)
+  unfolding touches
+  touch-ends r i h = go (or-either (eqb (getD lows i 0) r) (eqb (getD highs i 0) r) h)
+    where
+      go : (eqb (getD lows i 0) r ≡ true) ⊎ (eqb (getD highs i 0) r ≡ true) → (getD lows i 0 ≡ r) ⊎ (getD highs i 0 ≡ r)
+      go (inl e) = inl (eqb-true (getD lows i 0) r e)
+      go (inr e) = inr (eqb-true (getD highs i 0) r e)
 
   pub joined-linked : (a b i : ℕ) → i < length lows → joins lows highs a b i ≡ true → linked lows highs a b ≡ true
   unfolding linked

@@ -10,14 +10,14 @@ use lib.Dec.{eqb, leb}
 use lib.ListN.{length, getD, take, length-append}
 use lib.Seq.{take-all, take-append-le, getD-at, getD-take}
 use Rattle.definitions.specs.Lists.{has, count, NoRepeat}
-use Rattle.definitions.specs.Network.{linked as linkedIn, serves}
+use Rattle.definitions.specs.Network.{linked as linkedIn, Serving}
 use Rattle.definitions.specs.Order.{weight, unplaced, heaviestOf, nextRelay, placeNext, placedAfter, servingRelays, firstRelay, orderOf}
 use Rattle.lists.specs.Tests.{and-both}
 use Rattle.lists.specs.Members.{has-at, has-keep, index-of}
 use Rattle.lists.specs.Distinct.{no-repeat-snoc, distinct}
 use Rattle.lists.specs.Counting.{count-has, count-not, count-once, count-present, length-keep, covers}
 use Rattle.lists.specs.Ascending.{Ascending, ascending-keep}
-use Rattle.theory.specs.ServingRelays.{Serving, serving-few, serving-once, serving-has, serving-below, serving-serves, first-of-all}
+use Rattle.theory.specs.ServingRelays.{serving-few, serving-once, serving-has, serving-below, serving-serves, first-of-all}
 use Rattle.theory.specs.Heaviest.{Chosen, heaviestOf-chosen, chosen-has, chosen-most, chosen-is}
 
 -- What has no place yet: a candidate that is not placed.
@@ -243,11 +243,8 @@ module _ (n : ℕ) (lows highs states : List ℕ) where
       placed-candidates (linkedIn lows highs) (firstRelay n lows highs states) (servingRelays n states) (serving-once n states)
       (first-of-all n states lows highs) (length (servingRelays n states)) (omega arith) r h
 
-  pub order-below : (r : ℕ) → has (orderOf n lows highs states) r ≡ true → r < n
-  order-below r h = serving-below n states r (order-serving r h)
-
-  pub order-serves : (r : ℕ) → has (orderOf n lows highs states) r ≡ true → serves states r ≡ true
-  order-serves r h = serving-serves n states r (order-serving r h)
+  pub order-relay : (r : ℕ) → has (orderOf n lows highs states) r ≡ true → Serving n states r
+  order-relay r h = let found = order-serving r h in (serving-below n states r found, serving-serves n states r found)
 
   pub order-has : (r : ℕ) → Serving n states r → has (orderOf n lows highs states) r ≡ true
   unfolding orderOf
@@ -263,7 +260,7 @@ module _ (n : ℕ) (lows highs states : List ℕ) where
   pub order-at : (v : ℕ) → v < length (orderOf n lows highs states) → getD (orderOf n lows highs states) v 0 < n
   order-at v h =
       let order = orderOf n lows highs states in
-      order-below (getD order v 0) (has-at order v h)
+      order-relay (getD order v 0) (has-at order v h) .0
 
   pub order-maximal : (v w : ℕ) → v < w → w < length (servingRelays n states)
       → count (λ p. linkedIn lows highs p (getD (orderOf n lows highs states) w 0)) (take v (orderOf n lows highs states))

@@ -9,7 +9,7 @@ use mathlib.Core.Path.{_≡_, sym, _∙_, ap, fun-ext}
 use native.Mathlib.Omega.{arith}
 use lib.ListN.{length}
 use Rattle.definitions.specs.Lists.{firstFrom, joinAll}
-use Rattle.definitions.specs.Network.{isPair, joins, Accepted}
+use Rattle.definitions.specs.Network.{isPair, joins, Accepted, Serving}
 use Rattle.definitions.specs.Order.{orderOf, placeOf, relayAt}
 use Rattle.definitions.specs.Forests.{leftEntry, forestsOf, marksOf}
 use Rattle.definitions.specs.Route.{leftOf, routesBetween, routesOf, oneTreeOf}
@@ -19,7 +19,6 @@ use Rattle.lists.specs.Tests.{or-turn}
 use Rattle.lists.specs.Searches.{first-holds}
 use Rattle.lists.specs.Maps.{map-map}
 use Rattle.lists.specs.Steps.{stepsOf, stepsOf-map, length-all-steps}
-use Rattle.theory.specs.ServingRelays.{Serving}
 use Rattle.theory.specs.Arranged.{leftIn, Arranged, base-arranged}
 use Rattle.theory.specs.RelayTrees.{AliveBetween, places-differ, one-tree-alive, one-tree-test}
 use Rattle.theory.specs.ForestBound.{forests-at}
@@ -121,7 +120,7 @@ module _ (n : ℕ) (lows highs states : List ℕ) (ok : Accepted n lows highs st
       omega (
         arith,
         ap (λ (l : List (List ℕ)). length (joinAll l)) (overs-found n lows highs states ok k from to hf ht differ tree-between),
-        length-all-steps (pairLink lows highs) routes (λ i less. omega (arith, holds .each i (omega (arith, holds .number)) .long)),
+        length-all-steps (pairLink lows highs) routes (λ i less. omega (arith, holds .disjoint .each i less .long)),
         holds .number,
         holds .written,
       )

@@ -12,7 +12,7 @@ use lib.Dec.{ltb}
 use lib.ListN.{length, getD}
 use Rattle.definitions.specs.Outcome.{done, refuseIf}
 use Rattle.definitions.specs.Lists.{overwrite, has, NoRepeat}
-use Rattle.definitions.specs.Network.{serves, tableCheck, Accepted}
+use Rattle.definitions.specs.Network.{serves, tableCheck, Accepted, Serving}
 use Rattle.definitions.specs.Demand.{MaximalOrder}
 use Rattle.definitions.specs.Order.{servingRelays, firstRelay, orderOf, placeOf, relayAt, orderAnswer, placesOf, relaysAfter, placesAfter}
 use Rattle.lists.specs.Outcomes.{refuse-not, then-done, if-done}
@@ -21,8 +21,8 @@ use Rattle.lists.specs.Tables.{length-table, getD-table}
 use Rattle.lists.specs.Overwritten.{getD-overwrite, take-overwrite}
 use Rattle.lists.specs.Members.{has-at}
 use Rattle.lists.specs.Positions.{position-which, position-at, position-absent}
-use Rattle.theory.specs.ServingRelays.{Serving, serving-has, serving-some, first-busiest, first-lowest}
-use Rattle.theory.specs.Ordering.{order-length, order-no-repeat, order-has, order-below, order-serves, order-maximal, order-first}
+use Rattle.theory.specs.ServingRelays.{serving-has, serving-some, first-busiest, first-lowest}
+use Rattle.theory.specs.Ordering.{order-length, order-no-repeat, order-has, order-relay, order-maximal, order-first}
 
 pub relay-of-place : (order : List ℕ) (r : ℕ) → has order r ≡ true
     → (1 ≤ placeOf order r) × (placeOf order r ≤ length order) × (relayAt order (placeOf order r) ≡ r)
@@ -69,7 +69,7 @@ module _ (n : ℕ) (lows highs states : List ℕ) where
   relay-unplaced r s = position-absent (orderOf n lows highs states) r (go (has (orderOf n lows highs states) r) refl)
     where
       go : (b : Bool) → has (orderOf n lows highs states) r ≡ b → b ≡ false
-      go true e = absurd (true≢false (sym (order-serves n lows highs states r e) ∙ s))
+      go true e = absurd (true≢false (sym (order-relay n lows highs states r e .1) ∙ s))
       go false e = refl
 
   -- The relay at a place, and the place back.
@@ -81,8 +81,8 @@ module _ (n : ℕ) (lows highs states : List ℕ) where
       let order = orderOf n lows highs states in
       let within : v ≤ length order = omega (arith, order-length n lows highs states) in
       let found = relay-in order v h within in (
-        order-below n lows highs states (relayAt order v) found,
-        order-serves n lows highs states (relayAt order v) found,
+        order-relay n lows highs states (relayAt order v) found .0,
+        order-relay n lows highs states (relayAt order v) found .1,
         place-of-relay order (order-no-repeat n lows highs states) v h within,
       )
 
@@ -112,7 +112,7 @@ module _ (n : ℕ) (lows highs states : List ℕ) where
       (order-done relays places accepted h k)
 
   -- The lists as Order leaves them, entry by entry.
-  relay-entry : (relays : List ℕ) (v : ℕ) → v < length (servingRelays n states)
+  pub relay-entry : (relays : List ℕ) (v : ℕ) → v < length (servingRelays n states)
       → getD (overwrite (orderOf n lows highs states) relays) v 0 ≡ relayAt (orderOf n lows highs states) (suc v)
   unfolding relayAt
   relay-entry relays v h =

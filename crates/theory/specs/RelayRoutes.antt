@@ -8,10 +8,10 @@ use mathlib.Core.Path.{_≡_, sym, _∙_, ap, ap₂, subst, subst₂}
 use native.Mathlib.Omega.{arith}
 use lib.ListN.{length, getD, length-map, List·getD-map}
 use Rattle.definitions.specs.Lists.{has, joinAll}
-use Rattle.definitions.specs.Network.{Accepted}
+use Rattle.definitions.specs.Network.{Accepted, Serving}
 use Rattle.definitions.specs.Order.{orderOf, placeOf, relayAt}
 use Rattle.definitions.specs.Route.{leftOf, routesBetween, routesOf}
-use Rattle.definitions.specs.DisjointRoutes.{LinkOf, RouteHolds, Apart}
+use Rattle.definitions.specs.DisjointRoutes.{LinkOf, RouteHolds, Apart, DisjointRoutes}
 use Rattle.definitions.specs.Demand.{Kept}
 use Rattle.lists.specs.Members.{has-map}
 use Rattle.lists.specs.Distinct.{no-repeat-map}
@@ -19,8 +19,7 @@ use Rattle.lists.specs.Maps.{getD-map}
 use Rattle.lists.specs.Cuts.{length-joinAll-map}
 use Rattle.theory.specs.JoinedRelays.{along-map}
 use Rattle.lists.specs.Ends.{two-entries}
-use Rattle.theory.specs.ServingRelays.{Serving}
-use Rattle.theory.specs.Ordering.{order-few, order-has, order-below, order-serves}
+use Rattle.theory.specs.Ordering.{order-few, order-has, order-relay}
 use Rattle.theory.specs.Places.{relay-of-place, place-of-relay, relay-in, places-apart}
 use Rattle.theory.specs.Arranged.{leftIn, Arranged, base-arranged}
 use Rattle.theory.specs.Columns.{MarkedIn, Marked}
@@ -30,24 +29,21 @@ use Rattle.theory.specs.SharedLinks.{shared-link}
 use Rattle.theory.specs.PlaceRoutes.{LeftLink, RouteWithin, RoutesWithin}
 use Rattle.theory.specs.SweepRoutes.{routes-between}
 
--- k routes from `from` to `to`, through some n relays.
-pub record RoutesThrough (n : ℕ) (relay : ℕ → Type 0) (lows highs marks : List ℕ) (k from to : ℕ) (routes : List (List ℕ)) : Type 0 where
+-- k routes from `from` to `to` along kept links, through relays of an order that are in service.
+pub record RoutesIn (order : List ℕ) (n : ℕ) (lows highs states marks : List ℕ) (k from to : ℕ) (routes : List (List ℕ)) : Type 0 where
   pub number : length routes ≡ k
-  pub each : (i : ℕ) → i < k → RouteHolds lows highs (Kept marks) from to (getD routes i [])
-  pub within : (i : ℕ) → i < k → (r : ℕ) → has (getD routes i []) r ≡ true → relay r
-  pub apart : (i j : ℕ) → i < k → j < k → i ≢ j → Apart lows highs from to (getD routes i []) (getD routes j [])
+  pub disjoint : DisjointRoutes n lows highs states (Kept marks) from to routes
+  pub within : (i : ℕ) → i < length routes → (r : ℕ) → has (getD routes i []) r ≡ true → has order r ≡ true
+  pub written : length (joinAll routes) ≤ length order - 2 + 2 * k
+
+-- The same of the base, whose order has every relay in service.
+pub record RelayRoutes (n : ℕ) (lows highs states marks : List ℕ) (k from to : ℕ) (routes : List (List ℕ)) : Type 0 where
+  pub number : length routes ≡ k
+  pub disjoint : DisjointRoutes n lows highs states (Kept marks) from to routes
   pub written : length (joinAll routes) ≤ n - 2 + 2 * k
 
--- Through the relays of an order, and through the relays in service of the base.
-abbrev pub RoutesIn : (order lows highs marks : List ℕ) (k from to : ℕ) (routes : List (List ℕ)) → Type 0
-RoutesIn order lows highs marks k from to routes =
-    RoutesThrough (length order) (λ r. has order r ≡ true) lows highs marks k from to routes
-
-abbrev pub RelayRoutes : (n : ℕ) (lows highs states marks : List ℕ) (k from to : ℕ) (routes : List (List ℕ)) → Type 0
-RelayRoutes n lows highs states marks k from to routes = RoutesThrough n (Serving n states) lows highs marks k from to routes
-
-module _ (order lows highs : List ℕ) (arranged : Arranged order lows highs) (k : ℕ) (marks : List ℕ)
-    (marked : MarkedIn order lows highs k marks) where
+module _ (order lows highs : List ℕ) (arranged : Arranged order lows highs) (n : ℕ) (states : List ℕ)
+    (serving : (r : ℕ) → has order r ≡ true → Serving n states r) (k : ℕ) (marks : List ℕ) (marked : MarkedIn order lows highs k marks) where
   -- Places that have the same relay are the same.
   same-place : (x y : ℕ) → 1 ≤ x → x ≤ length order → 1 ≤ y → y ≤ length order → relayAt order x ≡ relayAt order y → x ≡ y
   same-place x y one low two high e =
@@ -62,7 +58,14 @@ module _ (order lows highs : List ℕ) (arranged : Arranged order lows highs) (k
         let w = holds .within x h in
         (w .0, omega (arith, w .1))
 
-    route-holds : (route : List ℕ) → OnPlaces route → RouteHolds lows highs (Kept marks) from to (map (relayAt order) route)
+    -- The relays at places of the order are relays of the order.
+    placed-relays : (route : List ℕ) → OnPlaces route → (r : ℕ) → has (map (relayAt order) route) r ≡ true → has order r ≡ true
+    placed-relays route holds r h =
+        let x = has-map (relayAt order) route r h in
+        let low = place-low route holds (x .0) (x .1) in
+        subst (λ (z : ℕ). has order z ≡ true) (x .2) (relay-in order (x .0) (low .0) (low .1))
+
+    route-holds : (route : List ℕ) → OnPlaces route → RouteHolds n lows highs states (Kept marks) from to (map (relayAt order) route)
     route-holds route holds =
         let at : ℕ → ℕ = relayAt order in
         let size : length (map at route) ≡ length route = length-map route at in
@@ -77,6 +80,7 @@ module _ (order lows highs : List ℕ) (arranged : Arranged order lows highs) (k
           along =
               along-map (LeftLink (leftIn order lows highs) k) (LinkOf lows highs (Kept marks)) at
               (λ u v l. kept-link order lows highs arranged k marks marked (l .0) u v (l .2) (l .3)) route (holds .along);
+          through = λ r h. serving r (placed-relays route holds r h);
           noRepeat =
               no-repeat-map at route
               (λ x y hx hy e.
@@ -129,29 +133,34 @@ module _ (order lows highs : List ℕ) (arranged : Arranged order lows highs) (k
 
     pub relay-routes : (routes : List (List ℕ))
         → RoutesWithin (leftIn order lows highs) k top (placeOf order from) (placeOf order to) routes
-        → RoutesIn order lows highs marks k from to (map (map (relayAt order)) routes)
+        → RoutesIn order n lows highs states marks k from to (map (map (relayAt order)) routes)
     relay-routes routes holds =
         let at : ℕ → ℕ = relayAt order in
         let entry : (i : ℕ) → getD (map (map at) routes) i [] ≡ map at (getD routes i []) = λ i. List·getD-map (map at) routes i [] in
+        let size : length (map (map at) routes) ≡ k = length-map routes (map at) ∙ holds .number in
         record {
-          number = length-map routes (map at) ∙ holds .number;
-          each = λ i h.
-              subst (RouteHolds lows highs (Kept marks) from to) (sym (entry i)) (route-holds (getD routes i []) (holds .each i h));
+          number = size;
+          disjoint =
+              record {
+                each = λ i h.
+                    subst (RouteHolds n lows highs states (Kept marks) from to) (sym (entry i))
+                    (route-holds (getD routes i []) (holds .each i (omega (arith, size))));
+                apart = λ i j hi hj ne.
+                    let low : i < k = omega (arith, size) in
+                    let high : j < k = omega (arith, size) in
+                    subst₂ (Apart lows highs from to) (sym (entry i)) (sym (entry j))
+                    (routes-apart (getD routes i []) (getD routes j []) (holds .each i low) (holds .each j high)
+                    (holds .apart i j low high ne) (holds .direct i j low high ne));
+              };
           within = λ i h r e.
-              let x = has-map at (getD routes i []) r (subst (λ (l : List ℕ). has l r ≡ true) (entry i) e) in
-              let low = place-low (getD routes i []) (holds .each i h) (x .0) (x .1) in
-              subst (λ (z : ℕ). has order z ≡ true) (x .2) (relay-in order (x .0) (low .0) (low .1));
-          apart = λ i j hi hj ne.
-              subst₂ (Apart lows highs from to) (sym (entry i)) (sym (entry j))
-              (routes-apart (getD routes i []) (getD routes j []) (holds .each i hi) (holds .each j hj)
-              (holds .apart i j hi hj ne) (holds .direct i j hi hj ne));
+              placed-relays (getD routes i []) (holds .each i (omega (arith, size))) r (subst (λ (l : List ℕ). has l r ≡ true) (entry i) e);
           written = omega (arith, length-joinAll-map at routes, holds .written);
         }
 
   -- The sweep's routes, for two different relays of the order with every place between theirs alive at k.
   pub routes-in : 1 ≤ k → (from to : ℕ) → has order from ≡ true → has order to ≡ true → from ≢ to
       → AliveBetween (leftIn order lows highs) k (placeOf order from) (placeOf order to)
-      → RoutesIn order lows highs marks k from to
+      → RoutesIn order n lows highs states marks k from to
       (map (map (relayAt order)) (routesBetween (leftIn order lows highs) k (placeOf order from) (placeOf order to)))
   routes-in one from to hf ht differ alive =
       let p : ℕ = placeOf order from in
@@ -170,12 +179,11 @@ pub routes-hold : (n : ℕ) (lows highs states : List ℕ) → Accepted n lows h
 unfolding routesOf leftOf
 routes-hold n lows highs states ok k one marks marked from to hf ht differ alive =
     let r =
-    routes-in (orderOf n lows highs states) lows highs (base-arranged n lows highs states ok) k marks marked one from to
+    routes-in (orderOf n lows highs states) lows highs (base-arranged n lows highs states ok) n states
+    (order-relay n lows highs states) k marks marked one from to
     (order-has n lows highs states from hf) (order-has n lows highs states to ht) differ alive in
     record {
       number = r .number;
-      each = r .each;
-      within = λ i h x e. let placed = r .within i h x e in (order-below n lows highs states x placed, order-serves n lows highs states x placed);
-      apart = r .apart;
+      disjoint = r .disjoint;
       written = omega (arith, r .written, order-few n lows highs states);
     }

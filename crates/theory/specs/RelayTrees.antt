@@ -9,7 +9,7 @@ use native.Mathlib.Decide.{decLt}
 use native.Mathlib.Omega.{arith}
 use lib.ListN.{length}
 use Rattle.definitions.specs.Lists.{has}
-use Rattle.definitions.specs.Network.{linked, Accepted}
+use Rattle.definitions.specs.Network.{linked, Accepted, Serving}
 use Rattle.definitions.specs.Order.{orderOf, placeOf, relayAt}
 use Rattle.definitions.specs.Forests.{earlier, oneTree}
 use Rattle.definitions.specs.Route.{leftOf, oneTreeOf}
@@ -17,7 +17,6 @@ use Rattle.definitions.specs.Demand.{Joined, OneTree}
 use Rattle.theory.specs.JoinedRelays.{joined-sym, joined-map}
 use Rattle.theory.specs.LeftLaws.{LeftLaws}
 use Rattle.theory.specs.Trees.{Alive, TreeLink, treeLink-sym, chain-alive, oneTree-alive, oneTree-sym}
-use Rattle.theory.specs.ServingRelays.{Serving}
 use Rattle.theory.specs.Ordering.{order-has}
 use Rattle.theory.specs.Places.{relay-of-place, places-apart}
 use Rattle.theory.specs.Left.{left-count}

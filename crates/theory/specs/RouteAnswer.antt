@@ -7,19 +7,18 @@ use mathlib.Core.Logic.{_≢_}
 use mathlib.Core.Path.{_≡_, refl, sym, _∙_, ap, ap₂, subst}
 use native.Mathlib.Omega.{arith}
 use borrow.Author.Tests.{lt-leb, ne-eqb}
-use lib.ListN.{length, getD, take, drop, length-map}
+use lib.ListN.{length, take, drop, length-map}
 use lib.Seq.{take-all}
 use Rattle.definitions.specs.Outcome.{refused, done, refuseIf, andThen}
 use Rattle.definitions.specs.Lists.{overwrite, total, joinAll}
-use Rattle.definitions.specs.Network.{Accepted}
+use Rattle.definitions.specs.Network.{Accepted, Serving}
 use Rattle.definitions.specs.Route.{routeUnless, routesOf, oneTreeOf, tooShort, routeAnswer, countsAfter, routeRelaysAfter}
-use Rattle.definitions.specs.DisjointRoutes.{RouteHolds, Apart}
-use Rattle.definitions.specs.Demand.{Kept, OneTree, cutUp, RoutesHold, RouteDelivers}
+use Rattle.definitions.specs.DisjointRoutes.{DisjointRoutes}
+use Rattle.definitions.specs.Demand.{Kept, OneTree, cutUp, Delivered, RouteDelivers}
 use Rattle.lists.specs.Outcomes.{if-done}
 use Rattle.lists.specs.Overwritten.{take-overwrite}
 use Rattle.lists.specs.Cuts.{cut-up, total-lengths}
 use Rattle.lists.specs.Ranges.{inside}
-use Rattle.theory.specs.ServingRelays.{Serving}
 use Rattle.theory.specs.Columns.{Numbered, Marked}
 use Rattle.theory.specs.RelayTrees.{one-tree-alive, one-tree-test}
 use Rattle.theory.specs.RelayRoutes.{RelayRoutes, routes-hold}
@@ -65,10 +64,10 @@ module _ (n : ℕ) (lows highs states : List ℕ) (ok : Accepted n lows highs st
 
   module _ (forests marks : List ℕ) (numbered : Numbered n lows highs states forests) (marked : Marked n lows highs states k marks) where
     delivered : OneTree lows highs forests k from to
-        → (routeAnswer n lows highs states k from to counts relays scratch
-        ≡ done (total (take k (countsAfter n lows highs states k from to counts relays scratch)) ∷ []))
-        × RoutesHold n lows highs marks k from to
-        (countsAfter n lows highs states k from to counts relays scratch) (routeRelaysAfter n lows highs states k from to counts relays scratch)
+        → Delivered n lows highs states marks k from to
+        (routeAnswer n lows highs states k from to counts relays scratch)
+        (countsAfter n lows highs states k from to counts relays scratch)
+        (routeRelaysAfter n lows highs states k from to counts relays scratch)
     delivered tree =
         let rs : List (List ℕ) = routesOf n lows highs states k from to in
         let e : oneTreeOf n lows highs states k from to ≡ true =
@@ -79,15 +78,16 @@ module _ (n : ℕ) (lows highs states : List ℕ) (ok : Accepted n lows highs st
         let all : total (take k (countsAfter n lows highs states k from to counts relays scratch)) ≡ length (joinAll rs) =
         ap total (counts-written e (holds .number)) ∙ total-lengths rs in
         let back : rs ≡ cutUp (take k (countsAfter n lows highs states k from to counts relays scratch)) (routeRelaysAfter n lows highs states k from to counts relays scratch) =
-        sym (routes-written e (holds .number)) in (
-          answer-done e ∙ ap (λ (x : ℕ). done (x ∷ [])) (sym all),
-          record {
-            each = λ i h. subst (λ (l : List (List ℕ)). RouteHolds lows highs (Kept marks) from to (getD l i [])) back (holds .each i h);
-            apart = λ i j hi hj ne.
-                subst (λ (l : List (List ℕ)). Apart lows highs from to (getD l i []) (getD l j [])) back (holds .apart i j hi hj ne);
-            written = omega (arith, all, holds .written);
-          },
-        )
+        sym (routes-written e (holds .number)) in
+        record {
+          answered = answer-done e ∙ ap (λ (x : ℕ). done (x ∷ [])) (sym all);
+          routes =
+              record {
+                number = ap length (sym back) ∙ holds .number;
+                disjoint = subst (DisjointRoutes n lows highs states (Kept marks) from to) back (holds .disjoint);
+                written = omega (arith, all, holds .written);
+              };
+        }
 
     refusal : (b : Bool) → oneTreeOf n lows highs states k from to ≡ b → (OneTree lows highs forests k from to → ⊥)
         → routeAnswer n lows highs states k from to counts relays scratch ≡ refused 13 0
@@ -95,7 +95,7 @@ module _ (n : ℕ) (lows highs states : List ℕ) (ok : Accepted n lows highs st
     refusal true e none = absurd (none (one-tree-test n lows highs states ok forests numbered k one from to hf ht differ .1 e))
     refusal false e none = answer-by-test false e
 
-    pub delivers : RouteDelivers n lows highs forests marks k from to
+    pub delivers : RouteDelivers n lows highs states forests marks k from to
         (routeAnswer n lows highs states k from to counts relays scratch)
         (countsAfter n lows highs states k from to counts relays scratch)
         (routeRelaysAfter n lows highs states k from to counts relays scratch)
@@ -104,7 +104,7 @@ module _ (n : ℕ) (lows highs states : List ℕ) (ok : Accepted n lows highs st
           inOneTree = delivered;
           thirteen = (
             λ refuses tree.
-                let gives = delivered tree .0 in
+                let gives = delivered tree .answered in
                 let z : _≡_ {A = ℕ} 0 1 = cc in
                 omega arith,
             refusal (oneTreeOf n lows highs states k from to) refl,

@@ -9,14 +9,13 @@ use lib.ListN.{length}
 use borrow.Author.Tests.{eqb-false, leb-false, not-false}
 use Rattle.definitions.specs.Outcome.{done, refuseIf}
 use Rattle.definitions.specs.Lists.{outside, joinAll}
-use Rattle.definitions.specs.Network.{serves, tableCheck, Accepted}
+use Rattle.definitions.specs.Network.{serves, tableCheck, Accepted, Serving}
 use Rattle.definitions.specs.Route.{routesOf, oneTreeOf, routeUnless}
 use Rattle.lists.specs.Outcomes.{not-refused}
 use Rattle.lists.specs.SameOutcomes.{done-then}
 use Rattle.lists.specs.Ranges.{inside-range}
 use Rattle.lists.specs.Tests.{or-false, and-both}
 use Rattle.theory.specs.Accepted.{check-accepts}
-use Rattle.theory.specs.ServingRelays.{Serving}
 
 pub record RoutePassed (n : ℕ) (lows highs states : List ℕ) (k from to : ℕ) : Type 0 where
   pub accepted : Accepted n lows highs states

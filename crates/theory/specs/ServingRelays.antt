@@ -7,7 +7,7 @@ use mathlib.Core.Path.{_≡_, sym, _∙_}
 use native.Mathlib.Omega.{arith}
 use lib.ListN.{length}
 use Rattle.definitions.specs.Lists.{has, NoRepeat}
-use Rattle.definitions.specs.Network.{serves}
+use Rattle.definitions.specs.Network.{serves, Serving}
 use Rattle.definitions.specs.Order.{allRelays, servingRelays, linksAt, firstRelay}
 use Rattle.lists.specs.Ascending.{Ascending, ascending-range, ascending-keep}
 use Rattle.lists.specs.Counting.{count-length, length-keep}
@@ -16,10 +16,6 @@ use Rattle.lists.specs.Members.{range-has, range-bounds, has-keep, index-of}
 use Rattle.lists.specs.Tables.{length-table}
 use Rattle.lists.specs.Tests.{and-both, and-false}
 use Rattle.theory.specs.Heaviest.{Chosen, heaviestOf-chosen, chosen-has, chosen-most, chosen-lowest, chosen-is}
-
--- Relay r is one of those in service.
-abbrev pub Serving : (n : ℕ) (states : List ℕ) (r : ℕ) → Type 0
-Serving n states r = (r < n) × (serves states r ≡ true)
 
 module _ (n : ℕ) (states : List ℕ) where
   pub serving-few : length (servingRelays n states) ≤ n

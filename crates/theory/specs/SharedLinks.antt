@@ -37,10 +37,13 @@ module _ (lows highs : List ℕ) where
   step-over i (a ∷ rest) e = step-from i a rest e
 
   -- A route that goes over link i has both its ends.
-  has-ends : (i : ℕ) (route : List ℕ) → (j : ℕ) × StepOver i route j
+  pub has-ends : (i : ℕ) (route : List ℕ) → uses lows highs i route ≡ true
       → (has route (getD lows i 0) ≡ true) × (has route (getD highs i 0) ≡ true)
-  has-ends i route r = go (joins-ends lows highs (getD route (r .0) 0) (getD route (suc (r .0)) 0) i (r .1 .1))
+  has-ends i route e = go (joins-ends lows highs (getD route (r .0) 0) (getD route (suc (r .0)) 0) i (r .1 .1))
     where
+      r : (j : ℕ) × StepOver i route j
+      r = step-over i route e
+
       here : has route (getD route (r .0) 0) ≡ true
       here = has-at route (r .0) (omega (arith, r .1 .0))
 
@@ -64,12 +67,13 @@ module _ (lows highs : List ℕ) where
       go (inr p) = (ap (has route) (sym (p .1)) ∙ high, ap (has route) (sym (p .0)) ∙ low)
 
   -- Of two routes that share no relay but the ends and yet go over one link, each is the two ends alone.
-  pub shared-link : {picked : ℕ → Type 0} {from to : ℕ} {one : List ℕ} → RouteHolds lows highs picked from to one
+  pub shared-link : {n : ℕ} {states : List ℕ} {picked : ℕ → Type 0} {from to : ℕ} {one : List ℕ}
+      → RouteHolds n lows highs states picked from to one
       → (other : List ℕ) → ((r : ℕ) → has one r ≡ true → has other r ≡ true → (r ≡ from) ⊎ (r ≡ to))
       → (i : ℕ) → uses lows highs i one ≡ true → uses lows highs i other ≡ true → length one ≡ 2
   shared-link {from = from} {to = to} {one = one} holds other shared i p q =
       let r = step-over i one p in
-      let both = has-ends i other (step-over i other q) in
+      let both = has-ends i other q in
       let in-other = has-joined i (getD one (r .0) 0) (getD one (suc (r .0)) 0) other (r .1 .1) (both .0) (both .1) in
       ends-meet one (holds .noRepeat) from to (holds .starts) (holds .ends) (r .0) (r .1 .0)
       (shared (getD one (r .0) 0) (has-at one (r .0) (omega (arith, r .1 .0))) (in-other .0))

@@ -24,9 +24,9 @@ use Rattle.theory.specs.SheetRoute.{NewTo}
 use Rattle.theory.specs.SheetRoutes.{GoodRoutes, good-routes, routes-good}
 
 -- The two ends of a route differ.
-ends-differ : (lows highs : List ℕ) (picked : ℕ → Type 0) (from to : ℕ) (route : List ℕ) → RouteHolds lows highs picked from to route
-    → from ≢ to
-ends-differ lows highs picked from to route holds e =
+ends-differ : (n : ℕ) (lows highs states : List ℕ) (picked : ℕ → Type 0) (from to : ℕ) (route : List ℕ)
+    → RouteHolds n lows highs states picked from to route → from ≢ to
+ends-differ n lows highs states picked from to route holds e =
     let last : length route - 1 < length route = omega (arith, holds .long) in
     let same : 0 ≡ length route - 1 =
     same-index route (holds .noRepeat) 0 (length route - 1) (omega arith) last (holds .starts ∙ e ∙ sym (holds .ends)) in
@@ -68,13 +68,15 @@ module _ (n : ℕ) (lows highs states : List ℕ) (sheet : Sheet) where
         few = few;
         many = many;
         differ =
-            ends-differ lows highs (InService lows highs states) (sheet .from) (sheet .to) (getD (sheet .routes) 0 []) (good .each 0 (omega (arith, many)) .holds);
-        each = λ i h. good .each i (omega (arith, many)) .holds;
-        below = λ i h. good .each i (omega (arith, many)) .below;
-        apart = λ i j hi hj ne.
-            by-cases (decLt i j)
-            (λ less. good .apart i j less (omega (arith, many)))
-            (λ more. apart-turned (good .apart j i (omega arith) (omega (arith, many))));
+            ends-differ n lows highs states (InService lows highs states) (sheet .from) (sheet .to) (getD (sheet .routes) 0 []) (good .each 0 (omega (arith, many)) .holds);
+        disjoint =
+            record {
+              each = λ i h. good .each i h .holds;
+              apart = λ i j hi hj ne.
+                  by-cases (decLt i j)
+                  (λ less. good .apart i j less hj)
+                  (λ more. apart-turned (good .apart j i (omega arith) hi));
+            };
         manyOvers = good .even ∙ many;
         over = λ i h. good .each i (omega (arith, many)) .links;
         kept = kept;
@@ -88,13 +90,11 @@ module _ (n : ℕ) (lows highs states : List ℕ) (sheet : Sheet) where
         each = λ i h.
             let low : i < sheet .k = omega (arith, holds .many) in
             record {
-              holds = holds .each i low;
-              below = holds .below i low;
+              holds = holds .disjoint .each i h;
               links = holds .over i low;
               fresh = λ r e. fresh r (eqb (sheet .from) r) refl;
             };
-        apart = λ i j less h.
-            holds .apart i j (omega (arith, holds .many)) (omega (arith, holds .many)) (λ e. omega arith);
+        apart = λ i j less h. holds .disjoint .apart i j (omega arith) h (λ e. omega arith);
         single = λ d. absurd (false≢true d);
       }
     where

@@ -18,17 +18,17 @@ use Rattle.lists.specs.Searches.{clash}
 use Rattle.lists.specs.Cases.{has-there, has-cases}
 use Rattle.theory.specs.Accepted.{ProperTable}
 use Rattle.theory.specs.Links.{joins-ends}
+use Rattle.theory.specs.RouteLinks.{along-serves}
 use Rattle.theory.specs.SheetWalk.{Walked, passes, walk-steps, walk-met, walk-holds}
 
 -- Relay r is one of the two ends or was not met before.
 abbrev pub NewTo : (from to : ℕ) (met : ℕ → Bool) (r : ℕ) → Type 0
 NewTo from to met r = (r ≡ from) ⊎ ((r ≡ to) ⊎ (met r ≡ false))
 
--- A route with its links is good after the relays met before: it holds, its relays are below n, its links are the right ones, and
--- each of its relays is one of the two ends or was not met.
+-- A route with its links is good after the relays met before: it holds, its links are the right ones, and each of its relays is one
+-- of the two ends or was not met.
 pub record GoodRoute (n : ℕ) (lows highs states : List ℕ) (from to : ℕ) (met : ℕ → Bool) (route over : List ℕ) : Type 0 where
-  pub holds : RouteHolds lows highs (InService lows highs states) from to route
-  pub below : (r : ℕ) → has route r ≡ true → r < n
+  pub holds : RouteHolds n lows highs states (InService lows highs states) from to route
   pub links : OverHolds lows highs route over
   pub fresh : (r : ℕ) → has route r ≡ true → NewTo from to met r
 
@@ -50,7 +50,7 @@ module _ (n : ℕ) (lows highs states : List ℕ) (from to : ℕ) (met : ℕ →
       record {
         links = good .links;
         along = good .holds .along;
-        below = λ r h. good .below r (has-there a rest r h);
+        below = λ r h. good .holds .through r (has-there a rest r h) .0;
         fresh = λ r h. go r h (good .fresh r (has-there a rest r h));
         noRepeat = good .holds .noRepeat;
         ends = ap (λ (i : ℕ). getD (a ∷ rest) i 0) (sym last) ∙ good .holds .ends;
@@ -100,9 +100,10 @@ module _ (n : ℕ) (lows highs states : List ℕ) (from to : ℕ) (met : ℕ →
                   starts = first;
                   ends = ap (λ (i : ℕ). getD (a ∷ b ∷ rest) i 0) last ∙ w .ends;
                   along = w .along;
+                  through = λ r h.
+                      (below r (has-cases a (b ∷ rest) r h), along-serves lows highs states (a ∷ b ∷ rest) (omega arith) (w .along) r h);
                   noRepeat = w .noRepeat;
                 };
-            below = λ r h. below r (has-cases a (b ∷ rest) r h);
             links = w .links;
             fresh = λ r h. fresh r (has-cases a (b ∷ rest) r h);
           }

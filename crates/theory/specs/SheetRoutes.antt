@@ -55,7 +55,7 @@ module _ (n : ℕ) (lows highs states : List ℕ) (from to : ℕ) where
   -- A good route is good after other relays too if they are new to it.
   good-after : (met : ℕ → Bool) {before : ℕ → Bool} {route over : List ℕ} → GoodRoute n lows highs states from to before route over
       → ((r : ℕ) → has route r ≡ true → NewTo from to met r) → GoodRoute n lows highs states from to met route over
-  good-after met good fresh = record { holds = good .holds; below = good .below; links = good .links; fresh = fresh }
+  good-after met good fresh = record { holds = good .holds; links = good .links; fresh = fresh }
 
   module _ (met : ℕ → Bool) (started : met from ≡ true) (direct : Bool) (route over : List ℕ)
       (good : GoodRoute n lows highs states from to met route over) (routes overs : List (List ℕ)) where

@@ -1,5 +1,5 @@
 // Order, Split, Cut and Route called on one network and one k. The promise is that of the four, answer by answer and list by
-// list, and demand 3 of what they return and leave.
+// list, and demand 3 and the last two of the order (document 02, #107) of what they return and leave.
 ghost use mathlib.Core.Path.{_≡_};
 ghost use Rattle.definitions.specs.Order.{orderAnswer, relaysAfter, placesAfter};
 ghost use Rattle.definitions.specs.Forests.{splitAnswer, forestsAfter, cutAnswer, marksAfter};

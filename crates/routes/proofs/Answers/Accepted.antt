@@ -15,14 +15,14 @@ use Rattle.definitions.specs.Order.{orderOf, placeOf, relayAt}
 use Rattle.definitions.specs.Forests.{Entry}
 use Rattle.definitions.specs.Route.{leftOf, routesBetween, routesOf, oneTreeOf}
 use Rattle.definitions.specs.Over.{entryOf, oversOf}
-use Rattle.definitions.specs.Network.{Accepted}
+use Rattle.definitions.specs.Network.{Accepted, Serving}
 use Rattle.lists.specs.Overwritten.{getD-overwrite-zeros}
 use Rattle.lists.specs.Stores.{sets-overwrite}
 use Rattle.lists.specs.Steps.{stepsOf}
 use Rattle.lists.specs.Cuts.{lengths-map, length-joinAll-map}
 use Rattle.theory.specs.Trees.{Alive}
 use Rattle.theory.specs.Accepted.{accepted}
-use Rattle.theory.specs.ServingRelays.{Serving, serving-few}
+use Rattle.theory.specs.ServingRelays.{serving-few}
 use Rattle.theory.specs.Left.{left-laws}
 use Rattle.theory.specs.Places.{relay-placed}
 use Rattle.theory.specs.Arranged.{base-arranged}

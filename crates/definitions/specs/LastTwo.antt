@@ -1,0 +1,62 @@
+-- Document 02, #107, 'The last two of the order': between them Route delivers as many routes as the last relay has links to relays
+-- in service, and no list of routes has more. The statement is a type; the crate `theory` proves it. Assumes nothing.
+use Prim.Native.Nat.{ℕ, _-_, _≤_}
+use mathlib.Core.Bool.{false}
+use mathlib.Core.List.{List}
+use mathlib.Core.Logic.{_⊎_}
+use mathlib.Core.Path.{_≡_}
+use lib.ListN.{length, getD}
+use Rattle.definitions.specs.Network.{Accepted}
+use Rattle.definitions.specs.Order.{linksAt, relaysAfter}
+use Rattle.definitions.specs.Forests.{marksAfter}
+use Rattle.definitions.specs.Route.{tooShort, routeAnswer, countsAfter, routeRelaysAfter}
+use Rattle.definitions.specs.DisjointRoutes.{DisjointRoutes}
+use Rattle.definitions.specs.Demand.{inServiceCount, Delivered}
+
+-- "the last two relays in the order", as Order's list of relays gives it: the last, and the one before it.
+abbrev pub lastRelay : (n : ℕ) (states relays : List ℕ) → ℕ
+lastRelay n states relays = getD relays (inServiceCount n states - 1) 0
+
+abbrev pub lastButOne : (n : ℕ) (states relays : List ℕ) → ℕ
+lastButOne n states relays = getD relays (inServiceCount n states - 2) 0
+
+-- `from` and `to` are these two, in either direction.
+abbrev pub AreLastTwo : (n : ℕ) (states relays : List ℕ) (from to : ℕ) → Type 0
+AreLastTwo n states relays from to =
+    ((from ≡ lastRelay n states relays) × (to ≡ lastButOne n states relays))
+    ⊎ ((from ≡ lastButOne n states relays) × (to ≡ lastRelay n states relays))
+
+-- "one sure figure for a network": d, where "the last has d links to relays in service". It is in service itself, so these are its
+-- links with both ends in service.
+abbrev pub sureFigure : (n : ℕ) (lows highs states relays : List ℕ) → ℕ
+sureFigure n lows highs states relays = linksAt lows highs states (lastRelay n states relays)
+
+-- Any link of the table.
+abbrev pub AnyLink : (i : ℕ) → Type 0
+AnyLink i = Unit {0}
+
+-- The results of Order, of Cut to k and of Route with k, for one network.
+pub record LastTwoHolds (n : ℕ) (lows highs states : List ℕ) (k : ℕ) (relays marks : List ℕ) : Type 0 where
+  -- "Route delivers d routes", with all that demand 3 says of routes, given lists long enough;
+  pub delivers : sureFigure n lows highs states relays ≡ k → (from to : ℕ) → AreLastTwo n states relays from to
+      → (counts routeRelays scratch : List ℕ) → tooShort n k counts routeRelays scratch ≡ false
+      → Delivered n lows highs states marks k from to
+      (routeAnswer n lows highs states k from to counts routeRelays scratch)
+      (countsAfter n lows highs states k from to counts routeRelays scratch)
+      (routeRelaysAfter n lows highs states k from to counts routeRelays scratch)
+  -- "no list of routes between them, through relays in service as all routes are from here on, sharing no inner relay and no link,
+  -- has more than d", and this whatever d is.
+  pub noMore : (from to : ℕ) → AreLastTwo n states relays from to
+      → (routes : List (List ℕ)) → DisjointRoutes n lows highs states AnyLink from to routes
+      → length routes ≤ sureFigure n lows highs states relays
+
+-- For every accepted network with at least two relays in service, every k from 1 to 32, and every list long enough lent to Order
+-- and Cut.
+abbrev pub LastTwo : Type 0
+LastTwo =
+    (n : ℕ) (lows highs states : List ℕ) → Accepted n lows highs states → 2 ≤ inServiceCount n states
+    → (k : ℕ) → 1 ≤ k → k ≤ 32
+    → (relays places marks : List ℕ) → n ≤ length relays → n ≤ length places → length lows ≤ length marks
+    → LastTwoHolds n lows highs states k
+    (relaysAfter n lows highs states relays places)
+    (marksAfter n lows highs states k marks)
