@@ -1,5 +1,5 @@
 /* Document 01's examples through the C header: P1 to P12 as they are since #104 of document 02, with the links that #101 asks for,
- * and the others; the mesh without relay 2 (#105), and as a drawing (#106). */
+ * and the others; the mesh without relay 2 (#105), as a drawing (#106), and its last two relays (#107). */
 #include "nolkisei.h"
 #include <stdio.h>
 #include <string.h>
@@ -253,6 +253,17 @@ static void drawings(void) {
     undrawn("e 2 3", "p edge 3 2\ne 3 2\ne 2 3\n", NOLKISEI_REPEATED, 1);
 }
 
+/* The last two relays of the mesh's order, 4 and 3: 4 has two links, so there are two routes both ways, and not three. */
+static void last_two(void) {
+    is("last two", nolkisei_order(5, TABLE(mesh), LENT(relays), LENT(places), answer), 0);
+    list("last two, order", relays + 3, (const uint16_t[]){3, 4}, 2);
+    is("last two", nolkisei_route(5, TABLE(mesh), 2, 4, 3, LENT(counts), LENT(relays), LENT(scratch), answer), 0);
+    list("last two, routes", relays, (const uint16_t[]){4, 2, 3, 4, 3}, 5);
+    is("last two back", nolkisei_route(5, TABLE(mesh), 2, 3, 4, LENT(counts), LENT(relays), LENT(scratch), answer), 0);
+    list("last two back, routes", relays, (const uint16_t[]){3, 2, 4, 3, 4}, 5);
+    is("three", nolkisei_route(5, TABLE(mesh), 3, 3, 4, LENT(counts), LENT(relays), LENT(scratch), answer), NOLKISEI_NOT_ONE_TREE);
+}
+
 /* The longest text: 3,000 links whose numbers have three digits, and all relays withdrawn. */
 static void longest_text(void) {
     static uint8_t text[NOLKISEI_TEXT + 1];
@@ -282,6 +293,7 @@ int main(void) {
     withdrawn();
     refused_states();
     drawings();
+    last_two();
     longest_text();
     printf("document 01's examples through the C header: %s\n", failed ? "some differ" : "as printed");
     return failed != 0;

@@ -6,6 +6,7 @@ use crate::facts::{first_relay, forest_counts, kept, parts};
 use crate::flow::greatest;
 use crate::generate::{any, damage};
 use crate::imported::{drawings, every_byte, import};
+use crate::last::last_two;
 use crate::lengths::{Lengths, any_length, mostly_enough};
 use crate::library::{self, Report};
 use crate::printed::{KEEP, PLAN, keep_input, printed};
@@ -145,6 +146,7 @@ pub fn operations(random: &mut Random, tally: &mut Tally, net: &Network, wishes:
         return None;
     }
     started(tally, net);
+    last_two(random, tally, net);
     certified(random, tally, net);
     let numbers = forests::numbers(net);
     let known = Known { net, numbers: &numbers };

@@ -1,4 +1,5 @@
-//! Networks of the sizes at which a program takes other arrays or one word of bits more, and with the highest counts there can be.
+//! Networks of the sizes at which a program takes other arrays or one word of bits more, with the highest counts there can be, and
+//! with the most routes that Route gives.
 
 use crate::generate::{Links, full, random_links, table, tree_from};
 use crate::random::Random;
@@ -16,6 +17,9 @@ const FEW_LINKS: [usize; 3] = [95, 96, 97];
 
 /// The largest full network within 3,000 links: its last relay waits with 76 placed neighbours, and none waits with more.
 const CORE: usize = 77;
+
+/// Full networks whose last relay has 32 links, and one more.
+const FULL: [usize; 2] = [33, 34];
 
 /// So many links at random, or all there can be, with that of the highest pair number among them.
 fn scattered(random: &mut Random, n: usize, m: usize) -> Network {
@@ -44,6 +48,7 @@ fn crowded(random: &mut Random, n: usize, tree: bool) -> Network {
 /// Every one of them.
 pub fn boundaries(random: &mut Random) -> Vec<Network> {
     let mut all = vec![crowded(random, CORE, false)];
+    all.extend(FULL.map(|n| table(full(n).collect(), &Vec::from_iter(0..n))));
     for n in FEW_RELAYS {
         all.extend(FEW_LINKS.map(|m| scattered(random, n, m)));
     }

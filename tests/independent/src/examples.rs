@@ -2,7 +2,7 @@
 //! and the plain program against the fast one and the flow program.
 
 use crate::boundaries::{boundaries, withdrawn};
-use crate::forests::{cut, order, split};
+use crate::forests::{cut, links, order, ordering, split};
 use crate::generate::any;
 use crate::keep::keep;
 use crate::over::{Lent, over, route_links};
@@ -209,6 +209,23 @@ fn refused_lists() {
     assert_eq!(kept("33", &format!("{head}(link 1 4)\n(end)\n")), "(refused 5 1)\n");
     assert_eq!(kept("33", &format!("{head}(link 2 2)\n(end)\n")), "(refused 6 1)\n");
     assert_eq!(kept("33", &format!("{head}(link 0 1)\n(end)\n")), "(refused 7 1)\n");
+}
+
+#[test]
+fn last_two_of_the_order() {
+    let mut without_two = mesh();
+    without_two.states[2] = 0;
+    let nets = [(mesh(), (4, 3), 2), (without_two, (4, 3), 1), (full_four(), (3, 2), 3), (square(), (3, 2), 2)];
+    for (net, (last, before), figure) in nets {
+        let order = ordering(&net);
+        assert_eq!(order[order.len() - 2..], [before, last]);
+        assert_eq!(links(&net)[usize::from(last)], figure);
+        assert_eq!(flow::greatest(&net, last, before, usize::MAX), figure as usize);
+        assert_eq!(route(&net, before, last, figure as u16 + 1), None);
+    }
+    assert_eq!(route(&mesh(), 4, 3, 2), Some(vec![vec![4, 2, 3], vec![4, 3]]));
+    assert_eq!(route(&mesh(), 3, 4, 2), Some(vec![vec![3, 2, 4], vec![3, 4]]));
+    assert_eq!(route(&square(), 2, 3, 2), Some(vec![vec![2, 1, 0, 3], vec![2, 3]]));
 }
 
 #[test]

@@ -15,6 +15,8 @@ pub mod generate;
 #[cfg(feature = "library")]
 pub mod imported;
 pub mod keep;
+#[cfg(feature = "library")]
+pub mod last;
 pub mod lengths;
 #[cfg(feature = "library")]
 pub mod library;

@@ -22,8 +22,8 @@ fn lent(random: &mut Random, net: &Network, wish: Wish, lengths: Lengths) -> Len
     Lent { counts, relays, links: list((n + k).saturating_sub(2)), scratch: list(k * n) }
 }
 
-/// A wish through Route and Route with links, and where it is met through the flow program.
-pub fn routed(random: &mut Random, tally: &mut Tally, net: &Network, wish: Wish, lengths: Lengths) {
+/// A wish through Route and Route with links, and where it is met through the flow program. Gives the code of Route's report.
+pub fn routed(random: &mut Random, tally: &mut Tally, net: &Network, wish: Wish, lengths: Lengths) -> u32 {
     let Wish { k, from, to } = wish;
     let Lent { mut counts, mut relays, mut scratch, .. } = lent(random, net, wish, lengths);
     let mut theirs = (counts.clone(), relays.clone(), scratch.clone());
@@ -38,6 +38,7 @@ pub fn routed(random: &mut Random, tally: &mut Tally, net: &Network, wish: Wish,
         disjoint(tally, "route", net, Some(&marks), wish, lists);
         flowed(tally, net, wish);
     }
+    report.code
 }
 
 fn with_links(random: &mut Random, tally: &mut Tally, net: &Network, wish: Wish, lengths: Lengths) {

@@ -1,9 +1,9 @@
-//! What a comparison counts: the answers by operation and code, the facts that held, the networks by where their order starts and by
-//! their state lists, the texts by their out lines, the sheets that were read back by how they were made and by the one fault that they
+//! What a comparison counts: the answers by operation and code, the facts that held, the networks by where their order starts, by the
+//! links of its last relay and by their state lists, the texts by their out lines, the sheets that were read back by how they were made and by the one fault that they
 //! have, and the drawings by how they came to be and by the lists lent for them.
 
 use crate::drawings::STYLES;
-use crate::facts::STARTS;
+use crate::facts::{ENDS, STARTS};
 use crate::outs::OUTS;
 use crate::sheets::{CHANGES, STILL};
 use crate::spoilt::ways;
@@ -82,6 +82,7 @@ pub struct Tally {
     codes: BTreeMap<(&'static str, u32), u64>,
     facts: BTreeMap<(&'static str, &'static str), u64>,
     starts: BTreeMap<&'static str, u64>,
+    lasts: BTreeMap<&'static str, u64>,
     states: BTreeMap<&'static str, u64>,
     outs: BTreeMap<&'static str, u64>,
     sheets: BTreeMap<&'static str, u64>,
@@ -112,6 +113,11 @@ impl Tally {
     /// A network whose order starts so.
     pub fn start(&mut self, start: &'static str) {
         *self.starts.entry(start).or_default() += 1;
+    }
+
+    /// A network whose order ends so.
+    pub fn last(&mut self, last: &'static str) {
+        *self.lasts.entry(last).or_default() += 1;
     }
 
     /// A state list of such a kind.
@@ -151,13 +157,14 @@ impl Tally {
         let made = MADE.into_iter().chain(changed).map(|made| (format!("sheets: {made}"), self.sheets.get(made)));
         let alone = ALONE.iter().map(|fault| (format!("sheets with one fault: {fault:?}"), self.faults.get(fault)));
         let starts = STARTS.iter().map(|start| (format!("networks: {start}"), self.starts.get(start)));
+        let lasts = ENDS.iter().map(|last| (format!("networks: {last}"), self.lasts.get(last)));
         let lists = GOOD.iter().chain(&BAD).map(|kind| kind.0).chain(LENT);
         let states = lists.map(|kind| (format!("state lists: {kind}"), self.states.get(kind)));
         let outs = OUTS.iter().map(|(kind, _)| (format!("out lines: {kind}"), self.outs.get(kind)));
         let kinds = STYLES.iter().map(|style| style.0).chain(ways().map(|way| way.0)).chain(DRAWN);
         let drawn = kinds.map(|kind| (format!("drawings: {kind}"), self.drawings.get(kind)));
         let rooms = ROOMS.iter().map(|(kind, _)| (format!("lists for drawings: {kind}"), self.drawings.get(kind)));
-        for (kind, times) in starts.chain(states).chain(outs).chain(made).chain(alone).chain(drawn).chain(rooms) {
+        for (kind, times) in starts.chain(lasts).chain(states).chain(outs).chain(made).chain(alone).chain(drawn).chain(rooms) {
             lines.push(format!("{:9} {kind}", times.unwrap_or(&0)));
             missing.extend(times.is_none().then_some(kind));
         }
