@@ -1,4 +1,4 @@
-# Sourced by the commands `plan`, `keep`, `verify` and `import`, which set command, program, usage and example: builds the proved
+# Sourced by the commands `plan`, `keep`, `verify`, `import` and `sure`, which set command, program, usage and example: builds the proved
 # program where it is missing or older than its sources, runs it on a line and files, and after a refusal says in words where to look.
 set -u
 here=$(dirname -- "$(dirname -- "$(readlink -f -- "${BASH_SOURCE[0]}")")")
@@ -164,20 +164,25 @@ pass_on() {
     printf '%s' "$output" 2>/dev/null || fail "what the $program wrote could not be passed on"
 }
 
-# launch LINE HEAD KIND FILE: LINE, unless it is empty, and FILE, of a kind, are the program's input, and HEAD is what it prints first
-# unless it refuses.
-launch() {
+# turn_away KIND FILE: passes on the refused line that the program wrote for a file of a kind, and says it in words.
+turn_away() {
     local refusal
-    readable "$4" "$3"
-    answer "$1" "$4"
     case $output in
-    "$2"*$'\n(end)\n') refusal='' ;;
-    '(refused '*')'$'\n') refusal=${output#'(refused '} ;;
+    '(refused '*')'$'\n') refusal=${output#'(refused '} refusal=${refusal%')'*} ;;
     *) fail "what the $program wrote is not whole" ;;
     esac
     pass_on
-    [ -n "$refusal" ] || exit 0
-    refusal=${refusal%')'*}
-    explain "${refusal% *}" "${refusal#* }" "$3" "$4"
+    explain "${refusal% *}" "${refusal#* }" "$1" "$2"
     exit 1
+}
+
+# launch LINE HEAD KIND FILE: LINE, unless it is empty, and FILE, of a kind, are the program's input, and HEAD is what it prints first
+# unless it refuses.
+launch() {
+    readable "$4" "$3"
+    answer "$1" "$4"
+    case $output in
+    "$2"*$'\n(end)\n') pass_on && exit 0 ;;
+    *) turn_away "$3" "$4" ;;
+    esac
 }
