@@ -78,12 +78,12 @@ pub const STARTS: [&str; 6] = [
 
 /// Networks by the links that the last relay of the order has to relays in service.
 pub const ENDS: [&str; 6] = [
-    "fewer than two relays are in service",
-    "the last relay of the order has no link",
-    "it has one link",
-    "it has 2 to 31 links",
-    "it has 32 links",
-    "it has more than 32 links",
+    "fewer than two relays in service",
+    "the last of the order has no link",
+    "the last of the order has one link",
+    "the last of the order has 2 to 31 links",
+    "the last of the order has 32 links",
+    "the last of the order has more than 32 links",
 ];
 
 /// The first relay of an order: it is in service, none that is has more links to such relays, and none with as many has a lower
