@@ -19,8 +19,8 @@
  * with both ends in service. Between two relays in one tree of forest k there are k routes over kept links that share only their ends;
  * where two are not in one tree of forest k there may be k routes all the same, but none are given.
  * Let d be the number of links that the last relay of the order has to relays in service. Where d is 1 to 32, the last two relays of the
- * order are in one tree of forest d, so nolkisei_route with k = d gives d routes between them, in either direction; and no list of
- * routes between them through relays in service that share only their ends has more than d.
+ * order are in one tree of forest d, so nolkisei_route with k = d gives d routes between them, in either direction. No list of routes
+ * between them, through relays in service, sharing no link and no relay but the ends, has more than d.
  *
  * A network's text, each line ended by byte 10, single spaces, numbers of one to four digits with no zero in front:
  *

@@ -1,5 +1,5 @@
--- Document 02, #107, on the networks of document 01: which relays are the last two of the order, the sure figure d, Route's d routes
--- between them in both directions, and 13 for one route more. By computation. Assumes nothing.
+-- Document 02, #107, on the networks of document 01: which relays are the last two of the order, the sure figure d and Route's d routes
+-- between them; of the mesh in both directions, and with 13 for one route more. By computation. Assumes nothing.
 use Prim.Native.Nat.{ℕ}
 use mathlib.Core.List.{List, [], _∷_}
 use mathlib.Core.Path.{refl}

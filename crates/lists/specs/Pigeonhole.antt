@@ -1,19 +1,19 @@
 -- The pigeonhole, and a search through several lists for one whose entries all fail a test.
 use Prim.Native.Nat.{ℕ, zero, suc, _+_, _≤_, _<_}
 use mathlib.Core.Bool.{Bool, true, false, _&&_, _||_, false≢true}
-use mathlib.Core.List.{List, [], _∷_}
+use mathlib.Core.List.{List, [], _∷_, map}
 use mathlib.Core.Logic.{_⊎_, inl, inr, by-cases}
 use mathlib.Core.Path.{_≡_, refl, sym, _∙_, ap, subst}
 use native.Mathlib.Decide.{ℕ-discrete}
 use native.Mathlib.Omega.{arith}
 use borrow.Author.Tests.{eqb-true, eq-eqb}
 use lib.Dec.{eqb}
-use lib.ListN.{getD}
+use lib.ListN.{getD, length-map}
 use Rattle.definitions.specs.Lists.{table, keep, has, count, NoRepeat}
 use Rattle.lists.specs.Tables.{length-table}
 use Rattle.lists.specs.Tests.{or-left, and-both, and-all}
-use Rattle.lists.specs.Members.{has-keep}
-use Rattle.lists.specs.Distinct.{no-repeat-keep}
+use Rattle.lists.specs.Members.{has-keep, has-map, range-bounds, range-has}
+use Rattle.lists.specs.Distinct.{no-repeat-keep, no-repeat-map, range-no-repeat}
 use Rattle.lists.specs.Counting.{count-all, length-keep, no-longer}
 
 -- What is in a table.
@@ -75,6 +75,33 @@ pigeonhole test l k f passes apart =
       length-table f 0 k,
       count-all test (table f 0 k) (λ x h. entry x h .1),
       count-within test l (table f 0 k) unique (λ x h. entry x h .0),
+    )
+
+-- Indices that pass a test, each told by a number of a range, are no more than the range has numbers.
+pub told-apart : (test : ℕ → Bool) (f : ℕ → ℕ) (size from most : ℕ)
+    → ((i : ℕ) → i < size → test i ≡ true → (from ≤ f i) × (f i < from + most))
+    → ((i j : ℕ) → i < size → j < size → test i ≡ true → test j ≡ true → f i ≡ f j → i ≡ j)
+    → count test (table (λ r. r) 0 size) ≤ most
+told-apart test f size from most within told =
+    let picked : List ℕ = keep test (table (λ r. r) 0 size) in
+    let entry : (i : ℕ) → has picked i ≡ true → (i < size) × (test i ≡ true) = λ i h.
+    let both = and-both (has (table (λ r. r) 0 size) i) (test i) (sym (has-keep test (table (λ r. r) 0 size) i) ∙ h) in
+    (omega (arith, range-bounds 0 size i (both .0)), both .1) in
+    let unique : NoRepeat (map f picked) =
+    no-repeat-map f picked
+    (λ i j p q. let a = entry i p in let b = entry j q in told i j (a .0) (b .0) (a .1) (b .1))
+    (no-repeat-keep test (table (λ r. r) 0 size) (range-no-repeat 0 size)) in
+    omega (
+      arith,
+      no-longer (table (λ r. r) from most) (map f picked) unique
+          (λ x h.
+          let w = has-map f picked x h in
+          let a = entry (w .0) (w .1) in
+          let bounds = within (w .0) (a .0) (a .1) in
+          range-has from most x (omega (arith, w .2, bounds .0)) (omega (arith, w .2, bounds .1))),
+      length-map picked f,
+      length-keep test (table (λ r. r) 0 size),
+      length-table (λ (r : ℕ). r) from most,
     )
 
 -- The first entry that passes the test, or 0.

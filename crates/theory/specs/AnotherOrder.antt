@@ -15,7 +15,7 @@ use Rattle.definitions.specs.Demand.{Joined, Kept, OneTree}
 use Rattle.definitions.specs.Networks.{mesh}
 use Rattle.definitions.specs.Opened.{opened}
 use Rattle.theory.specs.Accepted.{accepted}
-use Rattle.theory.specs.ServingRelays.{serving-once, serving-below, serving-serves}
+use Rattle.theory.specs.ServingRelays.{serving-once, serving-relay}
 use Rattle.theory.specs.Ordering.{placed-candidates}
 use Rattle.theory.specs.ForestNumbers.{Placed, forest-placed}
 use Rattle.theory.specs.Arranged.{Arranged, arranged-placed}
@@ -60,8 +60,8 @@ part-arranged =
 
 part-serving : (r : ℕ) → has order r ≡ true → Serving 5 states r
 part-serving r h =
-    let found = placed-candidates (linked lows highs) 2 candidates (serving-once 5 states) (λ some. first-in) 4 four r h in
-    (serving-below 5 states r found, serving-serves 5 states r found)
+    serving-relay 5 states r
+    (placed-candidates (linked lows highs) 2 candidates (serving-once 5 states) (λ some. first-in) 4 four r h)
 
 -- By link: 0 1, 0 2, 1 2, 1 3, 2 3, 2 4, 3 4.
 abbrev forests : List ℕ

@@ -64,14 +64,14 @@ module _ (order lows highs : List ℕ) (arranged : Arranged order lows highs) (n
       found i = firstPassing dead (getD routes i [])
 
       within : (i : ℕ) → i < k → i < length routes
-      within i h = omega (arith, holds .number)
+      within i h = omega (arith, holds .among .number)
 
       go : ((i : ℕ) × (i < k) × ((x : ℕ) → has (getD routes i []) x ≡ true → dead x ≡ false))
           ⊎ ((i : ℕ) → i < k → (has (getD routes i []) (found i) ≡ true) × (dead (found i) ≡ true))
           → Joined (LiveIn order dead) (LinkOf lows highs (Kept marks)) a b
       go (inl free) =
           let route : List ℕ = getD routes (free .0) [] in
-          let route-holds = holds .disjoint .each (free .0) (within (free .0) (free .1)) in
+          let route-holds = holds .among .disjoint .each (free .0) (within (free .0) (free .1)) in
           subst₂ (Joined (LiveIn order dead) (LinkOf lows highs (Kept marks))) (route-holds .starts) (route-holds .ends)
           (route-joined route (omega (arith, route-holds .long))
           (λ x h. (holds .within (free .0) (within (free .0) (free .1)) x h, free .2 x h)) (route-holds .along))
@@ -80,7 +80,7 @@ module _ (order lows highs : List ℕ) (arranged : Arranged order lows highs) (n
           pigeonhole dead order k found (λ i h. (holds .within i (within i h) (found i) (blocked i h .0), blocked i h .1))
           (λ i j less h e.
           ends-live (found i) (blocked i (omega arith) .1)
-          (holds .disjoint .apart i j (within i (omega arith)) (within j h) (omega arith) .relays (found i) (blocked i (omega arith) .0)
+          (holds .among .disjoint .apart i j (within i (omega arith)) (within j h) (omega arith) .relays (found i) (blocked i (omega arith) .0)
           (subst (λ (x : ℕ). has (getD routes j []) x ≡ true) (sym e) (blocked j h .0)))) in
           absurd (omega arith)
 

@@ -3,26 +3,25 @@
 -- numbers as defined, and of the list that Split leaves. The bound is proved over any order.
 use Prim.Native.Nat.{ℕ, suc, _+_, _-_, _≤_, _<_}
 use mathlib.Core.Bool.{Bool, true, false}
-use mathlib.Core.List.{List, [], _∷_, map}
+use mathlib.Core.List.{List, [], _∷_}
 use mathlib.Core.Path.{_≡_, refl, sym, _∙_, ap}
 use native.Mathlib.Nat.{zero-add}
 use native.Mathlib.Omega.{arith}
 use borrow.Author.Tests.{eqb-true, le-leb, lt-leb, le-ltb}
 use lib.Dec.{eqb, ltb, leb}
-use lib.ListN.{length, getD, take, length-map}
+use lib.ListN.{length, getD, take}
 use lib.Seq.{take-length}
 use Rattle.definitions.specs.Outcome.{done, refuseIf}
-use Rattle.definitions.specs.Lists.{table, overwrite, keep, has, count, total, greatest, NoRepeat}
+use Rattle.definitions.specs.Lists.{table, overwrite, keep, count, total, greatest}
 use Rattle.definitions.specs.Network.{linked, linkServes, tableCheck, Accepted}
 use Rattle.definitions.specs.Order.{servingRelays, orderOf, relayAt}
 use Rattle.definitions.specs.Forests.{forestOf, forestsOf, splitAnswer, forestsAfter}
 use Rattle.lists.specs.Outcomes.{refuse-not, then-done, if-done}
-use Rattle.lists.specs.Tests.{and-both}
 use Rattle.lists.specs.Tables.{length-table, getD-table}
 use Rattle.lists.specs.Overwritten.{getD-overwrite, take-overwrite}
-use Rattle.lists.specs.Members.{has-keep, has-map, index-of, range-bounds, range-has}
-use Rattle.lists.specs.Distinct.{no-repeat-keep, no-repeat-map, range-no-repeat}
-use Rattle.lists.specs.Counting.{count-same, count-table, length-keep, no-longer}
+use Rattle.lists.specs.Members.{index-of, range-bounds}
+use Rattle.lists.specs.Counting.{count-same, count-table, length-keep}
+use Rattle.lists.specs.Pigeonhole.{told-apart}
 use Rattle.lists.specs.Totals.{total-counts}
 use Rattle.theory.specs.LeftLaws.{index-below}
 use Rattle.theory.specs.Ordering.{order-length}
@@ -50,53 +49,32 @@ module _ (order lows highs : List ℕ) (arranged : Arranged order lows highs) wh
       omega (arith, link .forest, link .within, forest-below i h placed)
 
   module _ (f : ℕ) (all : AllPlaced order lows highs f) where
-    in-forest : (j : ℕ) → has (linksIn order lows highs f) j ≡ true
-        → (j < length lows) × (f ≡ forestIn order lows highs j) × Placed order lows highs j
-    unfolding linksIn
-    in-forest j h =
-        let test : ℕ → Bool = λ x. eqb f (forestIn order lows highs x) in
-        let range = table (λ r. r) 0 (length lows) in
-        let both = and-both (has range j) (test j) (sym (has-keep test range j) ∙ h) in
-        let within : j < length lows = omega (arith, range-bounds 0 (length lows) j (both .0)) in
-        let number : f ≡ forestIn order lows highs j = eqb-true f (forestIn order lows highs j) (both .1) in
-        (within, number, all j within (sym number))
-
     -- The later place tells the link of a forest: left gives the earlier one.
-    told-by-place : (i j : ℕ) → has (linksIn order lows highs f) i ≡ true → has (linksIn order lows highs f) j ≡ true
+    told-by-place : (i j : ℕ) → i < length lows → j < length lows → f ≡ forestIn order lows highs i → f ≡ forestIn order lows highs j
         → laterPlace order lows highs i ≡ laterPlace order lows highs j → i ≡ j
-    told-by-place i j p q e =
-        let a = in-forest i p in
-        let b = in-forest j q in
-        let linkI = arranged-forest order lows highs arranged i (a .0) (a .2) in
-        let linkJ = arranged-forest order lows highs arranged j (b .0) (b .2) in
+    told-by-place i j h k p q e =
+        let linkI = arranged-forest order lows highs arranged i h (all i h (sym p)) in
+        let linkJ = arranged-forest order lows highs arranged j k (all j k (sym q)) in
         let sameLeft : earlierPlace order lows highs i ≡ earlierPlace order lows highs j =
-        sym (rw (← a .1) at (linkI .isLeft)) ∙ ap (leftIn order lows highs f) e ∙ (rw (← b .1) at (linkJ .isLeft)) in
-        arranged .once (relayAt order (earlierPlace order lows highs j)) (relayAt order (laterPlace order lows highs j)) i j (a .0) (b .0)
+        sym (rw (← p) at (linkI .isLeft)) ∙ ap (leftIn order lows highs f) e ∙ (rw (← q) at (linkJ .isLeft)) in
+        arranged .once (relayAt order (earlierPlace order lows highs j)) (relayAt order (laterPlace order lows highs j)) i j h k
         (rw (sameLeft, e) at (linkI .ends))
         (linkJ .ends)
-
-    place-range : (v : ℕ) → has (map (laterPlace order lows highs) (linksIn order lows highs f)) v ≡ true
-        → has (table (λ r. r) (suc f) (length order - f)) v ≡ true
-    place-range v h =
-        let w = has-map (laterPlace order lows highs) (linksIn order lows highs f) v h in
-        let a = in-forest (w .0) (w .1) in
-        let link = arranged-forest order lows highs arranged (w .0) (a .0) (a .2) in
-        let index = forest-below (w .0) (a .0) (a .2) in
-        range-has (suc f) (length order - f) v (omega (arith, w .2, a .1)) (omega (arith, w .2, a .1, link .within))
 
     pub forest-size : length (linksIn order lows highs f) ≤ length order - f
     unfolding linksIn
     forest-size =
-        let test : ℕ → Bool = λ x. eqb f (forestIn order lows highs x) in
-        let places = map (laterPlace order lows highs) (linksIn order lows highs f) in
-        let unique : NoRepeat places =
-        no-repeat-map (laterPlace order lows highs) (linksIn order lows highs f) told-by-place
-        (no-repeat-keep test (table (λ r. r) 0 (length lows)) (range-no-repeat 0 (length lows))) in
+        let test : ℕ → Bool = λ j. eqb f (forestIn order lows highs j) in
+        let number : (j : ℕ) → test j ≡ true → f ≡ forestIn order lows highs j = λ j. eqb-true f (forestIn order lows highs j) in
         omega (
           arith,
-          no-longer (table (λ r. r) (suc f) (length order - f)) places unique place-range,
-          length-map (linksIn order lows highs f) (laterPlace order lows highs),
-          length-table (λ (r : ℕ). r) (suc f) (length order - f),
+          length-keep test (table (λ r. r) 0 (length lows)),
+          told-apart test (laterPlace order lows highs) (length lows) (suc f) (length order - f)
+              (λ j h e.
+              let placed = all j h (sym (number j e)) in
+              let link = arranged-forest order lows highs arranged j h placed in
+              omega (arith, number j e, forest-below j h placed, link .within))
+              (λ i j h k p q. told-by-place i j h k (number i p) (number j q)),
         )
 
 -- The list of forest numbers, entry by entry.

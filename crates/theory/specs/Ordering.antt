@@ -17,7 +17,7 @@ use Rattle.lists.specs.Members.{has-at, has-keep, index-of}
 use Rattle.lists.specs.Distinct.{no-repeat-snoc, distinct}
 use Rattle.lists.specs.Counting.{count-has, count-not, count-once, count-present, length-keep, covers}
 use Rattle.lists.specs.Ascending.{Ascending, ascending-keep}
-use Rattle.theory.specs.ServingRelays.{serving-few, serving-once, serving-has, serving-below, serving-serves, first-of-all}
+use Rattle.theory.specs.ServingRelays.{serving-few, serving-once, serving-has, serving-relay, first-of-all}
 use Rattle.theory.specs.Heaviest.{Chosen, heaviestOf-chosen, chosen-has, chosen-most, chosen-is}
 
 -- What has no place yet: a candidate that is not placed.
@@ -244,7 +244,7 @@ module _ (n : ℕ) (lows highs states : List ℕ) where
       (first-of-all n states lows highs) (length (servingRelays n states)) (omega arith) r h
 
   pub order-relay : (r : ℕ) → has (orderOf n lows highs states) r ≡ true → Serving n states r
-  order-relay r h = let found = order-serving r h in (serving-below n states r found, serving-serves n states r found)
+  order-relay r h = serving-relay n states r (order-serving r h)
 
   pub order-has : (r : ℕ) → Serving n states r → has (orderOf n lows highs states) r ≡ true
   unfolding orderOf

@@ -29,18 +29,20 @@ use Rattle.theory.specs.SharedLinks.{shared-link}
 use Rattle.theory.specs.PlaceRoutes.{LeftLink, RouteWithin, RoutesWithin}
 use Rattle.theory.specs.SweepRoutes.{routes-between}
 
--- k routes from `from` to `to` along kept links, through relays of an order that are in service.
-pub record RoutesIn (order : List ℕ) (n : ℕ) (lows highs states marks : List ℕ) (k from to : ℕ) (routes : List (List ℕ)) : Type 0 where
+-- k routes from `from` to `to` along kept links, with the relays written in all bounded by some number of relays.
+pub record RoutesAmong
+    (size n : ℕ) (lows highs states marks : List ℕ) (k from to : ℕ) (routes : List (List ℕ)) : Type 0 where
   pub number : length routes ≡ k
   pub disjoint : DisjointRoutes n lows highs states (Kept marks) from to routes
-  pub within : (i : ℕ) → i < length routes → (r : ℕ) → has (getD routes i []) r ≡ true → has order r ≡ true
-  pub written : length (joinAll routes) ≤ length order - 2 + 2 * k
+  pub written : length (joinAll routes) ≤ size - 2 + 2 * k
 
--- The same of the base, whose order has every relay in service.
-pub record RelayRoutes (n : ℕ) (lows highs states marks : List ℕ) (k from to : ℕ) (routes : List (List ℕ)) : Type 0 where
-  pub number : length routes ≡ k
-  pub disjoint : DisjointRoutes n lows highs states (Kept marks) from to routes
-  pub written : length (joinAll routes) ≤ n - 2 + 2 * k
+-- Through relays of an order, and bounded by these; and of the base, bounded by all relays.
+pub record RoutesIn (order : List ℕ) (n : ℕ) (lows highs states marks : List ℕ) (k from to : ℕ) (routes : List (List ℕ)) : Type 0 where
+  pub among : RoutesAmong (length order) n lows highs states marks k from to routes
+  pub within : (i : ℕ) → i < length routes → (r : ℕ) → has (getD routes i []) r ≡ true → has order r ≡ true
+
+abbrev pub RelayRoutes : (n : ℕ) (lows highs states marks : List ℕ) (k from to : ℕ) (routes : List (List ℕ)) → Type 0
+RelayRoutes n lows highs states marks k from to routes = RoutesAmong n n lows highs states marks k from to routes
 
 module _ (order lows highs : List ℕ) (arranged : Arranged order lows highs) (n : ℕ) (states : List ℕ)
     (serving : (r : ℕ) → has order r ≡ true → Serving n states r) (k : ℕ) (marks : List ℕ) (marked : MarkedIn order lows highs k marks) where
@@ -138,23 +140,23 @@ module _ (order lows highs : List ℕ) (arranged : Arranged order lows highs) (n
         let at : ℕ → ℕ = relayAt order in
         let entry : (i : ℕ) → getD (map (map at) routes) i [] ≡ map at (getD routes i []) = λ i. List·getD-map (map at) routes i [] in
         let size : length (map (map at) routes) ≡ k = length-map routes (map at) ∙ holds .number in
+        let disjoint : DisjointRoutes n lows highs states (Kept marks) from to (map (map at) routes) =
         record {
-          number = size;
-          disjoint =
-              record {
-                each = λ i h.
-                    subst (RouteHolds n lows highs states (Kept marks) from to) (sym (entry i))
-                    (route-holds (getD routes i []) (holds .each i (omega (arith, size))));
-                apart = λ i j hi hj ne.
-                    let low : i < k = omega (arith, size) in
-                    let high : j < k = omega (arith, size) in
-                    subst₂ (Apart lows highs from to) (sym (entry i)) (sym (entry j))
-                    (routes-apart (getD routes i []) (getD routes j []) (holds .each i low) (holds .each j high)
-                    (holds .apart i j low high ne) (holds .direct i j low high ne));
-              };
+          each = λ i h.
+              subst (RouteHolds n lows highs states (Kept marks) from to) (sym (entry i))
+              (route-holds (getD routes i []) (holds .each i (omega (arith, size))));
+          apart = λ i j hi hj ne.
+              let low : i < k = omega (arith, size) in
+              let high : j < k = omega (arith, size) in
+              subst₂ (Apart lows highs from to) (sym (entry i)) (sym (entry j))
+              (routes-apart (getD routes i []) (getD routes j []) (holds .each i low) (holds .each j high)
+              (holds .apart i j low high ne) (holds .direct i j low high ne));
+        } in
+        record {
+          among =
+              record { number = size; disjoint = disjoint; written = omega (arith, length-joinAll-map at routes, holds .written) };
           within = λ i h r e.
               placed-relays (getD routes i []) (holds .each i (omega (arith, size))) r (subst (λ (l : List ℕ). has l r ≡ true) (entry i) e);
-          written = omega (arith, length-joinAll-map at routes, holds .written);
         }
 
   -- The sweep's routes, for two different relays of the order with every place between theirs alive at k.
@@ -183,7 +185,7 @@ routes-hold n lows highs states ok k one marks marked from to hf ht differ alive
     (order-relay n lows highs states) k marks marked one from to
     (order-has n lows highs states from hf) (order-has n lows highs states to ht) differ alive in
     record {
-      number = r .number;
-      disjoint = r .disjoint;
-      written = omega (arith, r .written, order-few n lows highs states);
+      number = r .among .number;
+      disjoint = r .among .disjoint;
+      written = omega (arith, r .among .written, order-few n lows highs states);
     }

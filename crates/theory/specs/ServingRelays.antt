@@ -49,6 +49,9 @@ module _ (n : ℕ) (states : List ℕ) where
   pub serving-serves : (r : ℕ) → has (servingRelays n states) r ≡ true → serves states r ≡ true
   serving-serves r h = both r h .1
 
+  pub serving-relay : (r : ℕ) → has (servingRelays n states) r ≡ true → Serving n states r
+  serving-relay r h = (serving-below r h, serving-serves r h)
+
   pub serving-not : (r : ℕ) → serves states r ≡ false → has (servingRelays n states) r ≡ false
   unfolding servingRelays
   serving-not r e = has-keep (serves states) (allRelays n) r ∙ rw e (and-false (has (allRelays n) r))
