@@ -13,7 +13,7 @@ use Rattle.definitions.specs.Network.{tableCheck, Accepted}
 use Rattle.definitions.specs.Form.{writeForm}
 use Rattle.definitions.specs.Text.{textOf, writeAnswer, bufferAfter}
 use Rattle.definitions.specs.Dimacs.{importNetwork, importAnswer, importLows, importHighs, importStates}
-use Rattle.definitions.specs.Plan.{refusedForm, room, printed}
+use Rattle.definitions.specs.Plan.{refusedForm, printed}
 use Rattle.definitions.specs.Import.{networkText, importText}
 use Rattle.lists.specs.Outcomes.{refuse-not, then-done, if-done}
 use Rattle.text_theory.specs.ImportProof.{import-promise}
@@ -22,11 +22,10 @@ use Rattle.network.specs.Answers.{refusalOf, refusalNumber, refusalPlace}
 use Rattle.network.specs.declared.Refusal.{Refusal}
 use Rattle.text.specs.Answers.{readOutcome, writeOutcome}
 use Rattle.text.specs.declared.ReadAnswer.{ReadAnswer}
-use Rattle.text.specs.declared.ReadAnswer.the-variants as read
 use Rattle.text.specs.declared.WriteAnswer.{WriteAnswer}
 use Rattle.text.specs.declared.WriteAnswer.the-variants as written
-use Rattle.sheet.specs.ReadStage.{Rooms, FrontTable, reading-refused, reading-done, whole-put}
-use Rattle.sheet.specs.RefusedLine.{LinePut}
+use Rattle.program.specs.ReadStage.{FrontTable, Loads, reading-loads, whole-put}
+use Rattle.program.specs.RefusedLine.{LinePut}
 use Rattle.importer.specs.Printed.{Printed}
 
 -- Write with an accepted network and room for every text.
@@ -59,33 +58,16 @@ module _ (n : ℕ) (lows highs states buffer : List ℕ) (good : Accepted n lows
         bytes = bytes ∙ if-done (writeAnswer n lows highs states buffer) _ (overwrite (textOf n lows highs states) buffer) buffer write-done;
       }
 
--- What the import leaves in the program's own lists: a refusal, or the network in their front, which is an accepted one.
-module _ (text lows highs states : List ℕ) (low : lows ≡ room 3000) (high : highs ≡ room 3000) (state : states ≡ room 1000)
-    (r : ReadAnswer) where
-  rooms : Rooms lows highs states
-  rooms = record { inLows = low; inHighs = high; inStates = state }
-
-  pub import-refused : (refusal : Refusal) → readOutcome r ≡ importAnswer text lows highs states → r ≡ read.Refused refusal
-      → importNetwork text 3000 3000 1000 ≡ refusalOf refusal
-  unfolding importAnswer
-  import-refused refusal answer e =
-      reading-refused (importNetwork text) lows highs states refusal rooms (sym answer ∙ ap readOutcome e)
-
-  pub import-done : (n m : ℕ) (lowsNow highsNow statesNow : List ℕ)
-      → (readOutcome r ≡ importAnswer text lows highs states) × ((lowsNow ≡ importLows text lows highs states)
-      × ((highsNow ≡ importHighs text lows highs states) × (statesNow ≡ importStates text lows highs states)))
-      → r ≡ read.Table n m → FrontTable (importNetwork text 3000 3000 1000) n m lowsNow highsNow statesNow
-  unfolding importAnswer importLows importHighs importStates
-  import-done n m lowsNow highsNow statesNow (answer, (lowsAre, (highsAre, statesAre))) e =
-      rw (lowsAre, highsAre, statesAre)
-      (reading-done (importNetwork text) lows highs states n m rooms
-      (λ network read. import-promise (length lows) (length highs) (length states) .imported text network read .accepted)
-      (sym answer ∙ ap readOutcome e))
-
-pub front-accepted : (text : List ℕ) (n m : ℕ) (lows highs states : List ℕ)
-    → FrontTable (importNetwork text 3000 3000 1000) n m lows highs states → Accepted n (take m lows) (take m highs) (take n states)
-front-accepted text n m lows highs states table =
-    import-promise 3000 3000 1000 .imported text (record { relays = n; lows = take m lows; highs = take m highs; states = take n states }) (table .read) .accepted
+-- What the import leaves in the program's own lists: a refusal, or an accepted network in their front.
+pub import-loads : (text lows highs states : List ℕ) (answer : ReadAnswer) (lowsNow highsNow statesNow : List ℕ)
+    → length lows ≡ 3000 → length highs ≡ 3000 → length states ≡ 1000
+    → (readOutcome answer ≡ importAnswer text lows highs states) × ((lowsNow ≡ importLows text lows highs states)
+    × ((highsNow ≡ importHighs text lows highs states) × (statesNow ≡ importStates text lows highs states)))
+    → Loads (importNetwork text 3000 3000 1000) answer lowsNow highsNow statesNow
+unfolding importAnswer importLows importHighs importStates
+import-loads text lows highs states answer lowsNow highsNow statesNow low high state told =
+    reading-loads (importNetwork text) lows highs states answer lowsNow highsNow statesNow low high state
+    (λ network e. import-promise (length lows) (length highs) (length states) .imported text network e .accepted) told
 
 -- What is printed: the refused line, or the network's text.
 pub refusal-printed : (input before after : List ℕ) (next : ℕ) (refusal : Refusal) → 52 ≤ length before

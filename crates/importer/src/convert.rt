@@ -5,11 +5,13 @@ ghost use lib.ListN.{length};
 ghost use Rattle.definitions.specs.Lists.{overwrite};
 ghost use Rattle.definitions.specs.Network.{Accepted};
 ghost use Rattle.definitions.specs.Text.{textOf};
+ghost use Rattle.definitions.specs.Dimacs.{importNetwork};
 ghost use Rattle.definitions.specs.Import.{importText};
+ghost use Rattle.program.specs.ReadStage.{Loads};
 ghost use Rattle.importer.specs.Printed.{Printed};
 use dimacs::import;
-use sheet::refusal::put_any;
-use sheet::rooms;
+use program::refusal::put_any;
+use program::rooms;
 use text::ReadAnswer;
 use text::WriteAnswer;
 use text::write;
@@ -34,6 +36,19 @@ fn put_network(output: &mut [u8], n: u16, lows: &[u16], highs: &[u16], states: &
     }
 }
 
+// Import, with room for every network.
+fn load_drawing(
+    input: &[u8],
+    lows: &mut [u16; 3000],
+    highs: &mut [u16; 3000],
+    states: &mut [u16; 1000],
+) -> ReadAnswer
+    requires { ⌜ (length (now lows) ≡ 3000) × (length (now highs) ≡ 3000) × (length (now states) ≡ 1000) ⌝ }
+    ensures { λ r. ⌜ Loads (importNetwork (now (input .entry)) 3000 3000 1000) r (now (lows .exit)) (now (highs .exit)) (now (states .exit)) ⌝ }
+{
+    import(input, lows, highs, states)
+}
+
 // The drawing is imported, and what it is goes out.
 fn put_imported(output: &mut [u8], input: &[u8]) -> usize
     requires { ⌜ 54929 ≤ length (now output) ⌝ }
@@ -42,7 +57,7 @@ fn put_imported(output: &mut [u8], input: &[u8]) -> usize
     let mut lows = rooms::links();
     let mut highs = rooms::links();
     let mut states = rooms::states();
-    match import(input, &mut lows, &mut highs, &mut states) {
+    match load_drawing(input, &mut lows, &mut highs, &mut states) {
         ReadAnswer::Refused(refusal) => put_any(output, refusal),
         ReadAnswer::Table(n, m) => {
             let size = m as usize;

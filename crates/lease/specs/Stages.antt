@@ -11,27 +11,26 @@ use Rattle.definitions.specs.Lists.{overwrite, count}
 use Rattle.definitions.specs.Network.{Accepted}
 use Rattle.definitions.specs.Forests.{marksOf, cutAnswer, marksAfter}
 use Rattle.definitions.specs.Form.{departs, reads, scanForm, onScan}
-use Rattle.definitions.specs.Text.{readNetwork, readAnswer}
+use Rattle.definitions.specs.Text.{readNetwork}
 use Rattle.definitions.specs.Plan.{room, printed}
 use Rattle.definitions.specs.Lease.{keepForm, Lease, leaseFor, leased, droppedCount, idleCount, leaseText, keepText}
 use Rattle.lists.specs.Outcomes.{then-done, if-done}
 use Rattle.theory.specs.Accepted.{accepted, accepted-states}
 use Rattle.theory.specs.Columns.{length-marks}
 use Rattle.text_theory.specs.NetworkLines.{read-line}
-use Rattle.text_theory.specs.RoundTrip.{written-read}
 use Rattle.text.specs.Put.{Put}
 use Rattle.network.specs.Answers.{refusalOf}
 use Rattle.network.specs.declared.Refusal.{Refusal}
 use Rattle.network.specs.declared.Refusal.the-variants.{Wish}
-use Rattle.sheet.specs.Front.{longer}
+use Rattle.program.specs.Front.{longer}
 use Rattle.sheet.specs.Planned.{cut-passed}
-use Rattle.sheet.specs.ReadStage.{whole-put, networkOf, stage-refused, cut-rooms, network-refused, ReadTable}
+use Rattle.program.specs.ReadStage.{whole-put, networkOf, stage-refused, cut-rooms}
 use Rattle.lease.specs.Lines.{EndsWithin, lines-front, countLines, listLines}
 use Rattle.lease.specs.Listed.{keep-line}
 use Rattle.lease.specs.Counts.{counts-all}
 
 -- Read, and the stages behind it.
-unfoldable pub readStage : List ℕ → ℕ → Outcome Lease
+abbrev pub readStage : List ℕ → ℕ → Outcome Lease
 readStage text k = andThen (readNetwork text 3000 3000 1000) (leaseFor k)
 
 pub line-departed : (input : List ℕ) (p : ℕ) → scanForm input keepForm 0 ≡ departs p → leased input ≡ refusalOf (Wish p)
@@ -40,28 +39,11 @@ line-departed input p e = rw e
 
 pub line-taken : (input : List ℕ) (k p : ℕ) → scanForm input keepForm 0 ≡ reads (k ∷ []) p
     → (p ≤ length input) × (leased input ≡ readStage (take (length input - p) (drop p input)) k)
-unfolding leased onScan readStage
+unfolding leased onScan
 line-taken input k p e =
     let all : take (length input - p) (drop p input) ≡ drop p input =
     take-all (length input - p) (drop p input) (omega (arith, length-drop p input)) in
     (read-line keepForm input 0 (k ∷ []) p keep-line (omega arith) e .1 .within, rw (e, all))
-
-pub read-refused : (text lows highs states : List ℕ) (k : ℕ) (refusal : Refusal) → lows ≡ room 3000 → highs ≡ room 3000
-    → states ≡ room 1000 → readAnswer text lows highs states ≡ refusalOf refusal → readStage text k ≡ refusalOf refusal
-unfolding readStage
-read-refused text lows highs states k refusal low high state e =
-    stage-refused (readNetwork text 3000 3000 1000) (leaseFor k) refusal (network-refused text lows highs states refusal low high state e)
-
-pub read-table : (text : List ℕ) (n m : ℕ) (lows highs states : List ℕ) (k : ℕ) → ReadTable text n m lows highs states
-    → readStage text k ≡ leaseFor k (networkOf n (take m lows) (take m highs) (take n states))
-unfolding readStage
-read-table text n m lows highs states k table =
-    then-done (readNetwork text 3000 3000 1000) (leaseFor k) (networkOf n (take m lows) (take m highs) (take n states)) (table .read)
-
-pub table-accepted : (text : List ℕ) (n m : ℕ) (lows highs states : List ℕ) → ReadTable text n m lows highs states
-    → Accepted n (take m lows) (take m highs) (take n states)
-table-accepted text n m lows highs states table =
-    written-read text 3000 3000 1000 (networkOf n (take m lows) (take m highs) (take n states)) (table .read) .1
 
 -- Cut, and the list with its marks.
 pub cut-refused : (n : ℕ) (lows highs states : List ℕ) (k : ℕ) (refusal : Refusal)

@@ -4,12 +4,12 @@ ghost use lib.ListN.{length};
 ghost use Rattle.definitions.specs.Lists.{overwrite};
 ghost use Rattle.definitions.specs.Lease.{keepText};
 ghost use Rattle.definitions.specs.Plan.{printAnswer, outputAfter};
-ghost use Rattle.sheet.specs.Into.{printOutcome};
+ghost use Rattle.program.specs.Into.{printOutcome};
 use front::keep_line;
 use network::Refusal;
-use sheet::into::PrintAnswer;
-use sheet::into::print_into;
-use sheet::refusal::put_refusal;
+use program::into::PrintAnswer;
+use program::into::print_into;
+use program::refusal::put_refusal;
 use stages::keep_network;
 use text::scan::NumberScan;
 

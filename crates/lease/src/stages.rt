@@ -5,15 +5,15 @@ ghost use Rattle.definitions.specs.Lease.{leaseFor, leaseText};
 ghost use Rattle.definitions.specs.Network.{Accepted};
 ghost use Rattle.definitions.specs.Plan.{printed};
 ghost use Rattle.text.specs.Put.{Put};
-ghost use Rattle.sheet.specs.ReadStage.{networkOf};
+ghost use Rattle.program.specs.ReadStage.{networkOf};
 ghost use Rattle.lease.specs.Stages.{readStage};
 use crate::print::put_list;
 use forests::CutAnswer;
 use forests::cut;
-use sheet::refusal::put_refusal;
-use sheet::rooms;
+use program::load::load;
+use program::refusal::put_refusal;
+use program::rooms;
 use text::ReadAnswer;
-use text::read;
 
 // Cut, and the list with its marks.
 fn keep_cut(output: &mut [u8], n: u16, lows: &[u16], highs: &[u16], states: &[u16], k: u16) -> usize
@@ -45,7 +45,7 @@ pub(crate) fn keep_network(output: &mut [u8], text: &[u8], k: u16) -> usize
     let mut lows = rooms::links();
     let mut highs = rooms::links();
     let mut states = rooms::states();
-    match read(text, &mut lows, &mut highs, &mut states) {
+    match load(text, &mut lows, &mut highs, &mut states) {
         ReadAnswer::Refused(refusal) => put_refusal(output, refusal),
         ReadAnswer::Table(n, m) => {
             let size = m as usize;

@@ -19,8 +19,8 @@ use forests::CutAnswer;
 use forests::OrderAnswer;
 use forests::SplitAnswer;
 use network::Relay;
+use program::into::PrintAnswer;
 use routes::RouteAnswer;
-use sheet::into::PrintAnswer;
 use sheet_check::SheetAnswer;
 use text::WriteAnswer;
 

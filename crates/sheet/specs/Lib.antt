@@ -1,7 +1,6 @@
 -- What the planner prints: how far it looks, how much it writes, and the answers of its functions.
 pub mod Wish
 pub mod SheetLines
-pub mod Going
 pub mod Reach
 pub mod Planned
 pub mod Refusals
@@ -9,9 +8,5 @@ pub mod Routes
 pub mod Overs
 pub mod Longest
 pub mod Promise
-pub mod Front
-pub mod RefusedLine
-pub mod ReadStage
-pub mod Into
 pub mod LinkRooms
 pub mod Stages

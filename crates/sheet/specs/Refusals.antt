@@ -8,7 +8,7 @@ use mathlib.Core.Path.{_≡_, refl}
 use native.Mathlib.Nat.{mul-le-mul}
 use native.Mathlib.Omega.{arith}
 use lib.Dec.{eqb, ltb, leb}
-use lib.ListN.{length, getD, drop, length-replicate}
+use lib.ListN.{length, getD, drop}
 use borrow.Author.Tests.{eqb-false, ne-eqb, le-ltb}
 use Rattle.definitions.specs.Outcome.{Outcome, andThen}
 use Rattle.definitions.specs.Lists.{outside}
@@ -26,6 +26,7 @@ use Rattle.theory.specs.Accepted.{accepted}
 use Rattle.text_theory.specs.Spans.{span, form-within}
 use Rattle.text_theory.specs.Refusals.{on-scan-as, ReadRefusal, network-within}
 use Rattle.text_theory.specs.RoundTrip.{written-read}
+use Rattle.program.specs.ReadStage.{length-room}
 
 pub record Printable (number place : ℕ) : Type 0 where
   pub low : number ≤ 17
@@ -38,10 +39,6 @@ printable number place low near eight twelve =
     record { low = low; near = near; notEight = eqb-false number 8 eight; notTwelve = eqb-false number 12 twelve }
 
 -- The planner's own lists are long enough for every network and every k.
-pub length-room : (size : ℕ) → length (room size) ≡ size
-unfolding room
-length-room size = length-replicate size 0
-
 rooms-fit : (n k : ℕ) → n ≤ 1000 → k ≤ 32 → tooShort n k (room 32) (room 1062) (room 32000) ≡ false
 unfolding tooShort
 rooms-fit n k few most =

@@ -12,7 +12,7 @@ use Rattle.definitions.specs.Route.{routesOf, routeAnswer}
 use Rattle.definitions.specs.Over.{oversOf, routeLinksAnswer, routeLinksCounts, routeLinksRelays, routeLinksLinks}
 use Rattle.definitions.specs.Demand.{cutUp}
 use Rattle.definitions.specs.Form.{departs, reads, scanForm, onScan}
-use Rattle.definitions.specs.Text.{Network, readNetwork, readAnswer}
+use Rattle.definitions.specs.Text.{Network, readNetwork}
 use Rattle.definitions.specs.Plan.{wishForm, Sheet, room, sheetFor, planned, sheetText, printed, planText}
 use Rattle.lists.specs.Outcomes.{then-done, if-done}
 use Rattle.lists.specs.Overwritten.{take-overwrite}
@@ -23,11 +23,10 @@ use Rattle.text.specs.Put.{Put}
 use Rattle.network.specs.Answers.{refusalOf}
 use Rattle.network.specs.declared.Refusal.{Refusal}
 use Rattle.network.specs.declared.Refusal.the-variants.{Wish}
-use Rattle.sheet.specs.Front.{longer}
+use Rattle.program.specs.Front.{longer}
 use Rattle.sheet.specs.SheetLines.{sheetLines}
 use Rattle.sheet.specs.Planned.{sheetOf}
-use Rattle.sheet.specs.ReadStage.{networkOf, stage-refused, network-refused, ReadTable, whole-put}
-use Rattle.sheet.specs.Refusals.{length-room}
+use Rattle.program.specs.ReadStage.{length-room, networkOf, stage-refused, whole-put}
 use Rattle.sheet.specs.Routes.{length-routes}
 use Rattle.sheet.specs.Overs.{over-lengths}
 use Rattle.sheet.specs.LinkRooms.{links-answer, links-passed}
@@ -190,23 +189,8 @@ module _
         })
 
 -- Read, and the stages behind it.
-unfoldable pub readStage : (text : List ℕ) (from to k : ℕ) → Outcome Sheet
+abbrev pub readStage : (text : List ℕ) (from to k : ℕ) → Outcome Sheet
 readStage text from to k = andThen (readNetwork text 3000 3000 1000) (sheetFor from to k)
-
-pub read-refused : (text lows highs states : List ℕ) (from to k : ℕ) (refusal : Refusal)
-    → lows ≡ room 3000 → highs ≡ room 3000 → states ≡ room 1000
-    → readAnswer text lows highs states ≡ refusalOf refusal → readStage text from to k ≡ refusalOf refusal
-unfolding readStage
-read-refused text lows highs states from to k refusal low high state e =
-    stage-refused (readNetwork text 3000 3000 1000) (sheetFor from to k) refusal
-    (network-refused text lows highs states refusal low high state e)
-
-pub read-table : (text : List ℕ) (n m : ℕ) (lows highs states : List ℕ) (from to k : ℕ) → ReadTable text n m lows highs states
-    → readStage text from to k ≡ sheetFor from to k (networkOf n (take m lows) (take m highs) (take n states))
-unfolding readStage
-read-table text n m lows highs states from to k table =
-    then-done (readNetwork text 3000 3000 1000) (sheetFor from to k)
-    (networkOf n (take m lows) (take m highs) (take n states)) (table .read)
 
 -- The wish, and all the rest.
 pub wish-departed : (input : List ℕ) (p : ℕ) → scanForm input wishForm 0 ≡ departs p → planned input ≡ refusalOf (Wish p)
@@ -215,7 +199,7 @@ wish-departed input p e = rw e
 
 pub wish-taken : (input : List ℕ) (from to k p : ℕ) → scanForm input wishForm 0 ≡ reads (from ∷ to ∷ k ∷ []) p
     → (p ≤ length input) × (planned input ≡ readStage (take (length input - p) (drop p input)) from to k)
-unfolding planned onScan readStage
+unfolding planned onScan
 wish-taken input from to k p e =
     let all : take (length input - p) (drop p input) ≡ drop p input =
     take-all (length input - p) (drop p input) (omega (arith, length-drop p input)) in

@@ -3,17 +3,17 @@ ghost use Prim.Native.Nat.{_≤_};
 ghost use lib.ListN.{length};
 ghost use Rattle.definitions.specs.Plan.{sheetFor, sheetText, printed};
 ghost use Rattle.text.specs.Put.{Put};
-ghost use Rattle.sheet.specs.ReadStage.{networkOf};
+ghost use Rattle.program.specs.ReadStage.{networkOf};
 ghost use Rattle.sheet.specs.Stages.{routeStage, readStage};
 use crate::print::put_sheet;
-use crate::refusal::put_refusal;
 use crate::rooms;
 use forests::CutAnswer;
 use forests::cut;
+use program::load::load;
+use program::refusal::put_refusal;
 use routes::RouteAnswer;
 use routes::route_links;
 use text::ReadAnswer;
-use text::read;
 
 // Route, and the sheet with its routes and their links.
 fn plan_routes(
@@ -77,7 +77,7 @@ fn plan_cut(
     ensures { λ r. ⌜ Put (now (output .entry)) 0 (printed sheetText (sheetFor from to k (networkOf n (now (lows .entry)) (now (highs .entry)) (now (states .entry)))))
         (now (output .exit)) r ⌝ }
 {
-    let mut marks = rooms::links();
+    let mut marks = program::rooms::links();
     match cut(n, lows, highs, states, k, &mut marks) {
         CutAnswer::Refused(refusal) => put_refusal(output, refusal),
         CutAnswer::Kept(kept) => plan_routes(output, n, lows, highs, states, from, to, k, kept),
@@ -89,10 +89,10 @@ pub(crate) fn plan_network(output: &mut [u8], text: &[u8], from: u16, to: u16, k
     requires { ⌜ length (printed sheetText (readStage (now text) from to k)) ≤ length (now output) ⌝ }
     ensures { λ r. ⌜ Put (now (output .entry)) 0 (printed sheetText (readStage (now (text .entry)) from to k)) (now (output .exit)) r ⌝ }
 {
-    let mut lows = rooms::links();
-    let mut highs = rooms::links();
-    let mut states = rooms::states();
-    match read(text, &mut lows, &mut highs, &mut states) {
+    let mut lows = program::rooms::links();
+    let mut highs = program::rooms::links();
+    let mut states = program::rooms::states();
+    match load(text, &mut lows, &mut highs, &mut states) {
         ReadAnswer::Refused(refusal) => put_refusal(output, refusal),
         ReadAnswer::Table(n, m) => {
             let size = m as usize;

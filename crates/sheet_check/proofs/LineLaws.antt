@@ -8,17 +8,15 @@ use lib.Seq.{take-all}
 use Rattle.definitions.specs.Outcome.{done, Answer}
 use Rattle.definitions.specs.Lists.{overwrite}
 use Rattle.definitions.specs.Form.{bytes, Scan, departs, reads, scanWord, scanForm}
-use Rattle.definitions.specs.Text.{endForm, readNetwork}
+use Rattle.definitions.specs.Text.{endForm}
 use Rattle.definitions.specs.Plan.{printed}
-use Rattle.definitions.specs.SheetTest.{sheetAnswer}
 use Rattle.definitions.specs.Verify.{behindOr, endBehind, networkSize, verified, verdictText, verifyText}
-use Rattle.lists.specs.Outcomes.{then-done}
 use Rattle.text_theory.specs.Forms.{end-line}
 use Rattle.text_theory.specs.NetworkLines.{read-line}
 use Rattle.text.specs.ItemByItem.{form-word}
 use Rattle.text.specs.Put.{Put}
-use Rattle.sheet.specs.ReadStage.{ReadTable, whole-put}
-use Rattle.sheet.specs.RefusedLine.{LinePut}
+use Rattle.program.specs.ReadStage.{whole-put}
+use Rattle.program.specs.RefusedLine.{LinePut}
 use Rattle.sheet_check.specs.Line.{readBackFrom}
 
 -- Where the network's text ends, offset by offset.
@@ -79,17 +77,11 @@ pub fails-line : {before after : List ℕ} {next : ℕ} → Put before 0 (bytes 
 unfolding printed verdictText
 fails-line put = record { put = put; fits = omega arith }
 
--- A table that was read goes to the sheet.
-pub table-then : (network text : List ℕ) (n m : ℕ) (lows highs states : List ℕ) → ReadTable network n m lows highs states
-    → readBackFrom network text ≡ sheetAnswer n (take m lows) (take m highs) (take n states) text
-unfolding readBackFrom
-table-then network text n m lows highs states table = then-done (readNetwork network 3000 3000 1000) _ _ (table .read)
-
 -- The two parts of the input.
 pub whole-line : (input before after : List ℕ) (next size : ℕ) → size ≡ networkSize input → 52 ≤ length before
     → LinePut before (printed verdictText (readBackFrom (take size input) (take (length input - size) (drop size input)))) after next
     → (next ≡ length (verifyText input)) × (after ≡ overwrite (verifyText input) before)
-unfolding verifyText verified readBackFrom
+unfolding verifyText verified
 whole-line input before after next size e room line =
     let all : take (length input - size) (drop size input) ≡ drop size input =
     take-all (length input - size) (drop size input) (omega (arith, length-drop size input)) in

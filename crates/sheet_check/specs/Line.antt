@@ -6,6 +6,6 @@ use Rattle.definitions.specs.Text.{readNetwork}
 use Rattle.definitions.specs.SheetTest.{sheetAnswer}
 
 -- A sheet's text read back with a network's text.
-unfoldable pub readBackFrom : (network text : List ℕ) → Answer
+abbrev pub readBackFrom : (network text : List ℕ) → Answer
 readBackFrom network text =
     andThen (readNetwork network 3000 3000 1000) λ w. sheetAnswer (w .relays) (w .lows) (w .highs) (w .states) text

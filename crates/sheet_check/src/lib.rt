@@ -14,7 +14,7 @@ use form::sheet_form;
 use network::Check;
 use network::Refusal;
 use network::table_check;
-use sheet::rooms;
+use program::rooms;
 use walk::routes_hold;
 
 mod form;

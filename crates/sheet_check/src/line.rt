@@ -6,15 +6,15 @@ ghost use Rattle.definitions.specs.Plan.{printed};
 ghost use Rattle.definitions.specs.SheetTest.{sheetAnswer};
 ghost use Rattle.definitions.specs.Lists.{overwrite};
 ghost use Rattle.definitions.specs.Verify.{networkSize, verdictText, verifyText};
-ghost use Rattle.sheet.specs.RefusedLine.{LinePut};
+ghost use Rattle.program.specs.RefusedLine.{LinePut};
 ghost use Rattle.sheet_check.specs.Line.{readBackFrom};
 use crate::SheetAnswer;
 use crate::check_sheet;
-use sheet::refusal::put_any;
-use sheet::rooms;
+use program::load::load;
+use program::refusal::put_any;
+use program::rooms;
 use text::ReadAnswer;
 use text::put;
-use text::read;
 use text::scan;
 use text::scan::WordScan;
 
@@ -73,7 +73,7 @@ pub(crate) fn put_read_back(output: &mut [u8], network: &[u8], text: &[u8]) -> u
     let mut lows = rooms::links();
     let mut highs = rooms::links();
     let mut states = rooms::states();
-    match read(network, &mut lows, &mut highs, &mut states) {
+    match load(network, &mut lows, &mut highs, &mut states) {
         ReadAnswer::Refused(refusal) => put_any(output, refusal),
         ReadAnswer::Table(n, m) => {
             let size = m as usize;

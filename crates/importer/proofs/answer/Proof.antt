@@ -2,7 +2,7 @@
 use mathlib.Core.Path.{sym, _∙_, ap}
 use lib.Seq.{length-take-le}
 use Rattle.definitions.specs.Import.{importText}
-use Rattle.sheet.specs.Front.{front-within, front-is}
+use Rattle.program.specs.Front.{front-within, front-is}
 use borrow.Author.Needs.{needs}
 use Rattle.importer.proofs.answer.Statement.{statement}
 use Rattle.importer.proofs.answer.Tie as tie

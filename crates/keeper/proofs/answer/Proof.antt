@@ -4,7 +4,7 @@ use denote.Ref.{now}
 use lib.Seq.{length-take-le}
 use Rattle.definitions.specs.Lease.{keepText}
 use Rattle.input.specs.Whole.{answered}
-use Rattle.sheet.specs.Front.{front-within, front-is}
+use Rattle.program.specs.Front.{front-within, front-is}
 use Rattle.lease.specs.Reach.{keep-reach}
 use borrow.Author.Needs.{needs}
 use Rattle.keeper.proofs.answer.Statement.{statement}

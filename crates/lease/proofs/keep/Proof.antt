@@ -7,7 +7,7 @@ use lib.ListN.{length}
 use Rattle.definitions.specs.Plan.{printed}
 use Rattle.definitions.specs.Lease.{leaseRoom, leased, leaseText, keepText}
 use Rattle.text.specs.Scans.{numberGives}
-use Rattle.sheet.specs.ReadStage.{fits-as, put-as}
+use Rattle.program.specs.ReadStage.{fits-as, put-as}
 use Rattle.lease.specs.Longest.{keep-length}
 use Rattle.lease.specs.Stages.{line-departed, line-taken, keep-put}
 use borrow.Author.Needs.{needs}

@@ -1,7 +1,7 @@
 -- `lease::keep_into` meets its contract: the front of the list's own room is what `keep` prints. Assumes nothing.
 use mathlib.Core.Path.{sym}
 use lib.Seq.{length-take-le}
-use Rattle.sheet.specs.Front.{front-within, front-is}
+use Rattle.program.specs.Front.{front-within, front-is}
 use borrow.Author.Needs.{needs}
 use Rattle.lease.proofs.keep_into.Statement.{statement}
 use Rattle.lease.proofs.keep_into.Tie as tie

@@ -1,7 +1,7 @@
 -- `nolkisei::nolkisei_plan` meets its contract: the planner's answer is reported, and the output is as it leaves it. Assumes nothing.
 use mathlib.Core.Path.{sym, ap, _∙_}
 use borrow.Author.Needs.{needs}
-use Rattle.sheet.specs.Into.{printOutcome}
+use Rattle.program.specs.Into.{printOutcome}
 use Rattle.nolkisei.specs.Reported.{reported, reported-one}
 use Rattle.nolkisei.proofs.nolkisei_plan.Statement.{statement}
 use Rattle.nolkisei.proofs.nolkisei_plan.Tie as tie

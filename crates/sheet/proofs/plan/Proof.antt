@@ -8,7 +8,7 @@ use lib.ListN.{length}
 use Rattle.definitions.specs.Plan.{outputRoom, planned, sheetText, printed, planText}
 use Rattle.sheet.specs.Wish.{wishGives}
 use Rattle.sheet.specs.Longest.{plan-length}
-use Rattle.sheet.specs.ReadStage.{fits-as, put-as}
+use Rattle.program.specs.ReadStage.{fits-as, put-as}
 use Rattle.sheet.specs.Stages.{wish-departed, wish-taken, plan-put}
 use borrow.Author.Needs.{needs}
 use Rattle.sheet.proofs.plan.Statement.{statement}

@@ -1,7 +1,7 @@
 -- `sheet::plan_into` meets its contract: the front of the planner's own room is what `plan` prints. Assumes nothing.
 use mathlib.Core.Path.{sym}
 use lib.Seq.{length-take-le}
-use Rattle.sheet.specs.Front.{front-within, front-is}
+use Rattle.program.specs.Front.{front-within, front-is}
 use borrow.Author.Needs.{needs}
 use Rattle.sheet.proofs.plan_into.Statement.{statement}
 use Rattle.sheet.proofs.plan_into.Tie as tie

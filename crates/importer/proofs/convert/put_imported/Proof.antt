@@ -4,7 +4,7 @@ use mathlib.Core.Path.{sym}
 use native.Mathlib.Omega.{arith}
 use denote.Ref.{now}
 use lib.Seq.{length-take-le}
-use Rattle.importer.proofs.ConvertLaws.{import-refused, import-done, front-accepted, refusal-printed, network-printed}
+use Rattle.importer.proofs.ConvertLaws.{refusal-printed, network-printed}
 use borrow.Author.Needs.{needs}
 use Rattle.importer.proofs.convert.put_imported.Statement.{statement}
 use Rattle.importer.proofs.convert.put_imported.Tie as tie
@@ -18,17 +18,8 @@ links-requires-2 c κs = search needs
 states-requires : tie.Need-states-requires
 states-requires c κs = search needs
 
-slice-aggregate-import : tie.Need-slice-aggregate-import
-slice-aggregate-import c = search needs
-
-slice-aggregate-import-2 : tie.Need-slice-aggregate-import-2
-slice-aggregate-import-2 c = search needs
-
-slice-aggregate-import-3 : tie.Need-slice-aggregate-import-3
-slice-aggregate-import-3 c = search needs
-
-import-requires : tie.Need-import-requires
-import-requires c κs = search needs
+load-drawing-requires : tie.Need-load-drawing-requires
+load-drawing-requires c κs = search needs
 
 enum-known-refusal : tie.Need-enum-known-refusal
 enum-known-refusal c = search needs
@@ -46,119 +37,45 @@ cast-relays : tie.Need-cast-relays
 cast-relays c = search needs
 
 array-share-prefix-lows : tie.Need-array-share-prefix-lows
-array-share-prefix-lows c =
-    let atN = c .before .before in
-    let atImport = atN .before .before .before .before .before in
-    let atStates = atImport .before .before .before .before in
-    let atLinks2 = atStates .before in
-    let atLinks = atLinks2 .before in
-    let a = atLinks .before .before .before .args in
-    let table = import-done (now (a .input)) _ _ _ (atLinks .links .ensures) (atLinks2 .links2 .ensures) (atStates .states .ensures)
-    _ _ _ _ _ _ (atImport .import .ensures) (atN .n .given .1) in
-    table .inLows
+array-share-prefix-lows c = (c .before .before .before .before .load-drawing .ensures .gives _ _ (c .before .before .n .given .1) .inLows)
 
 slice-aggregate-put-network : tie.Need-slice-aggregate-put-network
-slice-aggregate-put-network c =
-    let atN = c .before .before .before in
-    let atImport = atN .before .before .before .before .before in
-    let atStates = atImport .before .before .before .before in
-    let atLinks2 = atStates .before in
-    let atLinks = atLinks2 .before in
-    let a = atLinks .before .before .before .args in
-    let table = import-done (now (a .input)) _ _ _ (atLinks .links .ensures) (atLinks2 .links2 .ensures) (atStates .states .ensures)
-    _ _ _ _ _ _ (atImport .import .ensures) (atN .n .given .1) in
-    sym (length-take-le _ _ (table .inLows))
+slice-aggregate-put-network c = sym (length-take-le _ _ (c .before .before .before .before .before .load-drawing .ensures .gives _ _ (c .before .before .before .n .given .1) .inLows))
 
 array-share-prefix-highs : tie.Need-array-share-prefix-highs
-array-share-prefix-highs c =
-    let atN = c .before .before .before in
-    let atImport = atN .before .before .before .before .before in
-    let atStates = atImport .before .before .before .before in
-    let atLinks2 = atStates .before in
-    let atLinks = atLinks2 .before in
-    let a = atLinks .before .before .before .args in
-    let table = import-done (now (a .input)) _ _ _ (atLinks .links .ensures) (atLinks2 .links2 .ensures) (atStates .states .ensures)
-    _ _ _ _ _ _ (atImport .import .ensures) (atN .n .given .1) in
-    table .inHighs
+array-share-prefix-highs c = (c .before .before .before .before .before .load-drawing .ensures .gives _ _ (c .before .before .before .n .given .1) .inHighs)
 
 slice-aggregate-put-network-2 : tie.Need-slice-aggregate-put-network-2
-slice-aggregate-put-network-2 c =
-    let atN = c .before .before .before .before in
-    let atImport = atN .before .before .before .before .before in
-    let atStates = atImport .before .before .before .before in
-    let atLinks2 = atStates .before in
-    let atLinks = atLinks2 .before in
-    let a = atLinks .before .before .before .args in
-    let table = import-done (now (a .input)) _ _ _ (atLinks .links .ensures) (atLinks2 .links2 .ensures) (atStates .states .ensures)
-    _ _ _ _ _ _ (atImport .import .ensures) (atN .n .given .1) in
-    sym (length-take-le _ _ (table .inHighs))
+slice-aggregate-put-network-2 c = sym (length-take-le _ _ (c .before .before .before .before .before .before .load-drawing .ensures .gives _ _ (c .before .before .before .before .n .given .1) .inHighs))
 
 array-share-prefix-states : tie.Need-array-share-prefix-states
-array-share-prefix-states c =
-    let atN = c .before .before .before .before in
-    let atImport = atN .before .before .before .before .before in
-    let atStates = atImport .before .before .before .before in
-    let atLinks2 = atStates .before in
-    let atLinks = atLinks2 .before in
-    let a = atLinks .before .before .before .args in
-    let table = import-done (now (a .input)) _ _ _ (atLinks .links .ensures) (atLinks2 .links2 .ensures) (atStates .states .ensures)
-    _ _ _ _ _ _ (atImport .import .ensures) (atN .n .given .1) in
-    table .inStates
+array-share-prefix-states c = (c .before .before .before .before .before .before .load-drawing .ensures .gives _ _ (c .before .before .before .before .n .given .1) .inStates)
 
 slice-aggregate-put-network-3 : tie.Need-slice-aggregate-put-network-3
-slice-aggregate-put-network-3 c =
-    let atN = c .before .before .before .before .before in
-    let atImport = atN .before .before .before .before .before in
-    let atStates = atImport .before .before .before .before in
-    let atLinks2 = atStates .before in
-    let atLinks = atLinks2 .before in
-    let a = atLinks .before .before .before .args in
-    let table = import-done (now (a .input)) _ _ _ (atLinks .links .ensures) (atLinks2 .links2 .ensures) (atStates .states .ensures)
-    _ _ _ _ _ _ (atImport .import .ensures) (atN .n .given .1) in
-    sym (length-take-le _ _ (table .inStates))
+slice-aggregate-put-network-3 c = sym (length-take-le _ _ (c .before .before .before .before .before .before .before .load-drawing .ensures .gives _ _ (c .before .before .before .before .before .n .given .1) .inStates))
 
 put-network-requires : tie.Need-put-network-requires
-put-network-requires c κs =
-    let atN = c .before .before .before .before .before in
-    let atImport = atN .before .before .before .before .before in
-    let atStates = atImport .before .before .before .before in
-    let atLinks2 = atStates .before in
-    let atLinks = atLinks2 .before in
-    let a = atLinks .before .before .before .args in
-    let table = import-done (now (a .input)) _ _ _ (atLinks .links .ensures) (atLinks2 .links2 .ensures) (atStates .states .ensures)
-    _ _ _ _ _ _ (atImport .import .ensures) (atN .n .given .1) in
-    (front-accepted (now (a .input)) _ _ _ _ _ table, omega arith)
+put-network-requires c κs = ((c .before .before .before .before .before .before .before .load-drawing .ensures .gives _ _ (c .before .before .before .before .before .n .given .1) .accepted), omega arith)
 
 same-length : tie.Need-same-length
 same-length c = search needs
 
 returns : tie.Need-returns
 returns c =
-    let atRefusal = c .before .before .before .before .before in
-    let atImport = atRefusal .before .before .before .before .before in
-    let atStates = atImport .before .before .before .before in
-    let atLinks2 = atStates .before in
-    let atLinks = atLinks2 .before in
-    let a = atLinks .before .before .before .args in
-    refusal-printed (now (a .input)) _ _ _ (atRefusal .refusal .given .0 .0) (omega arith)
-    (import-refused (now (a .input)) _ _ _ (atLinks .links .ensures) (atLinks2 .links2 .ensures) (atStates .states .ensures) _ _
-    (atImport .import .ensures .0) (atRefusal .refusal .given .1))
-    (c .before .before .put-any .ensures)
+    let atPut = c .before .before in
+    let atRefusal = atPut .before .before .before in
+    let atLoad = atRefusal .before .before in
+    let start = atLoad .before .before .before .before .before .before .before .before .before in
+    refusal-printed (now (start .args .input)) _ _ _ (atRefusal .refusal .given .0 .0) (omega (arith, start .pre))
+    (atLoad .load-drawing .ensures .refuses _ (atRefusal .refusal .given .1)) (atPut .put-any .ensures)
 
 same-length-2 : tie.Need-same-length-2
 same-length-2 c = search needs
 
 returns-2 : tie.Need-returns-2
 returns-2 c =
-    let atN = c .before .before .before .before .before .before .before .before in
-    let atImport = atN .before .before .before .before .before in
-    let atStates = atImport .before .before .before .before in
-    let atLinks2 = atStates .before in
-    let atLinks = atLinks2 .before in
-    let a = atLinks .before .before .before .args in
-    let table = import-done (now (a .input)) _ _ _ (atLinks .links .ensures) (atLinks2 .links2 .ensures) (atStates .states .ensures)
-    _ _ _ _ _ _ (atImport .import .ensures) (atN .n .given .1) in
-    network-printed (now (a .input)) _ _ _ _ _ _ _ _ table (c .before .before .put-network .ensures)
+    let atPut = c .before .before in
+    network-printed _ _ _ _ _ _ _ _ _ (c .before .before .before .before .before .before .before .before .before .before .load-drawing .ensures .gives _ _ (c .before .before .before .before .before .before .before .before .n .given .1)) (atPut .put-network .ensures)
 
 pub put-imported-spec : {M : Type 1} → statement M
 put-imported-spec =
@@ -167,10 +84,7 @@ put-imported-spec =
     links-requires
     links-requires-2
     states-requires
-    slice-aggregate-import
-    slice-aggregate-import-2
-    slice-aggregate-import-3
-    import-requires
+    load-drawing-requires
     enum-known-refusal
     put-any-requires
     enum-known-n

@@ -8,7 +8,7 @@ use borrow.Author.Needs.{needs}
 use denote.Ref.{now}
 use lib.ListN.{length}
 use Rattle.definitions.specs.Lease.{leaseLines}
-use Rattle.sheet.specs.Going.{Going, going-start, going-step, going-end}
+use Rattle.program.specs.Going.{Going, going-start, going-step, going-end}
 use Rattle.lease.specs.Lines.{lines-step, lines-length, lines-end}
 use Rattle.lease.proofs.print.put_links.Statement.{statement}
 use Rattle.lease.proofs.print.put_links.Tie as tie

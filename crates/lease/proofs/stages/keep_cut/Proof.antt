@@ -3,7 +3,7 @@ use mathlib.Core.Path.{sym, _∙_, ap}
 use denote.Ref.{now}
 use Rattle.definitions.specs.Plan.{printed}
 use Rattle.forests.specs.Answers.{cutOutcome}
-use Rattle.sheet.specs.ReadStage.{fits-as, put-as, cut-rooms}
+use Rattle.program.specs.ReadStage.{fits-as, put-as, cut-rooms}
 use Rattle.lease.specs.Stages.{cut-refused, cut-marked}
 use borrow.Author.Needs.{needs}
 use Rattle.lease.proofs.stages.keep_cut.Statement.{statement}

@@ -8,7 +8,7 @@ use borrow.Author.Needs.{needs}
 use denote.Ref.{now}
 use lib.Seq.{slice}
 use Rattle.definitions.specs.Plan.{spaced}
-use Rattle.sheet.specs.Going.{Going, going-start, going-step, going-end}
+use Rattle.program.specs.Going.{Going, going-start, going-step, going-end}
 use Rattle.sheet.specs.SheetLines.{numbers-step, numbers-length, numbers-end}
 use Rattle.sheet.proofs.print.put_numbers.Statement.{statement}
 use Rattle.sheet.proofs.print.put_numbers.Tie as tie

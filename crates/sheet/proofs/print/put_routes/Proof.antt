@@ -11,7 +11,7 @@ use lib.Seq.{slice}
 use Rattle.definitions.specs.Demand.{cutUp}
 use Rattle.definitions.specs.Lists.{total}
 use Rattle.definitions.specs.Plan.{routeLines}
-use Rattle.sheet.specs.Going.{Going, going-start, going-step, going-end}
+use Rattle.program.specs.Going.{Going, going-start, going-step, going-end}
 use Rattle.sheet.specs.SheetLines.{routesLeft, oversLeft, routes-step, routes-length, routes-end, sizes-step, steps-step}
 use Rattle.sheet.proofs.print.put_routes.Statement.{statement}
 use Rattle.sheet.proofs.print.put_routes.Tie as tie

@@ -7,7 +7,7 @@ use lib.ListN.{length}
 use Rattle.definitions.specs.Plan.{printed}
 use Rattle.text.specs.Put.{Put}
 use Rattle.routes.specs.Answers.{routeOutcome}
-use Rattle.sheet.specs.ReadStage.{fits-as, put-as}
+use Rattle.program.specs.ReadStage.{fits-as, put-as}
 use Rattle.sheet.specs.Stages.{routes-refused, routes-written}
 use borrow.Author.Needs.{needs}
 use Rattle.sheet.proofs.stages.plan_routes.Statement.{statement}

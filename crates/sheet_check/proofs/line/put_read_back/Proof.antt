@@ -1,13 +1,10 @@
 -- `sheet_check::line::put_read_back` meets its contract: Read refuses, or the sheet is looked at with the table in the front of its lists.
 -- Assumes nothing.
-use mathlib.Core.Path.{sym, _∙_, ap}
-use denote.Ref.{now}
+use mathlib.Core.Path.{sym}
 use lib.Seq.{length-take-le}
 use Rattle.definitions.specs.Plan.{printed}
-use Rattle.text.specs.Answers.{readOutcome}
-use Rattle.sheet.specs.ReadStage.{stage-refused, network-refused, read-done}
-use Rattle.sheet_check.specs.Line.{readBackFrom}
-use Rattle.sheet_check.proofs.LineLaws.{line-of, table-then}
+use Rattle.program.specs.ReadStage.{loaded-refused, loaded-table}
+use Rattle.sheet_check.proofs.LineLaws.{line-of}
 use borrow.Author.Needs.{needs}
 use Rattle.sheet_check.proofs.line.put_read_back.Statement.{statement}
 use Rattle.sheet_check.proofs.line.put_read_back.Tie as tie
@@ -21,17 +18,8 @@ links-requires-2 c κs = search needs
 states-requires : tie.Need-states-requires
 states-requires c κs = search needs
 
-slice-aggregate-read : tie.Need-slice-aggregate-read
-slice-aggregate-read c = search needs
-
-slice-aggregate-read-2 : tie.Need-slice-aggregate-read-2
-slice-aggregate-read-2 c = search needs
-
-slice-aggregate-read-3 : tie.Need-slice-aggregate-read-3
-slice-aggregate-read-3 c = search needs
-
-read-requires : tie.Need-read-requires
-read-requires c κs = search needs
+load-requires : tie.Need-load-requires
+load-requires c κs = search needs
 
 enum-known-refusal : tie.Need-enum-known-refusal
 enum-known-refusal c = search needs
@@ -49,82 +37,22 @@ cast-relays : tie.Need-cast-relays
 cast-relays c = search needs
 
 array-share-prefix-lows : tie.Need-array-share-prefix-lows
-array-share-prefix-lows c =
-    let atN = c .before .before in
-    let atRead = atN .before .before .before .before .before in
-    let atStates = atRead .before .before .before .before in
-    let atLinks2 = atStates .before in
-    let atLinks = atLinks2 .before in
-    let a = atLinks .before .before .before .before .args in
-    let table = read-done (now (a .network)) _ _ _ _ _ _ _ _ (atLinks .links .ensures) (atLinks2 .links2 .ensures) (atStates .states .ensures)
-    (sym (atRead .read .ensures .0) ∙ ap readOutcome (atN .n .given .1))
-    (atRead .read .ensures .1 .0) (atRead .read .ensures .1 .1 .0) (atRead .read .ensures .1 .1 .1) in
-    table .inLows
+array-share-prefix-lows c = (c .before .before .before .before .load .ensures .gives _ _ (c .before .before .n .given .1) .inLows)
 
 slice-aggregate-put-line : tie.Need-slice-aggregate-put-line
-slice-aggregate-put-line c =
-    let atN = c .before .before .before in
-    let atRead = atN .before .before .before .before .before in
-    let atStates = atRead .before .before .before .before in
-    let atLinks2 = atStates .before in
-    let atLinks = atLinks2 .before in
-    let a = atLinks .before .before .before .before .args in
-    let table = read-done (now (a .network)) _ _ _ _ _ _ _ _ (atLinks .links .ensures) (atLinks2 .links2 .ensures) (atStates .states .ensures)
-    (sym (atRead .read .ensures .0) ∙ ap readOutcome (atN .n .given .1))
-    (atRead .read .ensures .1 .0) (atRead .read .ensures .1 .1 .0) (atRead .read .ensures .1 .1 .1) in
-    sym (length-take-le _ _ (table .inLows))
+slice-aggregate-put-line c = sym (length-take-le _ _ (c .before .before .before .before .before .load .ensures .gives _ _ (c .before .before .before .n .given .1) .inLows))
 
 array-share-prefix-highs : tie.Need-array-share-prefix-highs
-array-share-prefix-highs c =
-    let atN = c .before .before .before in
-    let atRead = atN .before .before .before .before .before in
-    let atStates = atRead .before .before .before .before in
-    let atLinks2 = atStates .before in
-    let atLinks = atLinks2 .before in
-    let a = atLinks .before .before .before .before .args in
-    let table = read-done (now (a .network)) _ _ _ _ _ _ _ _ (atLinks .links .ensures) (atLinks2 .links2 .ensures) (atStates .states .ensures)
-    (sym (atRead .read .ensures .0) ∙ ap readOutcome (atN .n .given .1))
-    (atRead .read .ensures .1 .0) (atRead .read .ensures .1 .1 .0) (atRead .read .ensures .1 .1 .1) in
-    table .inHighs
+array-share-prefix-highs c = (c .before .before .before .before .before .load .ensures .gives _ _ (c .before .before .before .n .given .1) .inHighs)
 
 slice-aggregate-put-line-2 : tie.Need-slice-aggregate-put-line-2
-slice-aggregate-put-line-2 c =
-    let atN = c .before .before .before .before in
-    let atRead = atN .before .before .before .before .before in
-    let atStates = atRead .before .before .before .before in
-    let atLinks2 = atStates .before in
-    let atLinks = atLinks2 .before in
-    let a = atLinks .before .before .before .before .args in
-    let table = read-done (now (a .network)) _ _ _ _ _ _ _ _ (atLinks .links .ensures) (atLinks2 .links2 .ensures) (atStates .states .ensures)
-    (sym (atRead .read .ensures .0) ∙ ap readOutcome (atN .n .given .1))
-    (atRead .read .ensures .1 .0) (atRead .read .ensures .1 .1 .0) (atRead .read .ensures .1 .1 .1) in
-    sym (length-take-le _ _ (table .inHighs))
+slice-aggregate-put-line-2 c = sym (length-take-le _ _ (c .before .before .before .before .before .before .load .ensures .gives _ _ (c .before .before .before .before .n .given .1) .inHighs))
 
 array-share-prefix-states : tie.Need-array-share-prefix-states
-array-share-prefix-states c =
-    let atN = c .before .before .before .before in
-    let atRead = atN .before .before .before .before .before in
-    let atStates = atRead .before .before .before .before in
-    let atLinks2 = atStates .before in
-    let atLinks = atLinks2 .before in
-    let a = atLinks .before .before .before .before .args in
-    let table = read-done (now (a .network)) _ _ _ _ _ _ _ _ (atLinks .links .ensures) (atLinks2 .links2 .ensures) (atStates .states .ensures)
-    (sym (atRead .read .ensures .0) ∙ ap readOutcome (atN .n .given .1))
-    (atRead .read .ensures .1 .0) (atRead .read .ensures .1 .1 .0) (atRead .read .ensures .1 .1 .1) in
-    table .inStates
+array-share-prefix-states c = (c .before .before .before .before .before .before .load .ensures .gives _ _ (c .before .before .before .before .n .given .1) .inStates)
 
 slice-aggregate-put-line-3 : tie.Need-slice-aggregate-put-line-3
-slice-aggregate-put-line-3 c =
-    let atN = c .before .before .before .before .before in
-    let atRead = atN .before .before .before .before .before in
-    let atStates = atRead .before .before .before .before in
-    let atLinks2 = atStates .before in
-    let atLinks = atLinks2 .before in
-    let a = atLinks .before .before .before .before .args in
-    let table = read-done (now (a .network)) _ _ _ _ _ _ _ _ (atLinks .links .ensures) (atLinks2 .links2 .ensures) (atStates .states .ensures)
-    (sym (atRead .read .ensures .0) ∙ ap readOutcome (atN .n .given .1))
-    (atRead .read .ensures .1 .0) (atRead .read .ensures .1 .1 .0) (atRead .read .ensures .1 .1 .1) in
-    sym (length-take-le _ _ (table .inStates))
+slice-aggregate-put-line-3 c = sym (length-take-le _ _ (c .before .before .before .before .before .before .before .load .ensures .gives _ _ (c .before .before .before .before .before .n .given .1) .inStates))
 
 put-line-requires : tie.Need-put-line-requires
 put-line-requires c κs = search needs
@@ -133,36 +61,21 @@ same-length : tie.Need-same-length
 same-length c = search needs
 
 returns : tie.Need-returns
-unfolding readBackFrom printed
+unfolding printed
 returns c =
-    let atRefusal = c .before .before .before .before .before in
-    let atRead = atRefusal .before .before .before .before .before in
-    let atStates = atRead .before .before .before .before in
-    let atLinks2 = atStates .before in
-    let atLinks = atLinks2 .before in
-    let a = atLinks .before .before .before .before .args in
-    let refusal = atRefusal .refusal .given .0 .0 in
+    let atPut = c .before .before in
+    let atRefusal = atPut .before .before .before in
     line-of _ _
-    (stage-refused _ _ refusal
-    (network-refused (now (a .network)) _ _ _ refusal (atLinks .links .ensures) (atLinks2 .links2 .ensures) (atStates .states .ensures)
-    (sym (atRead .read .ensures .0) ∙ ap readOutcome (atRefusal .refusal .given .1))))
-    (c .before .before .put-any .ensures)
+    (loaded-refused _ _ _ _ _ _ _ (atRefusal .before .before .load .ensures) (atRefusal .refusal .given .1)) (atPut .put-any .ensures)
 
 same-length-2 : tie.Need-same-length-2
 same-length-2 c = search needs
 
 returns-2 : tie.Need-returns-2
 returns-2 c =
-    let atN = c .before .before .before .before .before .before .before .before in
-    let atRead = atN .before .before .before .before .before in
-    let atStates = atRead .before .before .before .before in
-    let atLinks2 = atStates .before in
-    let atLinks = atLinks2 .before in
-    let a = atLinks .before .before .before .before .args in
-    let table = read-done (now (a .network)) _ _ _ _ _ _ _ _ (atLinks .links .ensures) (atLinks2 .links2 .ensures) (atStates .states .ensures)
-    (sym (atRead .read .ensures .0) ∙ ap readOutcome (atN .n .given .1))
-    (atRead .read .ensures .1 .0) (atRead .read .ensures .1 .1 .0) (atRead .read .ensures .1 .1 .1) in
-    line-of _ _ (table-then (now (a .network)) (now (a .text)) _ _ _ _ _ table) (c .before .before .put-line .ensures)
+    let atPut = c .before .before in
+    let atN = atPut .before .before .before .before .before .before in
+    line-of _ _ (loaded-table _ _ _ _ _ _ _ (atN .before .before .load .ensures .gives _ _ (atN .n .given .1))) (atPut .put-line .ensures)
 
 pub put-read-back-spec : {M : Type 1} → statement M
 put-read-back-spec =
@@ -171,10 +84,7 @@ put-read-back-spec =
     links-requires
     links-requires-2
     states-requires
-    slice-aggregate-read
-    slice-aggregate-read-2
-    slice-aggregate-read-3
-    read-requires
+    load-requires
     enum-known-refusal
     put-any-requires
     enum-known-n

@@ -11,8 +11,8 @@ use Rattle.network.specs.Answers.{refusalOf}
 use Rattle.network.specs.declared.Refusal.the-variants.{Room}
 use Rattle.text.specs.Put.{Put}
 use Rattle.lists.specs.Stores.{sets-overwrite}
-use Rattle.sheet.specs.declared.into.PrintAnswer.{PrintAnswer}
-use Rattle.sheet.specs.declared.into.PrintAnswer.the-variants as printing
+use Rattle.program.specs.declared.into.PrintAnswer.{PrintAnswer}
+use Rattle.program.specs.declared.into.PrintAnswer.the-variants as printing
 
 abbrev pub printOutcome : PrintAnswer → Answer
 printOutcome (printing.Printed size) = done (size ∷ [])

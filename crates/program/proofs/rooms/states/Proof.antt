@@ -1,8 +1,8 @@
--- `sheet::rooms::states` meets its contract: 1,000 zeros. Assumes nothing.
+-- `program::rooms::states` meets its contract: 1,000 zeros. Assumes nothing.
 use mathlib.Core.Path.{refl}
 use Rattle.definitions.specs.Plan.{room}
-use Rattle.sheet.proofs.rooms.states.Statement.{statement}
-use Rattle.sheet.proofs.rooms.states.Tie as tie
+use Rattle.program.proofs.rooms.states.Statement.{statement}
+use Rattle.program.proofs.rooms.states.Tie as tie
 
 returns : tie.Need-returns
 unfolding room

@@ -1,10 +1,10 @@
--- `sheet::into::print_into` meets its contract: the output is too short, or the text is written. Assumes nothing.
+-- `program::into::print_into` meets its contract: the output is too short, or the text is written. Assumes nothing.
 use native.Mathlib.Omega.{arith}
 use denote.Ref.{now}
 use borrow.Author.Needs.{needs}
-use Rattle.sheet.specs.Into.{print-short, print-done}
-use Rattle.sheet.proofs.into.print_into.Statement.{statement}
-use Rattle.sheet.proofs.into.print_into.Tie as tie
+use Rattle.program.specs.Into.{print-short, print-done}
+use Rattle.program.proofs.into.print_into.Statement.{statement}
+use Rattle.program.proofs.into.print_into.Tie as tie
 
 returns : tie.Need-returns
 returns c =

@@ -1,10 +1,10 @@
--- What the stages of the sheet and of the list of links share: what is printed of equal outcomes, a refusal that stands, and
--- the network that Read leaves in the front of its three lists. Assumes nothing.
+-- What the stages of every program share: what is printed of equal outcomes, a refusal that stands, and the network that a reading
+-- leaves in the front of three lists. Assumes nothing.
 use Prim.Native.Nat.{ℕ, _≤_}
 use mathlib.Core.List.{List, [], _∷_}
 use mathlib.Core.Path.{_≡_, sym, _∙_, ap, subst}
 use native.Mathlib.Omega.{arith}
-use lib.ListN.{length, take, drop, length-append}
+use lib.ListN.{length, take, drop, length-append, length-replicate}
 use lib.Seq.{take-append-seam}
 use Rattle.definitions.specs.Outcome.{Outcome, refused, done, andThen}
 use Rattle.definitions.specs.Lists.{overwrite, zeroed}
@@ -12,6 +12,7 @@ use Rattle.definitions.specs.Forests.{cutAnswer}
 use Rattle.definitions.specs.Network.{Accepted}
 use Rattle.definitions.specs.Text.{Network, readNetwork, countsOf, readAnswer, filled, lowsAfter, highsAfter, statesAfter}
 use Rattle.definitions.specs.Plan.{room, printed}
+use Rattle.lists.specs.Outcomes.{then-done}
 use Rattle.lists.specs.SameOutcomes.{done-then}
 use Rattle.theory.specs.Accepted.{accepted, accepted-states}
 use Rattle.text_theory.specs.RoundTrip.{written-read}
@@ -20,7 +21,9 @@ use Rattle.lists.specs.Stores.{sets-overwrite}
 use Rattle.network.specs.Answers.{refusalOf, refusalNumber, refusalPlace}
 use Rattle.network.specs.Refusals.{refusal-then}
 use Rattle.network.specs.declared.Refusal.{Refusal}
-use Rattle.sheet.specs.Refusals.{length-room}
+use Rattle.text.specs.Answers.{readOutcome}
+use Rattle.text.specs.declared.ReadAnswer.{ReadAnswer}
+use Rattle.text.specs.declared.ReadAnswer.the-variants as reading
 
 -- Two outcomes that are the same are printed alike.
 pub fits-as : {A : Type 0} (textOf : A → List ℕ) (one other : Outcome A) (size : ℕ) → one ≡ other
@@ -65,46 +68,34 @@ answer-refused {A} {B} (done x) f refusal e =
     let z : _≡_ {A = ℕ} 0 1 = cc in
     absurd (omega arith)
 
-room-length : (size : ℕ) (list : List ℕ) → list ≡ room size → length list ≡ size
-room-length size list e = ap length e ∙ length-room size
+pub length-room : (size : ℕ) → length (room size) ≡ size
+unfolding room
+length-room size = length-replicate size 0
 
--- Three lists of the program's own, as long as it takes.
+-- Three lists as long as it takes for every network.
 pub record Rooms (lows highs states : List ℕ) : Type 0 where
-  pub inLows : lows ≡ room 3000
-  pub inHighs : highs ≡ room 3000
-  pub inStates : states ≡ room 1000
+  pub inLows : length lows ≡ 3000
+  pub inHighs : length highs ≡ 3000
+  pub inStates : length states ≡ 1000
 
 -- A reading with the room of these lists is a reading with the room of every network.
 same-rooms : (reading : ℕ → ℕ → ℕ → Outcome Network) (lows highs states : List ℕ) → Rooms lows highs states
     → reading 3000 3000 1000 ≡ reading (length lows) (length highs) (length states)
 same-rooms reading lows highs states rooms =
-    rw (
-      room-length 3000 lows (rooms .inLows),
-      room-length 3000 highs (rooms .inHighs),
-      room-length 1000 states (rooms .inStates),
-    )
+    rw (rooms .inLows, rooms .inHighs, rooms .inStates)
 
 pub reading-refused : (reading : ℕ → ℕ → ℕ → Outcome Network) (lows highs states : List ℕ) (refusal : Refusal) → Rooms lows highs states
     → countsOf (reading (length lows) (length highs) (length states)) ≡ refusalOf refusal → reading 3000 3000 1000 ≡ refusalOf refusal
 reading-refused reading lows highs states refusal rooms e =
     same-rooms reading lows highs states rooms ∙ answer-refused _ _ refusal e
 
-pub network-refused : (text lows highs states : List ℕ) (refusal : Refusal) → lows ≡ room 3000 → highs ≡ room 3000 → states ≡ room 1000
-    → readAnswer text lows highs states ≡ refusalOf refusal → readNetwork text 3000 3000 1000 ≡ refusalOf refusal
-unfolding readAnswer
-network-refused text lows highs states refusal low high state e =
-    reading-refused (readNetwork text) lows highs states refusal (record { inLows = low; inHighs = high; inStates = state }) e
-
 -- The network that a reading leaves in the front of its three lists.
 pub record FrontTable (outcome : Outcome Network) (n m : ℕ) (lows highs states : List ℕ) : Type 0 where
   pub inLows : m ≤ length lows
   pub inHighs : m ≤ length highs
   pub inStates : n ≤ length states
+  pub accepted : Accepted n (take m lows) (take m highs) (take n states)
   pub read : outcome ≡ done (networkOf n (take m lows) (take m highs) (take n states))
-
--- The one that Read leaves.
-abbrev pub ReadTable : (text : List ℕ) (n m : ℕ) (lows highs states : List ℕ) → Type 0
-ReadTable text n m lows highs states = FrontTable (readNetwork text 3000 3000 1000) n m lows highs states
 
 front-filled : (column : Network → List ℕ) (outcome : Outcome Network) (network : Network) (old : List ℕ) (m : ℕ)
     → outcome ≡ done network → length (column network) ≡ m
@@ -136,23 +127,55 @@ reading-done reading lows highs states n m rooms accepts e =
     let first = front-filled (λ network. network .lows) whole network lows m read size in
     let second = front-filled (λ network. network .highs) whole network highs m read (sym (table .even) ∙ size) in
     let third = front-filled (λ network. network .states) whole network states n read (known .long ∙ relays) in
+    let same = same-network network n _ _ _ relays (first .1) (second .1) (third .1) in
     record {
       inLows = first .0;
       inHighs = second .0;
       inStates = third .0;
-      read =
-          same-rooms reading lows highs states rooms
-          ∙ read
-          ∙ ap done (same-network network n _ _ _ relays (first .1) (second .1) (third .1));
+      accepted = subst (λ (network : Network). Accepted (network .relays) (network .lows) (network .highs) (network .states)) same passes;
+      read = same-rooms reading lows highs states rooms ∙ read ∙ ap done same;
     }
 
-pub read-done : (text lows highs states : List ℕ) (n m : ℕ) (lowsNow highsNow statesNow : List ℕ)
-    → lows ≡ room 3000 → highs ≡ room 3000 → states ≡ room 1000
-    → readAnswer text lows highs states ≡ done (n ∷ m ∷ []) → lowsNow ≡ lowsAfter text lows highs states
-    → highsNow ≡ highsAfter text lows highs states → statesNow ≡ statesAfter text lows highs states
-    → ReadTable text n m lowsNow highsNow statesNow
+-- What a program has once its lists are read into, by what the reading answered: its refusal, or the table in their front.
+pub record Loads (outcome : Outcome Network) (answer : ReadAnswer) (lows highs states : List ℕ) : Type 0 where
+  pub refuses : (refusal : Refusal) → answer ≡ reading.Refused refusal → outcome ≡ refusalOf refusal
+  pub gives : (n m : ℕ) → answer ≡ reading.Table n m → FrontTable outcome n m lows highs states
+
+pub reading-loads : (read : ℕ → ℕ → ℕ → Outcome Network) (lows highs states : List ℕ) (answer : ReadAnswer) (lowsNow highsNow statesNow : List ℕ)
+    → length lows ≡ 3000 → length highs ≡ 3000 → length states ≡ 1000
+    → let whole = read (length lows) (length highs) (length states) in
+    ((network : Network) → whole ≡ done network → Accepted (network .relays) (network .lows) (network .highs) (network .states))
+    → (readOutcome answer ≡ countsOf whole) × ((lowsNow ≡ filled (λ network. network .lows) whole lows)
+    × ((highsNow ≡ filled (λ network. network .highs) whole highs) × (statesNow ≡ filled (λ network. network .states) whole states)))
+    → Loads (read 3000 3000 1000) answer lowsNow highsNow statesNow
+reading-loads read lows highs states answer lowsNow highsNow statesNow low high state accepts (told, (lowsAre, (highsAre, statesAre))) =
+    let rooms : Rooms lows highs states = record { inLows = low; inHighs = high; inStates = state } in
+    record {
+      refuses = λ refusal e. reading-refused read lows highs states refusal rooms (sym told ∙ ap readOutcome e);
+      gives =
+          λ n m e.
+          rw (lowsAre, highsAre, statesAre)
+          (reading-done read lows highs states n m rooms accepts (sym told ∙ ap readOutcome e));
+    }
+
+-- What follows a reading: its refusal, or the work with the table.
+pub loaded-refused : {A : Type 0} (work : Network → Outcome A) (outcome : Outcome Network) (answer : ReadAnswer) (lows highs states : List ℕ)
+    (refusal : Refusal) → Loads outcome answer lows highs states → answer ≡ reading.Refused refusal → andThen outcome work ≡ refusalOf refusal
+loaded-refused work outcome answer lows highs states refusal loaded e = stage-refused outcome work refusal (loaded .refuses refusal e)
+
+pub loaded-table : {A : Type 0} (work : Network → Outcome A) (outcome : Outcome Network) (n m : ℕ) (lows highs states : List ℕ)
+    → FrontTable outcome n m lows highs states
+    → andThen outcome work ≡ work (networkOf n (take m lows) (take m highs) (take n states))
+loaded-table work outcome n m lows highs states table =
+    then-done outcome work (networkOf n (take m lows) (take m highs) (take n states)) (table .read)
+
+-- Read's own.
+pub read-loads : (text lows highs states : List ℕ) (answer : ReadAnswer) (lowsNow highsNow statesNow : List ℕ)
+    → length lows ≡ 3000 → length highs ≡ 3000 → length states ≡ 1000
+    → (readOutcome answer ≡ readAnswer text lows highs states) × ((lowsNow ≡ lowsAfter text lows highs states)
+    × ((highsNow ≡ highsAfter text lows highs states) × (statesNow ≡ statesAfter text lows highs states)))
+    → Loads (readNetwork text 3000 3000 1000) answer lowsNow highsNow statesNow
 unfolding readAnswer lowsAfter highsAfter statesAfter
-read-done text lows highs states n m lowsNow highsNow statesNow low high state e lowsAre highsAre statesAre =
-    rw (lowsAre, highsAre, statesAre)
-    (reading-done (readNetwork text) lows highs states n m (record { inLows = low; inHighs = high; inStates = state })
-    (λ network read. written-read text (length lows) (length highs) (length states) network read .1) e)
+read-loads text lows highs states answer lowsNow highsNow statesNow low high state told =
+    reading-loads (readNetwork text) lows highs states answer lowsNow highsNow statesNow low high state
+    (λ network e. written-read text (length lows) (length highs) (length states) network e .1) told

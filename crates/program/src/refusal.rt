@@ -6,7 +6,7 @@ ghost use Rattle.definitions.specs.Form.{writeForm};
 ghost use Rattle.definitions.specs.Plan.{refusedForm};
 ghost use Rattle.network.specs.Answers.{refusalNumber, refusalPlace};
 ghost use Rattle.text.specs.Put.{Put};
-ghost use Rattle.sheet.specs.RefusedLine.{LinePut};
+ghost use Rattle.program.specs.RefusedLine.{LinePut};
 use network::Refusal;
 use network::refusal_number;
 use network::refusal_place;

@@ -1,9 +1,9 @@
--- `sheet::refusal::put_any` meets its contract: both numbers are of 64 bits, so the line has room. Assumes nothing.
+-- `program::refusal::put_any` meets its contract: both numbers are of 64 bits, so the line has room. Assumes nothing.
 use native.Mathlib.Omega.{arith}
-use Rattle.sheet.specs.RefusedLine.{refused-fits}
+use Rattle.program.specs.RefusedLine.{refused-fits}
 use borrow.Author.Needs.{needs}
-use Rattle.sheet.proofs.refusal.put_any.Statement.{statement}
-use Rattle.sheet.proofs.refusal.put_any.Tie as tie
+use Rattle.program.proofs.refusal.put_any.Statement.{statement}
+use Rattle.program.proofs.refusal.put_any.Tie as tie
 
 refusal-number-requires : tie.Need-refusal-number-requires
 refusal-number-requires c κs = search needs

@@ -1,7 +1,7 @@
--- `sheet::refusal::put_refusal` meets its contract: the line with its number and its place. Assumes nothing.
+-- `program::refusal::put_refusal` meets its contract: the line with its number and its place. Assumes nothing.
 use borrow.Author.Needs.{needs}
-use Rattle.sheet.proofs.refusal.put_refusal.Statement.{statement}
-use Rattle.sheet.proofs.refusal.put_refusal.Tie as tie
+use Rattle.program.proofs.refusal.put_refusal.Statement.{statement}
+use Rattle.program.proofs.refusal.put_refusal.Tie as tie
 
 refusal-number-requires : tie.Need-refusal-number-requires
 refusal-number-requires c κs = search needs

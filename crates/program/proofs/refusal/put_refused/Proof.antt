@@ -1,9 +1,9 @@
--- `sheet::refusal::put_refused` meets its contract: three words, with the number and the place between them. Assumes nothing.
+-- `program::refusal::put_refused` meets its contract: three words, with the number and the place between them. Assumes nothing.
 use native.Mathlib.Nat.{zero-add}
 use Rattle.definitions.specs.Plan.{refusedForm}
 use borrow.Author.Needs.{needs}
-use Rattle.sheet.proofs.refusal.put_refused.Statement.{statement}
-use Rattle.sheet.proofs.refusal.put_refused.Tie as tie
+use Rattle.program.proofs.refusal.put_refused.Statement.{statement}
+use Rattle.program.proofs.refusal.put_refused.Tie as tie
 
 slice-aggregate-put-pair : tie.Need-slice-aggregate-put-pair
 slice-aggregate-put-pair c = search needs

@@ -1,0 +1,6 @@
+-- What every program says of itself: the network that a reading leaves in its lists, the refused line, and what is printed where.
+pub mod Into
+pub mod RefusedLine
+pub mod ReadStage
+pub mod Front
+pub mod Going
