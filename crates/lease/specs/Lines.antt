@@ -24,7 +24,7 @@ use Rattle.definitions.specs.Lease.{
 }
 use Rattle.lists.specs.Overwritten.{getD-overwrite}
 use Rattle.text.specs.Scans.{pairForm}
-use Rattle.sheet.specs.SheetLines.{singleForm}
+use Rattle.program.specs.Single.{singleForm}
 
 -- A line of three numbers, as a link has it.
 abbrev pub tripleForm : List ℕ → List Item

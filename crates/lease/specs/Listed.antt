@@ -25,7 +25,7 @@ use Rattle.text_theory.specs.Forms.{
 }
 use Rattle.text_theory.specs.NetworkLines.{read-line}
 use Rattle.text_theory.specs.RoundTrip.{on-scan-done, written-read}
-use Rattle.sheet.specs.Planned.{cut-passed}
+use Rattle.program.specs.CutPassed.{cut-passed}
 
 pub keep-line : Line keepForm
 unfolding wellFormed wellFormedBehind goodWord noZero outside endsInNumber keepForm

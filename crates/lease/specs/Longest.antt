@@ -34,8 +34,8 @@ use Rattle.definitions.specs.Lease.{
 use Rattle.lists.specs.RefusedWithin.{RefusedAs}
 use Rattle.theory.specs.Accepted.{accepted}
 use Rattle.text_theory.specs.Spans.{span, written-span}
-use Rattle.sheet.specs.Longest.{refused-length}
-use Rattle.sheet.specs.Refusals.{Printable}
+use Rattle.program.specs.Printable.{refused-length}
+use Rattle.program.specs.Printable.{Printable}
 use Rattle.lease.specs.Listed.{leaseOf, ListedLinks, listed-links}
 use Rattle.lease.specs.Counts.{counts-all}
 use Rattle.lease.specs.Promise.{leased-printable}

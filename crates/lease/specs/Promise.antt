@@ -17,7 +17,7 @@ use Rattle.lists.specs.RefusedWithin.{RefusedAs, then-as}
 use Rattle.lists.specs.SameOutcomes.{refused-then}
 use Rattle.text_theory.specs.Spans.{span}
 use Rattle.text_theory.specs.Refusals.{on-scan-refused}
-use Rattle.sheet.specs.Refusals.{Printable, cut-printable, front-printable}
+use Rattle.program.specs.Printable.{Printable, cut-printable, front-printable}
 use Rattle.lease.specs.Listed.{leaseOf, line-read, keep-asked, listed-links}
 use Rattle.lease.specs.KeptLinks.{lease-holds}
 

@@ -23,7 +23,7 @@ use Rattle.network.specs.Answers.{refusalOf}
 use Rattle.network.specs.declared.Refusal.{Refusal}
 use Rattle.network.specs.declared.Refusal.the-variants.{Wish}
 use Rattle.program.specs.Front.{longer}
-use Rattle.sheet.specs.Planned.{cut-passed}
+use Rattle.program.specs.CutPassed.{cut-passed}
 use Rattle.program.specs.ReadStage.{whole-put, networkOf, stage-refused, cut-rooms}
 use Rattle.lease.specs.Lines.{EndsWithin, lines-front, countLines, listLines}
 use Rattle.lease.specs.Listed.{keep-line}

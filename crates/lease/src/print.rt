@@ -11,8 +11,8 @@ ghost use Rattle.text.specs.Put.{Put};
 ghost use Rattle.lease.specs.Lines.{tripleForm, EndsWithin, countLines, listLines};
 use crate::idle::both_serve;
 use crate::idle::idle_links;
-use sheet::print::put_kept;
-use sheet::print::put_single;
+use program::line::put_kept;
+use program::line::put_single;
 use text::put;
 
 // A line of a link's index and its two relays.

@@ -4,3 +4,7 @@ pub mod RefusedLine
 pub mod ReadStage
 pub mod Front
 pub mod Going
+pub mod Single
+pub mod Parts
+pub mod Printable
+pub mod CutPassed

@@ -36,7 +36,8 @@ use Rattle.text_theory.specs.Decimal.{length-decimal-at-most}
 use Rattle.text_theory.specs.Spans.{span, AllBelow, written-span}
 use Rattle.sheet.specs.SheetLines.{line-length}
 use Rattle.sheet.specs.Planned.{route-passed, keptOf, SheetFor, PlannedSheet, planned-sheet}
-use Rattle.sheet.specs.Refusals.{Printable, planned-printable}
+use Rattle.program.specs.Printable.{Printable, refused-length}
+use Rattle.sheet.specs.Refusals.{planned-printable}
 use Rattle.sheet.specs.Routes.{length-routes, routes-below, routes-of}
 use Rattle.sheet.specs.Overs.{length-overs, overs-written, overs-below}
 
@@ -130,12 +131,7 @@ sheet-length from to k network sheet smallFrom smallTo given =
       overs-written n lows highs states k from to passed,
     ))
 
--- The line of a refusal has at most 22 bytes.
-pub refused-length : (number place : ℕ) → Printable number place → length (writeForm refusedForm (number ∷ place ∷ [])) ≤ 22
-unfolding span refusedForm
-refused-length number place given =
-    omega (arith, written-span 4 refusedForm (number ∷ place ∷ []) (omega (arith, given .low), (omega (arith, given .near), tt)))
-
+-- Everything that is printed.
 pub plan-length : (input : List ℕ) → length (planText input) ≤ outputRoom
 unfolding outputRoom planText printed
 plan-length input = go (planned input) (planned-printable input) (planned-sheet input)

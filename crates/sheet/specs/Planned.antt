@@ -1,29 +1,27 @@
 -- What stands behind a sheet: the wish, the network that was read, and what Cut and Route answered.
 -- Assumes nothing.
-use Prim.Native.Nat.{ℕ, _+_, _≤_, _<_}
-use mathlib.Core.Bool.{Bool, true, false}
-use mathlib.Core.List.{List, [], _∷_, map}
+use Prim.Native.Nat.{ℕ, _<_}
+use mathlib.Core.List.{List, [], _∷_}
 use mathlib.Core.Path.{_≡_, refl, sym, _∙_, ap}
 use native.Mathlib.Omega.{arith}
-use lib.Dec.{eqb, ltb}
-use lib.ListN.{length, getD, drop}
-use Rattle.definitions.specs.Outcome.{pick, done, refuseIf}
-use Rattle.definitions.specs.Lists.{outside, count, total}
-use Rattle.definitions.specs.Network.{tableCheck, Accepted}
-use Rattle.definitions.specs.Forests.{forestsOf, markOf, marksOf, cutAnswer}
+use lib.Dec.{eqb}
+use lib.ListN.{getD, drop}
+use Rattle.definitions.specs.Outcome.{done}
+use Rattle.definitions.specs.Lists.{count}
+use Rattle.definitions.specs.Network.{Accepted}
+use Rattle.definitions.specs.Forests.{marksOf, cutAnswer}
 use Rattle.definitions.specs.Route.{routesOf, tooShort, routeAnswer}
 use Rattle.definitions.specs.Over.{oversOf}
 use Rattle.definitions.specs.Form.{reads, scanForm}
 use Rattle.definitions.specs.Text.{Network, readNetwork}
 use Rattle.definitions.specs.Plan.{wishForm, Sheet, room, sheetFor, planned}
 use Rattle.definitions.specs.SheetPromise.{Asked}
-use Rattle.lists.specs.Outcomes.{not-refused, then-done}
 use Rattle.lists.specs.SameOutcomes.{done-same, done-then}
-use Rattle.lists.specs.Ranges.{inside-range}
 use Rattle.theory.specs.RoutePassed.{RoutePassed, unless-passed}
 use Rattle.text_theory.specs.Forms.{Fits, wish-line}
 use Rattle.text_theory.specs.NetworkLines.{read-line}
 use Rattle.text_theory.specs.RoundTrip.{on-scan-done, written-read}
+use Rattle.program.specs.CutPassed.{cut-passed}
 
 -- What Route passed before it answered.
 pub route-passed : (n : ℕ) (lows highs states : List ℕ) (k from to : ℕ) (counts relays scratch values : List ℕ)
@@ -31,38 +29,6 @@ pub route-passed : (n : ℕ) (lows highs states : List ℕ) (k from to : ℕ) (c
 unfolding routeAnswer
 route-passed n lows highs states k from to counts relays scratch values e =
     unless-passed (tooShort n k counts relays scratch) n lows highs states k from to values e .1
-
--- Cut's answer is the count of ones.
-marks-ones : (k : ℕ) (forests : List ℕ) → total (map (markOf k) forests) ≡ count (eqb 1) (map (markOf k) forests)
-unfolding total count markOf
-marks-ones k [] = refl
-marks-ones k (f ∷ forests) = go (outside 1 k f) (marks-ones k forests)
-  where
-    go : (b : Bool) → total (map (markOf k) forests) ≡ count (eqb 1) (map (markOf k) forests)
-        → pick b 0 1 + total (map (markOf k) forests) ≡ pick (eqb 1 (pick b 0 1)) 1 0 + count (eqb 1) (map (markOf k) forests)
-    go true same = omega arith
-    go false same = omega arith
-
--- What Cut passed, and its answer.
-pub record CutPassed (n : ℕ) (lows highs states : List ℕ) (k : ℕ) (values : List ℕ) : Type 0 where
-  pub some : 1 ≤ k
-  pub few : k ≤ 32
-  pub counted : values ≡ count (eqb 1) (marksOf n lows highs states k) ∷ []
-
-pub cut-passed : (n : ℕ) (lows highs states : List ℕ) (k : ℕ) (marks values : List ℕ) → Accepted n lows highs states
-    → cutAnswer n lows highs states k marks ≡ done values → CutPassed n lows highs states k values
-unfolding cutAnswer marksOf
-cut-passed n lows highs states k marks values table e =
-    let last = done (total (marksOf n lows highs states k) ∷ []) in
-    let fitting = refuseIf (ltb (length marks) (length lows)) 12 0 last in
-    let first : refuseIf (outside 1 32 k) 9 0 fitting ≡ done values =
-    sym (then-done (tableCheck n lows highs states) (λ _. refuseIf (outside 1 32 k) 9 0 fitting) [] table) ∙ e in
-    let nine = not-refused (outside 1 32 k) 9 0 fitting values first in
-    let twelve = not-refused (ltb (length marks) (length lows)) 12 0 last values (nine .1) in
-    let same = twelve .1 in
-    let ones : total (marksOf n lows highs states k) ≡ count (eqb 1) (marksOf n lows highs states k) = marks-ones k (forestsOf n lows highs states) in
-    let range = inside-range 1 32 k (nine .0) in
-    record { some = range .0; few = range .1; counted = cc }
 
 -- The sheet of a network, with so many links kept.
 abbrev pub sheetOf : (from to k : ℕ) (network : Network) (kept : ℕ) → Sheet

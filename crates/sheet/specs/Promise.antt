@@ -29,7 +29,8 @@ use Rattle.lists.specs.RefusedWithin.{RefusedAs}
 use Rattle.lists.specs.SameOutcomes.{refused-then}
 use Rattle.text_theory.specs.Refusals.{on-scan-refused}
 use Rattle.sheet.specs.Planned.{route-passed, sheetOf, keptOf, SheetFor, wish-read, wish-asked, planned-sheet}
-use Rattle.sheet.specs.Refusals.{Printable, planned-printable}
+use Rattle.program.specs.Printable.{Printable}
+use Rattle.sheet.specs.Refusals.{planned-printable}
 use Rattle.sheet.specs.Routes.{routes-of}
 use Rattle.sheet.specs.Overs.{length-overs, overs-hold}
 

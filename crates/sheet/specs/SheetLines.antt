@@ -8,7 +8,7 @@ use native.Mathlib.Omega.{arith}
 use lib.ListN.{length, getD, take, drop, length-append, length-take, drop-of-length-le}
 use lib.Seq.{slice, slice-cons, drop-drop}
 use Rattle.definitions.specs.Demand.{cutUp}
-use Rattle.definitions.specs.Form.{bytes, Item, word, numeral, decimal, writeForm}
+use Rattle.definitions.specs.Form.{bytes, word, numeral, decimal, writeForm}
 use Rattle.definitions.specs.Lists.{total}
 use Rattle.definitions.specs.Text.{endForm}
 use Rattle.definitions.specs.Plan.{sheetForm, keptForm, spaced, numbersLine, routeLines}
@@ -21,16 +21,7 @@ sheetLines from to k routes overs kept =
     writeForm sheetForm (from ∷ to ∷ k ∷ []) ++
     (routeLines routes overs ++ (writeForm keptForm (kept ∷ []) ++ writeForm endForm []))
 
--- The form of a line of one number.
-abbrev pub singleForm : (front back : List ℕ) → List Item
-singleForm front back = word front ∷ numeral ∷ word back ∷ []
-
 -- A line by its parts.
-pub single-written : (front back : List ℕ) (x : ℕ)
-    → writeForm (singleForm front back) (x ∷ []) ≡ writeForm (word front ∷ numeral ∷ []) (x ∷ []) ++ back
-unfolding writeForm
-single-written front back x = simp (append-nil, append-assoc)
-
 pub wish-written : (from to k : ℕ)
     → writeForm sheetForm (from ∷ to ∷ k ∷ [])
     ≡ writeForm (pairForm (bytes "(sheet (from ") (bytes ") (to ") (bytes ") (k ")) (from ∷ to ∷ [])
@@ -44,10 +35,6 @@ unfolding routeLines
 route-written route over = simp append-nil
 
 -- Their lengths.
-pub single-length : (front back : List ℕ) (x : ℕ)
-    → length (writeForm (singleForm front back) (x ∷ [])) ≡ length (writeForm (word front ∷ numeral ∷ []) (x ∷ [])) + length back
-single-length front back x = ap length (single-written front back x) ∙ simp length-append
-
 pub wish-length : (from to k : ℕ)
     → length (writeForm sheetForm (from ∷ to ∷ k ∷ []))
     ≡ length (writeForm (pairForm (bytes "(sheet (from ") (bytes ") (to ") (bytes ") (k ")) (from ∷ to ∷ []))

@@ -8,9 +8,10 @@ ghost use lib.Seq.{slice};
 ghost use Rattle.definitions.specs.Demand.{cutUp};
 ghost use Rattle.definitions.specs.Form.{writeForm};
 ghost use Rattle.definitions.specs.Lists.{total};
-ghost use Rattle.definitions.specs.Plan.{sheetForm, keptForm, spaced, numbersLine, routeLines};
+ghost use Rattle.definitions.specs.Plan.{sheetForm, spaced, numbersLine, routeLines};
 ghost use Rattle.text.specs.Put.{Put};
-ghost use Rattle.sheet.specs.SheetLines.{singleForm, sheetLines};
+ghost use Rattle.sheet.specs.SheetLines.{sheetLines};
+use program::line::put_kept;
 use text::put;
 
 // `(sheet (from FROM) (to TO) (k K))` and its line end.
@@ -118,24 +119,6 @@ fn put_routes(
         i += 1;
     }
     p
-}
-
-// A line of one number: two words with the number between them.
-pub fn put_single(output: &mut [u8], at: usize, front: &[u8], x: usize, back: &[u8]) -> usize
-    requires { ⌜ at + length (writeForm (singleForm (now front) (now back)) (x ∷ [])) ≤ length (now output) ⌝ }
-    ensures { λ r. ⌜ Put (now (output .entry)) at
-        (writeForm (singleForm (now (front .entry)) (now (back .entry))) (x ∷ [])) (now (output .exit)) r ⌝ }
-{
-    let p = put::put_word_number(output, at, front, x);
-    put::put_word(output, p, back)
-}
-
-// `(kept COUNT)` and its line end.
-pub fn put_kept(output: &mut [u8], at: usize, kept: usize) -> usize
-    requires { ⌜ at + length (writeForm keptForm (kept ∷ [])) ≤ length (now output) ⌝ }
-    ensures { λ r. ⌜ Put (now (output .entry)) at (writeForm keptForm (kept ∷ [])) (now (output .exit)) r ⌝ }
-{
-    put_single(output, at, b"(kept ", kept, b")\n")
 }
 
 // A whole sheet: the wish, the routes, the count of kept links, and the end.

@@ -13,7 +13,7 @@ use Rattle.definitions.specs.Text.{endForm}
 use Rattle.definitions.specs.Plan.{sheetForm, keptForm}
 use Rattle.text.specs.Scans.{pairForm}
 use Rattle.text.specs.ItemByItem.{form-word, first-departs, first-reads}
-use Rattle.sheet.specs.Wish.{form-append}
+use Rattle.program.specs.Parts.{form-append}
 use Rattle.sheet_check.specs.Offsets.{after, behind, keptEnd}
 use Rattle.sheet_check.proofs.FormLaws.{word-plain}
 

@@ -12,7 +12,7 @@ use Rattle.definitions.specs.Outcome.{pick}
 use Rattle.definitions.specs.Form.{bytes, Item, word, numeral, Scan, departs, reads, byteAt, scanWord, scanNumber, withFront, following, scanForm}
 use Rattle.definitions.specs.SheetForm.{routeFront, overFront, lineEnd, scanMore, scanNumbers}
 use Rattle.text.specs.ItemByItem.{form-word}
-use Rattle.sheet.specs.Wish.{form-append}
+use Rattle.program.specs.Parts.{form-append}
 use Rattle.sheet_check.specs.Walks.{spacedNumber}
 use Rattle.sheet_check.specs.Offsets.{after, behind, restOfLine, twoLines, countLines}
 

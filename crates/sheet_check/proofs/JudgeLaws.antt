@@ -24,7 +24,7 @@ use Rattle.lists.specs.SameOutcomes.{done-same, done-then, refused-then}
 use Rattle.lists.specs.Ranges.{below, above, inside}
 use Rattle.theory.specs.Accepted.{accepted, accepted-states}
 use Rattle.text_theory.specs.RoundTrip.{on-scan-done}
-use Rattle.sheet.specs.Planned.{cut-passed}
+use Rattle.program.specs.CutPassed.{cut-passed}
 use Rattle.sheet_check.specs.Summary.{summary, summaryOf}
 use Rattle.sheet_check.specs.Walks.{EndsKnown, LinesAt, RoutesWalked}
 use Rattle.sheet_check.specs.Answers.{afterCheck}

@@ -11,7 +11,7 @@ ghost use Rattle.text.specs.Scans.{wordGives, numberGives};
 ghost use Rattle.sheet_check.specs.Offsets.{behind, restOfLine, twoLines, countLines, keptEnd};
 ghost use Rattle.sheet_check.specs.Gives.{twoGives, countGives, headGives, formGives};
 ghost use Rattle.sheet_check.specs.Summary.{summaryOf};
-use sheet::wish::number_word;
+use program::line::number_word;
 use text::scan;
 use text::scan::NumberScan;
 use text::scan::PairScan;

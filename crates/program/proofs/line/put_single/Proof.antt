@@ -1,11 +1,11 @@
--- `sheet::print::put_single` meets its contract: a word with a number, and a word. Assumes nothing.
+-- `program::line::put_single` meets its contract: a word with a number, and a word. Assumes nothing.
 use native.Mathlib.Omega.{arith}
 use denote.Ref.{now}
 use Rattle.text.specs.Put.{put-append}
-use Rattle.sheet.specs.SheetLines.{single-written, single-length}
+use Rattle.program.specs.Single.{single-written, single-length}
 use borrow.Author.Needs.{needs}
-use Rattle.sheet.proofs.print.put_single.Statement.{statement}
-use Rattle.sheet.proofs.print.put_single.Tie as tie
+use Rattle.program.proofs.line.put_single.Statement.{statement}
+use Rattle.program.proofs.line.put_single.Tie as tie
 
 put-word-number-requires : tie.Need-put-word-number-requires
 put-word-number-requires c κs =

@@ -1,8 +1,8 @@
--- `sheet::print::put_kept` meets its contract: the form is two words with a number between them. Assumes nothing.
+-- `program::line::put_kept` meets its contract: the form is two words with a number between them. Assumes nothing.
 use Rattle.definitions.specs.Plan.{keptForm}
 use borrow.Author.Needs.{needs}
-use Rattle.sheet.proofs.print.put_kept.Statement.{statement}
-use Rattle.sheet.proofs.print.put_kept.Tie as tie
+use Rattle.program.proofs.line.put_kept.Statement.{statement}
+use Rattle.program.proofs.line.put_kept.Tie as tie
 
 slice-aggregate-put-single : tie.Need-slice-aggregate-put-single
 slice-aggregate-put-single c = search needs

@@ -1,12 +1,12 @@
--- `sheet::wish::number_word` meets its contract: one way out for each part that can depart, and one for both. Assumes nothing.
+-- `program::line::number_word` meets its contract: one way out for each part that can depart, and one for both. Assumes nothing.
 use mathlib.Core.Path.{sym, _∙_, ap}
 use denote.Ref.{now}
 use Rattle.definitions.specs.Form.{withFront}
 use Rattle.text.specs.Scans.{wordGives, numberGives}
-use Rattle.sheet.specs.Wish.{number-word-departs, number-word-reads}
+use Rattle.program.specs.Parts.{number-word-departs, number-word-reads}
 use borrow.Author.Needs.{needs}
-use Rattle.sheet.proofs.wish.number_word.Statement.{statement}
-use Rattle.sheet.proofs.wish.number_word.Tie as tie
+use Rattle.program.proofs.line.number_word.Statement.{statement}
+use Rattle.program.proofs.line.number_word.Tie as tie
 
 number-requires : tie.Need-number-requires
 number-requires c κs = search needs
