@@ -3,7 +3,7 @@ use Prim.Native.Nat.{ℕ}
 use mathlib.Core.List.{List}
 use Rattle.definitions.specs.Text.{Network, textOf}
 use Rattle.definitions.specs.Dimacs.{importNetwork}
-use Rattle.definitions.specs.Plan.{printed}
+use Rattle.definitions.specs.Program.{printed}
 
 -- The text of a network.
 unfoldable pub networkText : (network : Network) → List ℕ

@@ -4,14 +4,15 @@ use Prim.Native.Nat.{ℕ, zero, suc, _+_}
 use mathlib.Core.Bool.{Bool, _&&_, not}
 use mathlib.Core.List.{List, [], _∷_, _++_}
 use lib.Dec.{eqb}
-use lib.ListN.{length, getD, drop}
-use Rattle.definitions.specs.Outcome.{pick, Outcome, done, andThen}
+use lib.ListN.{length, getD}
+use Rattle.definitions.specs.Outcome.{pick, Outcome, Answer}
 use Rattle.definitions.specs.Lists.{table, count}
 use Rattle.definitions.specs.Network.{linkServes}
 use Rattle.definitions.specs.Forests.{marksOf, cutAnswer}
-use Rattle.definitions.specs.Form.{bytes, Item, word, numeral, scanForm, onScan, writeForm}
-use Rattle.definitions.specs.Text.{Network, endForm, readNetwork}
-use Rattle.definitions.specs.Plan.{keptForm, room, printed}
+use Rattle.definitions.specs.Form.{bytes, Item, word, numeral, writeForm}
+use Rattle.definitions.specs.Text.{Network, endForm}
+use Rattle.definitions.specs.Program.{Program, outcomeOf, printed, room, on, ownRead}
+use Rattle.definitions.specs.Plan.{keptForm}
 
 -- The line in front of the network text.
 unfoldable pub keepForm : List Item
@@ -54,22 +55,20 @@ pub record Lease : Type 0 where
 unfoldable pub leaseRoom : ℕ
 leaseRoom = 66067
 
--- The network is cut to k, with Cut's refusals.
-unfoldable pub leaseFor : (k : ℕ) (network : Network) → Outcome Lease
+-- The list of a network cut to k.
+unfoldable pub leaseFor : (k : ℕ) (network : Network) → Lease
 leaseFor k network =
-    let n = network .relays in
-    let lows = network .lows in
-    let highs = network .highs in
-    let states = network .states in
-    andThen (cutAnswer n lows highs states k (room 3000)) λ _.
-    done (record { k = k; lows = lows; highs = highs; states = states; marks = marksOf n lows highs states k })
+    record { k = k; lows = network .lows; highs = network .highs; states = network .states; marks = on network marksOf k }
 
--- The first refusal met stands: 1 where the line in front departs from its form, at the byte; then Read's, whose offsets count
--- from the first byte after that line; then Cut's.
+-- The answer of Cut, with the program's own list.
+unfoldable pub leaseAnswers : (line : List ℕ) (network : Network) → List Answer
+leaseAnswers line network = on network cutAnswer (getD line 0 0) (room 3000) ∷ []
+
+abbrev pub keeper : Program Network
+keeper = record { form = keepForm; read = ownRead; answers = leaseAnswers }
+
 unfoldable pub leased : (input : List ℕ) → Outcome Lease
-leased input =
-    onScan 1 (scanForm input keepForm 0) λ wish p.
-    andThen (readNetwork (drop p input) 3000 3000 1000) (leaseFor (getD wish 0 0))
+leased = outcomeOf keeper (λ line. leaseFor (getD line 0 0))
 
 -- The line of link i, which joins a and b, by its mark and by whether both are in service.
 unfoldable pub leaseLine : (mark : ℕ) (serving : Bool) (i a b : ℕ) → List ℕ

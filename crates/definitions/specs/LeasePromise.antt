@@ -4,26 +4,20 @@
 use Prim.Native.Nat.{ℕ, _+_, _<_}
 use mathlib.Core.Bool.{Bool, false, _&&_, not}
 use mathlib.Core.List.{List, [], _∷_, _++_}
-use mathlib.Core.Logic.{_⊎_, _↔_, _≢_}
+use mathlib.Core.Logic.{_↔_}
 use mathlib.Core.Path.{_≡_}
-use lib.ListN.{length, getD, drop}
-use Rattle.definitions.specs.Outcome.{pick, refused, done}
+use lib.ListN.{length, getD}
+use Rattle.definitions.specs.Outcome.{pick}
 use Rattle.definitions.specs.Lists.{table, outside, count, joinAll}
 use Rattle.definitions.specs.Network.{linkServes, Accepted}
-use Rattle.definitions.specs.Forests.{forestsOf, marksOf, cutAnswer}
-use Rattle.definitions.specs.Form.{departs, reads, scanForm, writeForm}
-use Rattle.definitions.specs.Text.{Network, endForm, readNetwork}
-use Rattle.definitions.specs.Plan.{keptForm, refusedForm, room}
-use Rattle.definitions.specs.Lease.{keepForm, leaseForm, keptLinkForm, droppedLinkForm, idleLinkForm, droppedForm, withdrawnForm, keepText}
+use Rattle.definitions.specs.Forests.{forestsOf, marksOf}
+use Rattle.definitions.specs.Form.{writeForm}
+use Rattle.definitions.specs.Text.{Network, endForm}
+use Rattle.definitions.specs.Promised.{Promised}
+use Rattle.definitions.specs.Plan.{keptForm}
+use Rattle.definitions.specs.Lease.{leaseForm, keptLinkForm, droppedLinkForm, idleLinkForm, droppedForm, withdrawnForm, keeper, keepText}
 use Rattle.definitions.specs.DisjointRoutes.{LinkOf, InService}
 use Rattle.definitions.specs.Demand.{Joined, Kept, Live, deadCount}
-
--- A line `(keep K)`, and behind it the text of an accepted network.
-pub record KeepAsked (input : List ℕ) (k : ℕ) (network : Network) : Type 0 where
-  pub behind : ℕ
-  pub line : scanForm input keepForm 0 ≡ reads (k ∷ []) behind
-  pub read : readNetwork (drop behind input) 3000 3000 1000 ≡ done network
-  pub accepted : Accepted (network .relays) (network .lows) (network .highs) (network .states)
 
 -- Link i is in none of the forests 1 to k.
 unfoldable pub dispensable : (n : ℕ) (lows highs states : List ℕ) (k i : ℕ) → Bool
@@ -59,30 +53,12 @@ pub record LeaseHolds (n : ℕ) (lows highs states : List ℕ) (k : ℕ) (printe
       → Joined (Live n states dead) (LinkOf lows highs (λ i. dispensable n lows highs states k i ≡ false)) a b
       ↔ Joined (Live n states dead) (LinkOf lows highs (InService lows highs states)) a b
 
--- The first refusal met. Each case has the stages before it behind it, so no two of them hold of one input.
-pub data KeepRefusal (input : List ℕ) : ℕ → ℕ → Type 0 where
-  inLine : {p : ℕ} → scanForm input keepForm 0 ≡ departs p → KeepRefusal input 1 p
-  inText : {k p number place : ℕ} → scanForm input keepForm 0 ≡ reads (k ∷ []) p
-      → readNetwork (drop p input) 3000 3000 1000 ≡ refused number place → KeepRefusal input number place
-  inCut : {k number place : ℕ} {network : Network} → KeepAsked input k network
-      → cutAnswer (network .relays) (network .lows) (network .highs) (network .states) k (room 3000) ≡ refused number place
-      → KeepRefusal input number place
-
--- A list is printed, and it holds for the network that was read.
-pub record LeasePrinted (input : List ℕ) : Type 0 where
+-- The text is the list of the network that was read, cut to the number of the line.
+pub record LeasePrinted (line : List ℕ) (network : Network) (text : List ℕ) : Type 0 where
   pub k : ℕ
-  pub network : Network
-  pub asked : KeepAsked input k network
-  pub holds : LeaseHolds (network .relays) (network .lows) (network .highs) (network .states) k (keepText input)
+  pub asked : line ≡ k ∷ []
+  pub accepted : Accepted (network .relays) (network .lows) (network .highs) (network .states)
+  pub holds : LeaseHolds (network .relays) (network .lows) (network .highs) (network .states) k text
 
--- The line of the first refusal met is printed. The program's own lists never are too short, so it is neither 8 nor 12.
-pub record KeepRefused (input : List ℕ) : Type 0 where
-  pub number : ℕ
-  pub place : ℕ
-  pub first : KeepRefusal input number place
-  pub text : keepText input ≡ writeForm refusedForm (number ∷ place ∷ [])
-  pub roomy : (number ≢ 8) × (number ≢ 12)
-
--- Every input gets one or the other.
 abbrev pub LeasePromise : Type 0
-LeasePromise = (input : List ℕ) → LeasePrinted input ⊎ KeepRefused input
+LeasePromise = Promised keeper LeasePrinted keepText

@@ -9,12 +9,14 @@ pub mod Route
 pub mod Over
 pub mod Form
 pub mod Text
+pub mod Program
 pub mod Plan
 pub mod Lease
 pub mod DisjointRoutes
 pub mod Demand
 pub mod LastTwo
 pub mod SheetHolds
+pub mod Promised
 pub mod SheetPromise
 pub mod LeasePromise
 pub mod SheetForm

@@ -10,10 +10,10 @@ use Rattle.definitions.specs.Outcome.{done}
 use Rattle.definitions.specs.Network.{Accepted}
 use Rattle.definitions.specs.Form.{bytes}
 use Rattle.definitions.specs.Text.{Network}
-use Rattle.definitions.specs.Plan.{Sheet, planned, planText}
+use Rattle.definitions.specs.Plan.{Sheet, planner, planned, planText}
 use Rattle.definitions.specs.DisjointRoutes.{InService}
 use Rattle.definitions.specs.SheetHolds.{SheetHolds}
-use Rattle.definitions.specs.SheetPromise.{Asked}
+use Rattle.definitions.specs.Promised.{Asked}
 use Rattle.definitions.specs.SheetForm.{readSheet}
 use Rattle.definitions.specs.SheetTest.{sheetAnswer}
 use Rattle.definitions.specs.Verify.{verifyText}
@@ -40,5 +40,5 @@ pub record PrintedYes (input : List ℕ) (network : Network) (behind : ℕ) : Ty
 
 pub record ReadBackPromise : Type 0 where
   pub exact : (n : ℕ) (lows highs states text : List ℕ) → SaidExactly n lows highs states text
-  pub printed : (input : List ℕ) (from to k : ℕ) (network : Network) (sheet : Sheet) → (asked : Asked input from to k network)
+  pub printed : (input wish : List ℕ) (network : Network) (sheet : Sheet) → (asked : Asked planner input wish network)
       → planned input ≡ done sheet → PrintedYes input network (asked .behind)

@@ -6,7 +6,7 @@ use lib.ListN.{length, getD, take, drop}
 use Rattle.definitions.specs.Outcome.{pick, Answer, andThen}
 use Rattle.definitions.specs.Form.{bytes, Scan, departs, reads, scanForm}
 use Rattle.definitions.specs.Text.{endForm, readNetwork}
-use Rattle.definitions.specs.Plan.{printed}
+use Rattle.definitions.specs.Program.{printed}
 use Rattle.definitions.specs.SheetTest.{sheetAnswer}
 
 -- The offset behind what was read, or another where the text departed.

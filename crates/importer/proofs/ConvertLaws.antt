@@ -13,7 +13,7 @@ use Rattle.definitions.specs.Network.{tableCheck, Accepted}
 use Rattle.definitions.specs.Form.{writeForm}
 use Rattle.definitions.specs.Text.{textOf, writeAnswer, bufferAfter}
 use Rattle.definitions.specs.Dimacs.{importNetwork, importAnswer, importLows, importHighs, importStates}
-use Rattle.definitions.specs.Plan.{refusedForm, printed}
+use Rattle.definitions.specs.Program.{refusedForm, printed}
 use Rattle.definitions.specs.Import.{networkText, importText}
 use Rattle.lists.specs.Outcomes.{refuse-not, then-done, if-done}
 use Rattle.text_theory.specs.ImportProof.{import-promise}

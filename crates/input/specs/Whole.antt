@@ -5,7 +5,7 @@ use mathlib.Core.Bool.{Bool, true, false}
 use mathlib.Core.List.{List}
 use mathlib.Core.Path.{_≡_, refl, sym, _∙_, ap}
 use lib.ListN.{length, take}
-use Rattle.definitions.specs.Plan.{inputRoom}
+use Rattle.definitions.specs.Program.{inputRoom}
 
 -- An input that begins with the bytes read, and is just these if it ended.
 pub record Whole (bytes : List ℕ) (ended : Bool) (whole : List ℕ) : Type 0 where

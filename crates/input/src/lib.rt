@@ -3,7 +3,7 @@ ghost use mathlib.Core.Bool.{false};
 ghost use mathlib.Core.Path.{_≡_};
 ghost use Prim.Native.Nat.{_+_, _≤_};
 ghost use lib.ListN.{length};
-ghost use Rattle.definitions.specs.Plan.{inputRoom};
+ghost use Rattle.definitions.specs.Program.{inputRoom};
 ghost use Rattle.io.specs.Counts.{Counts};
 use libc::STDIN_FILENO;
 

@@ -2,18 +2,17 @@
 -- Assumes nothing.
 use Prim.Native.Nat.{ℕ, _≤_}
 use mathlib.Core.List.{List, [], _∷_}
-use mathlib.Core.Path.{_≡_, refl, sym, _∙_, ap}
+use mathlib.Core.Path.{_≡_, refl, sym, _∙_}
 use native.Mathlib.Omega.{arith}
 use lib.ListN.{getD, drop}
 use Rattle.definitions.specs.Outcome.{done}
 use Rattle.definitions.specs.Lists.{outside}
-use Rattle.definitions.specs.Forests.{marksOf, cutAnswer}
-use Rattle.definitions.specs.Form.{reads, scanForm}
-use Rattle.definitions.specs.Text.{Network, readNetwork}
-use Rattle.definitions.specs.Plan.{room}
-use Rattle.definitions.specs.Lease.{keepForm, Lease, leaseFor, leased}
-use Rattle.definitions.specs.LeasePromise.{KeepAsked}
-use Rattle.lists.specs.SameOutcomes.{done-same, done-then}
+use Rattle.definitions.specs.Network.{Accepted}
+use Rattle.definitions.specs.Forests.{marksOf}
+use Rattle.definitions.specs.Text.{Network}
+use Rattle.definitions.specs.Program.{room}
+use Rattle.definitions.specs.Promised.{Asked}
+use Rattle.definitions.specs.Lease.{keepForm, Lease, leaseFor, leaseAnswers, keeper, leased}
 use Rattle.text_theory.specs.Forms.{
   noZero,
   goodWord,
@@ -24,7 +23,8 @@ use Rattle.text_theory.specs.Forms.{
   Line,
 }
 use Rattle.text_theory.specs.NetworkLines.{read-line}
-use Rattle.text_theory.specs.RoundTrip.{on-scan-done, written-read}
+use Rattle.text_theory.specs.RoundTrip.{written-read}
+use Rattle.text_theory.specs.Programs.{AllDone, outcome-done}
 use Rattle.program.specs.CutPassed.{cut-passed}
 
 pub keep-line : Line keepForm
@@ -37,21 +37,10 @@ keep-number [] fits = absurd fits
 keep-number (k ∷ []) fits = refl
 keep-number (k ∷ x ∷ wish) fits = absurd (fits .1)
 
--- What was asked: k is the number of the line in front, and the network is read behind it.
-pub line-read : (input wish : List ℕ) (behind : ℕ) → scanForm input keepForm 0 ≡ reads wish behind
-    → scanForm input keepForm 0 ≡ reads (getD wish 0 0 ∷ []) behind
-line-read input wish behind e =
-    e ∙ ap (λ (values : List ℕ). reads values behind) (keep-number wish (read-line keepForm input 0 wish behind keep-line (omega arith) e .0))
-
-pub keep-asked : (input wish : List ℕ) (behind : ℕ) (network : Network) → scanForm input keepForm 0 ≡ reads wish behind
-    → readNetwork (drop behind input) 3000 3000 1000 ≡ done network → KeepAsked input (getD wish 0 0) network
-keep-asked input wish behind network e read =
-    record {
-      behind = behind;
-      line = line-read input wish behind e;
-      read = read;
-      accepted = written-read (drop behind input) 3000 3000 1000 network read .1;
-    }
+-- What was asked: k is the number of the line in front, and the network is an accepted one.
+pub line-read : (input line : List ℕ) (network : Network) → Asked keeper input line network → line ≡ getD line 0 0 ∷ []
+line-read input line network asked =
+    keep-number line (read-line keepForm input 0 line (asked .behind) keep-line (omega arith) (asked .line) .0)
 
 -- The list of a network cut to k.
 abbrev pub leaseOf : ℕ → Network → Lease
@@ -64,30 +53,34 @@ leaseOf k network =
       marks = marksOf (network .relays) (network .lows) (network .highs) (network .states) k;
     }
 
--- A list that is printed: what was asked, and that Cut answered.
-pub record ListedLinks (input : List ℕ) (lease : Lease) : Type 0 where
+-- Cut answered, so k is in range.
+pub in-range : (line : List ℕ) (network : Network) → AllDone (leaseAnswers line network) → (1 ≤ getD line 0 0) × (getD line 0 0 ≤ 32)
+unfolding AllDone leaseAnswers
+in-range line network passed =
+    let cut = cut-passed (network .relays) (network .lows) (network .highs) (network .states) (getD line 0 0) (room 3000) (passed .0 .0) (passed .0 .1) in
+    (cut .some, cut .few)
+
+pub lease-is : (k : ℕ) (network : Network) → leaseFor k network ≡ leaseOf k network
+unfolding leaseFor
+lease-is k network = refl
+
+-- A list that is printed.
+pub record ListedLinks (lease : Lease) : Type 0 where
   pub k : ℕ
   pub network : Network
-  pub asked : KeepAsked input k network
-  pub some : 1 ≤ k
+  pub accepted : Accepted (network .relays) (network .lows) (network .highs) (network .states)
   pub few : k ≤ 32
   pub leaseIs : lease ≡ leaseOf k network
 
-pub listed-links : (input : List ℕ) (lease : Lease) → leased input ≡ done lease → ListedLinks input lease
-unfolding leased leaseFor
+pub listed-links : (input : List ℕ) (lease : Lease) → leased input ≡ done lease → ListedLinks lease
+unfolding leased
 listed-links input lease e =
-    let (wish, p, wished, after) = on-scan-done 1 (scanForm input keepForm 0) _ lease e in
-    let (network, read, last) = done-then (readNetwork (drop p input) 3000 3000 1000) _ lease after in
-    let n = network .relays in
-    let k = getD wish 0 0 in
-    let asked = keep-asked input wish p network wished read in
-    let (kept, cut, given) = done-then (cutAnswer n (network .lows) (network .highs) (network .states) k (room 3000)) _ lease last in
-    let passed = cut-passed n (network .lows) (network .highs) (network .states) k (room 3000) kept (asked .accepted) cut in
+    let found = outcome-done keeper _ input lease e in
+    let k = getD (found .numbers) 0 0 in
     record {
       k = k;
-      network = network;
-      asked = asked;
-      some = passed .some;
-      few = passed .few;
-      leaseIs = sym (done-same _ lease given);
+      network = found .thing;
+      accepted = written-read (drop (found .asked .behind) input) 3000 3000 1000 (found .thing) (found .asked .read) .1;
+      few = in-range (found .numbers) (found .thing) (found .passed) .1;
+      leaseIs = sym (found .valueIs) ∙ lease-is k (found .thing);
     }

@@ -13,7 +13,8 @@ use Rattle.definitions.specs.Network.{linkServes, Accepted}
 use Rattle.definitions.specs.Forests.{marksOf}
 use Rattle.definitions.specs.Form.{writeForm}
 use Rattle.definitions.specs.Text.{Network, endForm}
-use Rattle.definitions.specs.Plan.{keptForm, printed}
+use Rattle.definitions.specs.Program.{printed}
+use Rattle.definitions.specs.Plan.{keptForm}
 use Rattle.definitions.specs.Lease.{
   leaseForm,
   keptLinkForm,
@@ -110,8 +111,8 @@ unfolding leaseRoom keepText printed
 keep-length input = go (leased input) (leased-printable input) (listed-links input)
   where
     go : (outcome : Outcome Lease) → RefusedAs Printable outcome
-        → ((lease : Lease) → outcome ≡ done lease → ListedLinks input lease) → length (printed leaseText outcome) ≤ leaseRoom
+        → ((lease : Lease) → outcome ≡ done lease → ListedLinks lease) → length (printed leaseText outcome) ≤ leaseRoom
     go (refused number place) given _ = omega (arith, refused-length number place given)
     go (done lease) _ behind =
         let found = behind lease refl in
-        rw (found .leaseIs) (lease-length (found .k) (found .network) (found .few) (found .asked .accepted))
+        rw (found .leaseIs) (lease-length (found .k) (found .network) (found .few) (found .accepted))

@@ -4,52 +4,50 @@ use mathlib.Core.List.{List, [], _∷_}
 use mathlib.Core.Path.{_≡_, _∙_, ap}
 use native.Mathlib.Omega.{arith}
 use lib.Dec.{eqb}
-use lib.ListN.{length, take, drop, length-drop}
-use lib.Seq.{take-all}
+use lib.ListN.{length, take, drop}
 use Rattle.definitions.specs.Outcome.{Outcome, done, andThen}
 use Rattle.definitions.specs.Lists.{overwrite, count}
 use Rattle.definitions.specs.Network.{Accepted}
 use Rattle.definitions.specs.Forests.{marksOf, cutAnswer, marksAfter}
-use Rattle.definitions.specs.Form.{departs, reads, scanForm, onScan}
-use Rattle.definitions.specs.Text.{readNetwork}
-use Rattle.definitions.specs.Plan.{room, printed}
-use Rattle.definitions.specs.Lease.{keepForm, Lease, leaseFor, leased, droppedCount, idleCount, leaseText, keepText}
+use Rattle.definitions.specs.Form.{departs, reads, scanForm}
+use Rattle.definitions.specs.Text.{Network, readNetwork}
+use Rattle.definitions.specs.Program.{passing, room, printed}
+use Rattle.definitions.specs.Lease.{keepForm, Lease, leaseFor, leaseAnswers, keeper, leased, droppedCount, idleCount, leaseText, keepText}
 use Rattle.lists.specs.Outcomes.{then-done, if-done}
 use Rattle.theory.specs.Accepted.{accepted, accepted-states}
 use Rattle.theory.specs.Columns.{length-marks}
-use Rattle.text_theory.specs.NetworkLines.{read-line}
 use Rattle.text.specs.Put.{Put}
 use Rattle.network.specs.Answers.{refusalOf}
 use Rattle.network.specs.declared.Refusal.{Refusal}
 use Rattle.network.specs.declared.Refusal.the-variants.{Wish}
 use Rattle.program.specs.Front.{longer}
 use Rattle.program.specs.CutPassed.{cut-passed}
-use Rattle.program.specs.ReadStage.{whole-put, networkOf, stage-refused, cut-rooms}
+use Rattle.program.specs.ReadStage.{whole-put, networkOf, stage-refused, cut-rooms, line-departed, line-taken}
 use Rattle.lease.specs.Lines.{EndsWithin, lines-front, countLines, listLines}
 use Rattle.lease.specs.Listed.{keep-line}
 use Rattle.lease.specs.Counts.{counts-all}
 
+-- Cut, and the list with its marks.
+unfoldable pub cutStage : (k : ℕ) (network : Network) → Outcome Lease
+cutStage k network = passing (leaseAnswers (k ∷ []) network) (leaseFor k network)
+
 -- Read, and the stages behind it.
 abbrev pub readStage : List ℕ → ℕ → Outcome Lease
-readStage text k = andThen (readNetwork text 3000 3000 1000) (leaseFor k)
+readStage text k = andThen (readNetwork text 3000 3000 1000) (cutStage k)
 
-pub line-departed : (input : List ℕ) (p : ℕ) → scanForm input keepForm 0 ≡ departs p → leased input ≡ refusalOf (Wish p)
-unfolding leased onScan
-line-departed input p e = rw e
+pub keep-departed : (input : List ℕ) (p : ℕ) → scanForm input keepForm 0 ≡ departs p → leased input ≡ refusalOf (Wish p)
+unfolding leased
+keep-departed input p e = line-departed keeper _ input p e
 
-pub line-taken : (input : List ℕ) (k p : ℕ) → scanForm input keepForm 0 ≡ reads (k ∷ []) p
+pub keep-taken : (input : List ℕ) (k p : ℕ) → scanForm input keepForm 0 ≡ reads (k ∷ []) p
     → (p ≤ length input) × (leased input ≡ readStage (take (length input - p) (drop p input)) k)
-unfolding leased onScan
-line-taken input k p e =
-    let all : take (length input - p) (drop p input) ≡ drop p input =
-    take-all (length input - p) (drop p input) (omega (arith, length-drop p input)) in
-    (read-line keepForm input 0 (k ∷ []) p keep-line (omega arith) e .1 .within, rw (e, all))
+unfolding leased cutStage
+keep-taken input k p e = line-taken keeper _ input (k ∷ []) p keep-line e
 
--- Cut, and the list with its marks.
 pub cut-refused : (n : ℕ) (lows highs states : List ℕ) (k : ℕ) (refusal : Refusal)
     → cutAnswer n lows highs states k (room 3000) ≡ refusalOf refusal
-    → leaseFor k (networkOf n lows highs states) ≡ refusalOf refusal
-unfolding leaseFor
+    → cutStage k (networkOf n lows highs states) ≡ refusalOf refusal
+unfolding cutStage passing leaseAnswers
 cut-refused n lows highs states k refusal e = stage-refused _ _ refusal e
 
 -- Both ends of every link of an accepted network have a state.
@@ -65,16 +63,16 @@ pub record Marked (n : ℕ) (lows highs states : List ℕ) (k kept : ℕ) (marks
   pub inMarks : length lows ≤ length marks
   pub inStates : EndsWithin lows highs states
   pub few : kept + idleCount lows highs states ≤ length lows
-  pub lines : printed leaseText (leaseFor k (networkOf n lows highs states)) ≡ listLines k lows highs states marks kept
+  pub lines : printed leaseText (cutStage k (networkOf n lows highs states)) ≡ listLines k lows highs states marks kept
 
 pub cut-marked : (n : ℕ) (lows highs states : List ℕ) (k kept : ℕ) (marks marksNow : List ℕ) → Accepted n lows highs states
     → marks ≡ room 3000 → cutAnswer n lows highs states k marks ≡ done (kept ∷ [])
     → marksNow ≡ marksAfter n lows highs states k marks → Marked n lows highs states k kept marksNow
-unfolding printed leaseText listLines countLines leaseFor marksAfter
+unfolding printed leaseText listLines countLines cutStage passing leaseAnswers leaseFor marksAfter
 cut-marked n lows highs states k kept marks marksNow good marksAre e after =
     let all = marksOf n lows highs states k in
     let table = accepted n lows highs states good in
-    let counted = cut-passed n lows highs states k marks (kept ∷ []) good e .counted in
+    let counted = cut-passed n lows highs states k marks (kept ∷ []) e .counted in
     let ones : kept ≡ count (eqb 1) all = cc in
     let idle = idleCount lows highs states in
     let three = counts-all n lows highs states k in

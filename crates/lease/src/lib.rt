@@ -3,7 +3,7 @@ ghost use mathlib.Core.Path.{_≡_};
 ghost use lib.ListN.{length};
 ghost use Rattle.definitions.specs.Lists.{overwrite};
 ghost use Rattle.definitions.specs.Lease.{keepText};
-ghost use Rattle.definitions.specs.Plan.{printAnswer, outputAfter};
+ghost use Rattle.definitions.specs.Program.{printAnswer, outputAfter};
 ghost use Rattle.program.specs.Into.{printOutcome};
 use front::keep_line;
 use network::Refusal;

@@ -1,7 +1,7 @@
 // The list's own output: zeros, and long enough for every list of links.
 ghost use mathlib.Core.Path.{_≡_};
 ghost use Rattle.definitions.specs.Lease.{leaseRoom};
-ghost use Rattle.definitions.specs.Plan.{room};
+ghost use Rattle.definitions.specs.Program.{room};
 
 // The bytes for everything that is printed.
 pub const OUTPUT: usize = 66067;

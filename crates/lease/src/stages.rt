@@ -1,12 +1,12 @@
 // The list's stages, the last one first: each prints the refusal that it meets, or hands on to the next.
 ghost use Prim.Native.Nat.{_≤_};
 ghost use lib.ListN.{length};
-ghost use Rattle.definitions.specs.Lease.{leaseFor, leaseText};
+ghost use Rattle.definitions.specs.Lease.{leaseText};
 ghost use Rattle.definitions.specs.Network.{Accepted};
-ghost use Rattle.definitions.specs.Plan.{printed};
+ghost use Rattle.definitions.specs.Program.{printed};
 ghost use Rattle.text.specs.Put.{Put};
 ghost use Rattle.program.specs.ReadStage.{networkOf};
-ghost use Rattle.lease.specs.Stages.{readStage};
+ghost use Rattle.lease.specs.Stages.{cutStage, readStage};
 use crate::print::put_list;
 use forests::CutAnswer;
 use forests::cut;
@@ -18,8 +18,8 @@ use text::ReadAnswer;
 // Cut, and the list with its marks.
 fn keep_cut(output: &mut [u8], n: u16, lows: &[u16], highs: &[u16], states: &[u16], k: u16) -> usize
     requires { ⌜ Accepted n (now lows) (now highs) (now states) ⌝ }
-    requires { ⌜ length (printed leaseText (leaseFor k (networkOf n (now lows) (now highs) (now states)))) ≤ length (now output) ⌝ }
-    ensures { λ r. ⌜ Put (now (output .entry)) 0 (printed leaseText (leaseFor k (networkOf n (now (lows .entry)) (now (highs .entry)) (now (states .entry)))))
+    requires { ⌜ length (printed leaseText (cutStage k (networkOf n (now lows) (now highs) (now states)))) ≤ length (now output) ⌝ }
+    ensures { λ r. ⌜ Put (now (output .entry)) 0 (printed leaseText (cutStage k (networkOf n (now (lows .entry)) (now (highs .entry)) (now (states .entry)))))
         (now (output .exit)) r ⌝ }
 {
     let mut marks = rooms::links();

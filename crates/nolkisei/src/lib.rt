@@ -8,7 +8,8 @@ ghost use Rattle.definitions.specs.Order.{orderAnswer, relaysAfter, placesAfter
 ghost use Rattle.definitions.specs.Forests.{splitAnswer, forestsAfter, cutAnswer, marksAfter};
 ghost use Rattle.definitions.specs.Over.{routeLinksAnswer, routeLinksCounts, routeLinksRelays, routeLinksLinks, routeLinksScratch};
 ghost use Rattle.definitions.specs.Route.{routeAnswer, countsAfter, routeRelaysAfter, scratchAfter};
-ghost use Rattle.definitions.specs.Plan.{planText, printAnswer, outputAfter};
+ghost use Rattle.definitions.specs.Program.{printAnswer, outputAfter};
+ghost use Rattle.definitions.specs.Plan.{planText};
 ghost use Rattle.definitions.specs.Lease.{keepText};
 ghost use Rattle.definitions.specs.SheetTest.{sheetAnswer};
 ghost use Rattle.nolkisei.specs.Reported.{reported};

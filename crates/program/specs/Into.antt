@@ -6,7 +6,7 @@ use native.Mathlib.Omega.{arith}
 use borrow.Author.Tests.{lt-ltb, le-ltb}
 use lib.ListN.{length}
 use Rattle.definitions.specs.Outcome.{done, Answer, refuseIf, ifDone}
-use Rattle.definitions.specs.Plan.{printAnswer, outputAfter}
+use Rattle.definitions.specs.Program.{printAnswer, outputAfter}
 use Rattle.network.specs.Answers.{refusalOf}
 use Rattle.network.specs.declared.Refusal.the-variants.{Room}
 use Rattle.text.specs.Put.{Put}

@@ -1,6 +1,6 @@
 -- The refusals that a program prints: numbers up to 17, places as far as Read looks. Its own lists are never too short, so neither
 -- 8 nor 12 is among them. Assumes nothing.
-use Prim.Native.Nat.{ℕ, _+_, _-_, _≤_}
+use Prim.Native.Nat.{ℕ, _≤_}
 use mathlib.Core.Bool.{false}
 use mathlib.Core.List.{List, [], _∷_}
 use mathlib.Core.Logic.{_⊎_, inl, inr, _≢_}
@@ -9,19 +9,20 @@ use native.Mathlib.Omega.{arith}
 use lib.Dec.{eqb, ltb}
 use lib.ListN.{length, drop}
 use borrow.Author.Tests.{eqb-false, ne-eqb, le-ltb}
-use Rattle.definitions.specs.Outcome.{Outcome, andThen}
+use Rattle.definitions.specs.Outcome.{Outcome, Answer}
 use Rattle.definitions.specs.Lists.{outside}
 use Rattle.definitions.specs.Network.{tableCheck, Accepted}
 use Rattle.definitions.specs.Forests.{cutAnswer}
-use Rattle.definitions.specs.Form.{Item, scanForm, onScan, writeForm}
+use Rattle.definitions.specs.Form.{Item, writeForm}
 use Rattle.definitions.specs.Text.{Network, readNetwork}
-use Rattle.definitions.specs.Plan.{room, refusedForm}
+use Rattle.definitions.specs.Program.{outcomeOf, refusedForm, room, ownRead}
 use Rattle.lists.specs.Outcomes.{refuse-not, then-done}
-use Rattle.lists.specs.RefusedWithin.{RefusedAs, as-more, refuse-as, then-as}
+use Rattle.lists.specs.RefusedWithin.{RefusedAs, as-more, refuse-as}
 use Rattle.theory.specs.Accepted.{accepted}
-use Rattle.text_theory.specs.Spans.{span, form-within, written-span}
-use Rattle.text_theory.specs.Refusals.{on-scan-as, ReadRefusal, network-within}
+use Rattle.text_theory.specs.Spans.{span, written-span}
+use Rattle.text_theory.specs.Refusals.{ReadRefusal, network-within}
 use Rattle.text_theory.specs.RoundTrip.{written-read}
+use Rattle.text_theory.specs.Programs.{AnswersAs, outcome-as}
 use Rattle.program.specs.ReadStage.{length-room}
 
 pub record Printable (number place : ℕ) : Type 0 where
@@ -57,17 +58,20 @@ read-printable text =
         printable number place (omega arith) near (ne-eqb number 8 (λ e. omega arith)) (ne-eqb number 12 (λ e. omega arith))
     go number place (inr last) near = rw last (printable 16 place (omega arith) near refl refl)
 
--- A line in front, then Read, then what is printable for every accepted network.
-pub front-printable : {A : Type 0} (form : List Item) (next : List ℕ → Network → Outcome A) (input : List ℕ) → span 4 form ≤ 54933
-    → ((wish : List ℕ) (network : Network) → Accepted (network .relays) (network .lows) (network .highs) (network .states) → RefusedAs Printable (next wish network))
-    → RefusedAs Printable (onScan 1 (scanForm input form 0) (λ wish p. andThen (readNetwork (drop p input) 3000 3000 1000) (next wish)))
-front-printable form next input short after =
-    on-scan-as Printable 1 (0 + span 4 form) (scanForm input form 0) _
-    (λ place below. printable 1 place (omega arith) (omega arith) refl refl) (form-within form input 0)
-    (λ wish p e below.
-    let text = drop p input in
-    then-as Printable (readNetwork text 3000 3000 1000) _ (read-printable text)
-    (λ network read. after wish network (written-read text 3000 3000 1000 network read .1)))
+-- A program that reads a network, of which the answers are printable for every accepted one.
+pub network-printable : {B : Type 0} (form : List Item) (answers : List ℕ → Network → List Answer) (value : List ℕ → Network → B) (input : List ℕ)
+    → span 4 form ≤ 54933
+    → ((numbers : List ℕ) (network : Network) → Accepted (network .relays) (network .lows) (network .highs) (network .states) → AnswersAs Printable (answers numbers network))
+    → RefusedAs Printable (outcomeOf (record { form = form; read = ownRead; answers = answers }) value input)
+network-printable form answers value input short after =
+    outcome-as (record { form = form; read = ownRead; answers = answers }) value input Printable
+    (λ place below. printable 1 place (omega arith) (omega arith) refl refl) read-printable
+    (λ numbers network asked. after numbers network (written-read (drop (asked .behind) input) 3000 3000 1000 network (asked .read) .1))
+
+-- Neither 8 nor 12.
+pub roomy : {B : Type 0} (outcome : Outcome B) → RefusedAs Printable outcome
+    → RefusedAs (λ number _. (number ≢ 8) × (number ≢ 12)) outcome
+roomy outcome fits = as-more Printable _ outcome (λ number place one. (one .notEight, one .notTwelve)) fits
 
 -- The line of a refusal has at most 22 bytes.
 pub refused-length : (number place : ℕ) → Printable number place → length (writeForm refusedForm (number ∷ place ∷ [])) ≤ 22

@@ -1,26 +1,30 @@
--- What the stages of every program share: what is printed of equal outcomes, a refusal that stands, and the network that a reading
--- leaves in the front of three lists. Assumes nothing.
-use Prim.Native.Nat.{ℕ, _≤_}
+-- What the stages of every program share: what is printed of equal outcomes, a refusal that stands, the line in front, and the network
+-- that a reading leaves in the front of three lists. Assumes nothing.
+use Prim.Native.Nat.{ℕ, _-_, _≤_}
 use mathlib.Core.List.{List, [], _∷_}
 use mathlib.Core.Path.{_≡_, sym, _∙_, ap, subst}
 use native.Mathlib.Omega.{arith}
-use lib.ListN.{length, take, drop, length-append, length-replicate}
-use lib.Seq.{take-append-seam}
+use lib.ListN.{length, take, drop, length-drop, length-append, length-replicate}
+use lib.Seq.{take-all, take-append-seam}
 use Rattle.definitions.specs.Outcome.{Outcome, refused, done, andThen}
 use Rattle.definitions.specs.Lists.{overwrite, zeroed}
 use Rattle.definitions.specs.Forests.{cutAnswer}
 use Rattle.definitions.specs.Network.{Accepted}
 use Rattle.definitions.specs.Text.{Network, readNetwork, countsOf, readAnswer, filled, lowsAfter, highsAfter, statesAfter}
-use Rattle.definitions.specs.Plan.{room, printed}
+use Rattle.definitions.specs.Form.{departs, reads, scanForm, onScan}
+use Rattle.definitions.specs.Program.{Program, passing, outcomeOf, room, printed}
 use Rattle.lists.specs.Outcomes.{then-done}
 use Rattle.lists.specs.SameOutcomes.{done-then}
 use Rattle.theory.specs.Accepted.{accepted, accepted-states}
+use Rattle.text_theory.specs.Forms.{Line}
+use Rattle.text_theory.specs.NetworkLines.{read-line}
 use Rattle.text_theory.specs.RoundTrip.{written-read}
 use Rattle.text.specs.Put.{Put}
 use Rattle.lists.specs.Stores.{sets-overwrite}
 use Rattle.network.specs.Answers.{refusalOf, refusalNumber, refusalPlace}
 use Rattle.network.specs.Refusals.{refusal-then}
 use Rattle.network.specs.declared.Refusal.{Refusal}
+use Rattle.network.specs.declared.Refusal.the-variants.{Wish}
 use Rattle.text.specs.Answers.{readOutcome}
 use Rattle.text.specs.declared.ReadAnswer.{ReadAnswer}
 use Rattle.text.specs.declared.ReadAnswer.the-variants as reading
@@ -179,3 +183,19 @@ unfolding readAnswer lowsAfter highsAfter statesAfter
 read-loads text lows highs states answer lowsNow highsNow statesNow low high state told =
     reading-loads (readNetwork text) lows highs states answer lowsNow highsNow statesNow low high state
     (λ network e. written-read text (length lows) (length highs) (length states) network e .1) told
+
+-- The line in front departs, or it is taken and the rest is read.
+module _ {A B : Type 0} (program : Program A) (value : List ℕ → A → B) (input : List ℕ) where
+  pub line-departed : (p : ℕ) → scanForm input (program .form) 0 ≡ departs p → outcomeOf program value input ≡ refusalOf (Wish p)
+  unfolding outcomeOf onScan
+  line-departed p e = rw e
+
+  pub line-taken : (numbers : List ℕ) (p : ℕ) → Line (program .form) → scanForm input (program .form) 0 ≡ reads numbers p
+      → (p ≤ length input)
+      × (outcomeOf program value input
+      ≡ andThen (program .read (take (length input - p) (drop p input))) (λ thing. passing (program .answers numbers thing) (value numbers thing)))
+  unfolding outcomeOf onScan
+  line-taken numbers p good e =
+      let all : take (length input - p) (drop p input) ≡ drop p input =
+      take-all (length input - p) (drop p input) (omega (arith, length-drop p input)) in
+      (read-line (program .form) input 0 numbers p good (omega arith) e .1 .within, rw (e, all))

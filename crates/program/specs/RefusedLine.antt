@@ -4,7 +4,7 @@ use mathlib.Core.List.{List, [], _∷_}
 use native.Mathlib.Omega.{arith}
 use lib.ListN.{length}
 use Rattle.definitions.specs.Form.{writeForm}
-use Rattle.definitions.specs.Plan.{refusedForm}
+use Rattle.definitions.specs.Program.{refusedForm}
 use Rattle.text_theory.specs.Spans.{span, written-span}
 use Rattle.text.specs.Put.{Put}
 

@@ -1,6 +1,6 @@
 // Printing into a list of any length.
 ghost use mathlib.Core.Path.{_≡_};
-ghost use Rattle.definitions.specs.Plan.{printAnswer, outputAfter};
+ghost use Rattle.definitions.specs.Program.{printAnswer, outputAfter};
 ghost use Rattle.program.specs.Into.{printOutcome};
 use network::Refusal;
 use text::put;

@@ -3,7 +3,7 @@ ghost use mathlib.Core.List.{[], _∷_};
 ghost use Prim.Native.Nat.{_≤_};
 ghost use lib.ListN.{length};
 ghost use Rattle.definitions.specs.Form.{writeForm};
-ghost use Rattle.definitions.specs.Plan.{refusedForm};
+ghost use Rattle.definitions.specs.Program.{refusedForm};
 ghost use Rattle.network.specs.Answers.{refusalNumber, refusalPlace};
 ghost use Rattle.text.specs.Put.{Put};
 ghost use Rattle.program.specs.RefusedLine.{LinePut};

@@ -1,6 +1,6 @@
 // A program's own lists: zeros, and long enough for every network.
 ghost use mathlib.Core.Path.{_≡_};
-ghost use Rattle.definitions.specs.Plan.{room};
+ghost use Rattle.definitions.specs.Program.{room};
 
 // A column of a table, or the marks of its links.
 pub fn links() -> [u16; 3000]

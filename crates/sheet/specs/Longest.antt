@@ -13,21 +13,8 @@ use Rattle.definitions.specs.Route.{routesOf}
 use Rattle.definitions.specs.Over.{oversOf}
 use Rattle.definitions.specs.Form.{bytes, decimal, writeForm}
 use Rattle.definitions.specs.Text.{Network, endForm}
-use Rattle.definitions.specs.Plan.{
-  sheetForm,
-  keptForm,
-  refusedForm,
-  Sheet,
-  room,
-  outputRoom,
-  planned,
-  spaced,
-  numbersLine,
-  routeLines,
-  sheetText,
-  printed,
-  planText,
-}
+use Rattle.definitions.specs.Program.{refusedForm, room, printed}
+use Rattle.definitions.specs.Plan.{sheetForm, keptForm, Sheet, outputRoom, planned, spaced, numbersLine, routeLines, sheetText, planText}
 use Rattle.lists.specs.Counting.{count-length}
 use Rattle.lists.specs.RefusedWithin.{RefusedAs}
 use Rattle.theory.specs.Accepted.{accepted}
@@ -137,7 +124,7 @@ unfolding outputRoom planText printed
 plan-length input = go (planned input) (planned-printable input) (planned-sheet input)
   where
     go : (outcome : Outcome Sheet) → RefusedAs Printable outcome
-        → ((sheet : Sheet) → outcome ≡ done sheet → PlannedSheet input sheet) → length (printed sheetText outcome) ≤ outputRoom
+        → ((sheet : Sheet) → outcome ≡ done sheet → PlannedSheet sheet) → length (printed sheetText outcome) ≤ outputRoom
     go (refused number place) given _ = omega (arith, refused-length number place given)
     go (done sheet) _ behind =
         let found = behind sheet refl in

@@ -10,21 +10,22 @@ use lib.ListN.{length, getD}
 use borrow.Author.Tests.{le-ltb}
 use Rattle.definitions.specs.Lists.{outside}
 use Rattle.definitions.specs.Network.{serves, tableCheck, Accepted}
-use Rattle.definitions.specs.Forests.{cutAnswer}
 use Rattle.definitions.specs.Route.{oneTreeOf, routeUnless, tooShort, routeAnswer}
 use Rattle.definitions.specs.Text.{Network}
-use Rattle.definitions.specs.Plan.{wishForm, room, sheetFor, planned}
+use Rattle.definitions.specs.Program.{room}
+use Rattle.definitions.specs.Plan.{wishForm, sheetAnswers, planned}
 use Rattle.lists.specs.Outcomes.{refuse-not, then-done}
 use Rattle.lists.specs.Ranges.{inside-range}
-use Rattle.lists.specs.RefusedWithin.{RefusedAs, refuse-as, then-as}
+use Rattle.lists.specs.RefusedWithin.{RefusedAs, refuse-as}
 use Rattle.lists.specs.Tests.{or-neither}
 use Rattle.theory.specs.Accepted.{accepted}
 use Rattle.text_theory.specs.Spans.{span}
-use Rattle.program.specs.Printable.{Printable, printable, cut-printable, front-printable}
+use Rattle.text_theory.specs.Programs.{AnswersAs}
+use Rattle.program.specs.Printable.{Printable, printable, cut-printable, network-printable}
 use Rattle.program.specs.ReadStage.{length-room}
 
 -- The planner's own lists are long enough for every network and every k.
-rooms-fit : (n k : ℕ) → n ≤ 1000 → k ≤ 32 → tooShort n k (room 32) (room 1062) (room 32000) ≡ false
+pub rooms-fit : (n k : ℕ) → n ≤ 1000 → k ≤ 32 → tooShort n k (room 32) (room 1062) (room 32000) ≡ false
 unfolding tooShort
 rooms-fit n k few most =
     let product : k * n ≤ 32 * 1000 = mul-le-mul {n₂ = 32} {m₂ = 1000} most few in
@@ -48,21 +49,16 @@ route-printable n lows highs states k from to good =
     (refuse-as Printable (not (oneTreeOf n lows highs states k from to)) 13 0 _ (λ _. printable 13 0 (omega arith) (omega arith) refl refl)
     (λ _. tt)))))))
 
-sheet-printable : (from to k : ℕ) (network : Network) → Accepted (network .relays) (network .lows) (network .highs) (network .states)
-    → RefusedAs Printable (sheetFor from to k network)
-unfolding sheetFor
-sheet-printable from to k network good =
-    let n = network .relays in
-    let lows = network .lows in
-    let highs = network .highs in
-    let states = network .states in
-    then-as Printable (cutAnswer n lows highs states k (room 3000)) _ (cut-printable n lows highs states k good)
-    (λ kept _. then-as Printable (routeAnswer n lows highs states k from to (room 32) (room 1062) (room 32000)) _
-    (route-printable n lows highs states k from to good)
-    (λ _ _. tt))
+sheet-printable : (wish : List ℕ) (network : Network) → Accepted (network .relays) (network .lows) (network .highs) (network .states)
+    → AnswersAs Printable (sheetAnswers wish network)
+unfolding sheetAnswers AnswersAs
+sheet-printable wish network good = (
+  cut-printable (network .relays) (network .lows) (network .highs) (network .states) (getD wish 2 0) good,
+  (route-printable (network .relays) (network .lows) (network .highs) (network .states) (getD wish 2 0) (getD wish 0 0) (getD wish 1 0) good, tt),
+)
 
 pub planned-printable : (input : List ℕ) → RefusedAs Printable (planned input)
 unfolding planned span wishForm
 planned-printable input =
-    front-printable wishForm (λ wish. sheetFor (getD wish 0 0) (getD wish 1 0) (getD wish 2 0)) input (omega arith)
-    (λ wish network good. sheet-printable (getD wish 0 0) (getD wish 1 0) (getD wish 2 0) network good)
+    network-printable wishForm _ _ input (omega arith)
+    sheet-printable

@@ -3,30 +3,31 @@ use Prim.Native.Nat.{ℕ, _-_, _≤_, pred}
 use mathlib.Core.List.{List, [], _∷_, map}
 use mathlib.Core.Path.{_≡_, sym, _∙_, ap, ap₂}
 use native.Mathlib.Omega.{arith}
-use lib.ListN.{length, take, drop, length-drop, length-map}
+use lib.ListN.{length, take, drop, length-map}
 use lib.Seq.{take-all}
 use Rattle.definitions.specs.Outcome.{Outcome, done, andThen}
 use Rattle.definitions.specs.Lists.{overwrite, total, joinAll}
-use Rattle.definitions.specs.Forests.{cutAnswer}
+use Rattle.definitions.specs.Forests.{marksOf, cutAnswer}
 use Rattle.definitions.specs.Route.{routesOf, routeAnswer}
 use Rattle.definitions.specs.Over.{oversOf, routeLinksAnswer, routeLinksCounts, routeLinksRelays, routeLinksLinks}
 use Rattle.definitions.specs.Demand.{cutUp}
-use Rattle.definitions.specs.Form.{departs, reads, scanForm, onScan}
+use Rattle.definitions.specs.Form.{departs, reads, scanForm}
 use Rattle.definitions.specs.Text.{Network, readNetwork}
-use Rattle.definitions.specs.Plan.{wishForm, Sheet, room, sheetFor, planned, sheetText, printed, planText}
+use Rattle.definitions.specs.Program.{passing, room, printed}
+use Rattle.definitions.specs.Plan.{wishForm, Sheet, sheetFor, sheetAnswers, planner, planned, sheetText, planText}
 use Rattle.lists.specs.Outcomes.{then-done, if-done}
 use Rattle.lists.specs.Overwritten.{take-overwrite}
 use Rattle.lists.specs.Cuts.{cut-up, total-lengths}
 use Rattle.text_theory.specs.Forms.{wish-line}
-use Rattle.text_theory.specs.NetworkLines.{read-line}
 use Rattle.text.specs.Put.{Put}
 use Rattle.network.specs.Answers.{refusalOf}
 use Rattle.network.specs.declared.Refusal.{Refusal}
 use Rattle.network.specs.declared.Refusal.the-variants.{Wish}
 use Rattle.program.specs.Front.{longer}
+use Rattle.program.specs.CutPassed.{cut-total}
+use Rattle.program.specs.ReadStage.{length-room, networkOf, stage-refused, whole-put, line-departed, line-taken}
 use Rattle.sheet.specs.SheetLines.{sheetLines}
 use Rattle.sheet.specs.Planned.{sheetOf}
-use Rattle.program.specs.ReadStage.{length-room, networkOf, stage-refused, whole-put}
 use Rattle.sheet.specs.Routes.{length-routes}
 use Rattle.sheet.specs.Overs.{over-lengths}
 use Rattle.sheet.specs.LinkRooms.{links-answer, links-passed}
@@ -36,6 +37,10 @@ unfoldable pub routeStage : (from to k : ℕ) (network : Network) (kept : ℕ) �
 routeStage from to k network kept =
     andThen (routeAnswer (network .relays) (network .lows) (network .highs) (network .states) k from to (room 32) (room 1062) (room 32000)) λ _.
     done (sheetOf from to k network kept)
+
+-- Cut, and the stages behind it.
+unfoldable pub cutStage : (from to k : ℕ) (network : Network) → Outcome Sheet
+cutStage from to k network = passing (sheetAnswers (from ∷ to ∷ k ∷ []) network) (sheetFor from to k network)
 
 module _ (n : ℕ) (lows highs states : List ℕ) (from to k kept : ℕ) where
   pub route-refused : (refusal : Refusal)
@@ -52,14 +57,17 @@ module _ (n : ℕ) (lows highs states : List ℕ) (from to k kept : ℕ) where
       then-done (routeAnswer n lows highs states k from to (room 32) (room 1062) (room 32000)) _ values e
 
   pub cut-refused : (refusal : Refusal) → cutAnswer n lows highs states k (room 3000) ≡ refusalOf refusal
-      → sheetFor from to k (networkOf n lows highs states) ≡ refusalOf refusal
-  unfolding sheetFor
+      → cutStage from to k (networkOf n lows highs states) ≡ refusalOf refusal
+  unfolding cutStage passing sheetAnswers
   cut-refused refusal e = stage-refused _ _ refusal e
 
   pub cut-done : cutAnswer n lows highs states k (room 3000) ≡ done (kept ∷ [])
-      → sheetFor from to k (networkOf n lows highs states) ≡ routeStage from to k (networkOf n lows highs states) kept
-  unfolding sheetFor routeStage
-  cut-done e = then-done (cutAnswer n lows highs states k (room 3000)) _ (kept ∷ []) e
+      → cutStage from to k (networkOf n lows highs states) ≡ routeStage from to k (networkOf n lows highs states) kept
+  unfolding cutStage passing sheetAnswers sheetFor routeStage
+  cut-done e =
+      let answers = cut-total n lows highs states k (room 3000) (kept ∷ []) e .1 in
+      let counted : kept ≡ total (marksOf n lows highs states k) = cc in
+      then-done (cutAnswer n lows highs states k (room 3000)) _ (kept ∷ []) e ∙ rw (← counted)
 
 -- The lists of Route with links after a success: as many counts as routes, the relays of all of them, from which the counts cut the
 -- routes again, and their links, from which one less each time cuts them.
@@ -190,20 +198,17 @@ module _
 
 -- Read, and the stages behind it.
 abbrev pub readStage : (text : List ℕ) (from to k : ℕ) → Outcome Sheet
-readStage text from to k = andThen (readNetwork text 3000 3000 1000) (sheetFor from to k)
+readStage text from to k = andThen (readNetwork text 3000 3000 1000) (cutStage from to k)
 
 -- The wish, and all the rest.
 pub wish-departed : (input : List ℕ) (p : ℕ) → scanForm input wishForm 0 ≡ departs p → planned input ≡ refusalOf (Wish p)
-unfolding planned onScan
-wish-departed input p e = rw e
+unfolding planned
+wish-departed input p e = line-departed planner _ input p e
 
 pub wish-taken : (input : List ℕ) (from to k p : ℕ) → scanForm input wishForm 0 ≡ reads (from ∷ to ∷ k ∷ []) p
     → (p ≤ length input) × (planned input ≡ readStage (take (length input - p) (drop p input)) from to k)
-unfolding planned onScan
-wish-taken input from to k p e =
-    let all : take (length input - p) (drop p input) ≡ drop p input =
-    take-all (length input - p) (drop p input) (omega (arith, length-drop p input)) in
-    (read-line wishForm input 0 (from ∷ to ∷ k ∷ []) p wish-line (omega arith) e .1 .within, rw (e, all))
+unfolding planned cutStage
+wish-taken input from to k p e = line-taken planner _ input (from ∷ to ∷ k ∷ []) p wish-line e
 
 -- The whole output, from its first byte on.
 pub plan-put : (input before after : List ℕ) (next : ℕ) → length (planText input) ≤ length before

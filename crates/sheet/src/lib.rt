@@ -2,7 +2,8 @@
 ghost use mathlib.Core.Path.{_≡_};
 ghost use lib.ListN.{length};
 ghost use Rattle.definitions.specs.Lists.{overwrite};
-ghost use Rattle.definitions.specs.Plan.{planText, printAnswer, outputAfter};
+ghost use Rattle.definitions.specs.Program.{printAnswer, outputAfter};
+ghost use Rattle.definitions.specs.Plan.{planText};
 ghost use Rattle.program.specs.Into.{printOutcome};
 use network::Refusal;
 use program::into::PrintAnswer;

@@ -1,6 +1,7 @@
 // The planner's own lists for the routes and the output: zeros, and long enough for every network.
 ghost use mathlib.Core.Path.{_≡_};
-ghost use Rattle.definitions.specs.Plan.{room, outputRoom};
+ghost use Rattle.definitions.specs.Program.{room};
+ghost use Rattle.definitions.specs.Plan.{outputRoom};
 
 // How many relays each route has.
 pub(crate) fn counts() -> [u16; 32]

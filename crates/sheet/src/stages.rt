@@ -1,10 +1,11 @@
 // The planner's stages, the last one first: each prints the refusal that it meets, or hands on to the next.
 ghost use Prim.Native.Nat.{_≤_};
 ghost use lib.ListN.{length};
-ghost use Rattle.definitions.specs.Plan.{sheetFor, sheetText, printed};
+ghost use Rattle.definitions.specs.Program.{printed};
+ghost use Rattle.definitions.specs.Plan.{sheetText};
 ghost use Rattle.text.specs.Put.{Put};
 ghost use Rattle.program.specs.ReadStage.{networkOf};
-ghost use Rattle.sheet.specs.Stages.{routeStage, readStage};
+ghost use Rattle.sheet.specs.Stages.{routeStage, cutStage, readStage};
 use crate::print::put_sheet;
 use crate::rooms;
 use forests::CutAnswer;
@@ -73,8 +74,8 @@ fn plan_cut(
     to: u16,
     k: u16,
 ) -> usize
-    requires { ⌜ length (printed sheetText (sheetFor from to k (networkOf n (now lows) (now highs) (now states)))) ≤ length (now output) ⌝ }
-    ensures { λ r. ⌜ Put (now (output .entry)) 0 (printed sheetText (sheetFor from to k (networkOf n (now (lows .entry)) (now (highs .entry)) (now (states .entry)))))
+    requires { ⌜ length (printed sheetText (cutStage from to k (networkOf n (now lows) (now highs) (now states)))) ≤ length (now output) ⌝ }
+    ensures { λ r. ⌜ Put (now (output .entry)) 0 (printed sheetText (cutStage from to k (networkOf n (now (lows .entry)) (now (highs .entry)) (now (states .entry)))))
         (now (output .exit)) r ⌝ }
 {
     let mut marks = program::rooms::links();

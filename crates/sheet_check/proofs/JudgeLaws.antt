@@ -15,7 +15,8 @@ use Rattle.definitions.specs.Network.{tableCheck, Accepted}
 use Rattle.definitions.specs.Forests.{marksOf, cutAnswer}
 use Rattle.definitions.specs.Form.{byteAt, Scan, departs, reads, scanForm, onScan}
 use Rattle.definitions.specs.Text.{endForm}
-use Rattle.definitions.specs.Plan.{sheetForm, keptForm, Sheet, room}
+use Rattle.definitions.specs.Program.{room}
+use Rattle.definitions.specs.Plan.{sheetForm, keptForm, Sheet}
 use Rattle.definitions.specs.SheetForm.{routeFront, overFront, scanNumbers, readKept, readRoutes, readSheet}
 use Rattle.definitions.specs.SheetTest.{routesHold, sheetHolds, yesOrNo, sheetAnswer}
 use Rattle.definitions.specs.Verify.{behindOr}
@@ -53,7 +54,7 @@ cut-answers n lows highs states k marks table some few lent =
     then-done (tableCheck n lows highs states) _ [] table
     ∙ refuse-not (outside 1 32 k) 9 0 _ (inside 1 32 k some few)
     ∙ refuse-not (ltb (length marks) (length lows)) 12 0 last (le-ltb (length marks) (length lows) (omega (arith, long, short))) in
-    answered ∙ ap done (cut-passed n lows highs states k marks (total (marksOf n lows highs states k) ∷ []) table answered .counted)
+    answered ∙ ap done (cut-passed n lows highs states k marks (total (marksOf n lows highs states k) ∷ []) answered .counted)
 
 -- An answer that is one count is that count, and is no refusal.
 pub kept-is : (x y : ℕ) → done (x ∷ []) ≡ done (y ∷ []) → x ≡ y

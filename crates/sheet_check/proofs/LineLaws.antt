@@ -9,7 +9,7 @@ use Rattle.definitions.specs.Outcome.{done, Answer}
 use Rattle.definitions.specs.Lists.{overwrite}
 use Rattle.definitions.specs.Form.{bytes, Scan, departs, reads, scanWord, scanForm}
 use Rattle.definitions.specs.Text.{endForm}
-use Rattle.definitions.specs.Plan.{printed}
+use Rattle.definitions.specs.Program.{printed}
 use Rattle.definitions.specs.Verify.{behindOr, endBehind, networkSize, verified, verdictText, verifyText}
 use Rattle.text_theory.specs.Forms.{end-line}
 use Rattle.text_theory.specs.NetworkLines.{read-line}

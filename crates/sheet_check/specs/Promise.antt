@@ -13,11 +13,13 @@ use Rattle.definitions.specs.Network.{linkServes}
 use Rattle.definitions.specs.Forests.{marksOf}
 use Rattle.definitions.specs.Form.{bytes, reads, writeForm}
 use Rattle.definitions.specs.Text.{Network, readNetwork}
-use Rattle.definitions.specs.Plan.{sheetForm, refusedForm, Sheet, planned, sheetText, printed, planText}
+use Rattle.definitions.specs.Program.{refusedForm, printed}
+use Rattle.definitions.specs.Plan.{sheetForm, Sheet, planner, planned, sheetText, planText}
 use Rattle.definitions.specs.DisjointRoutes.{LinkOf, InService, AlongFrom, Along, RouteHolds}
 use Rattle.definitions.specs.Demand.{Kept}
 use Rattle.definitions.specs.SheetHolds.{SheetHolds}
-use Rattle.definitions.specs.SheetPromise.{Asked, SheetPrinted, RefusalPrinted}
+use Rattle.definitions.specs.Promised.{Asked, Answered}
+use Rattle.definitions.specs.SheetPromise.{SheetPrinted}
 use Rattle.definitions.specs.SheetTest.{sheetAnswer}
 use Rattle.definitions.specs.Verify.{networkSize, verified, verdictText, verifyText}
 use Rattle.definitions.specs.ReadBackPromise.{ReadBackPromise}
@@ -88,11 +90,11 @@ kept-serves n lows highs states k i less kept = go (linkServes lows highs states
 reads-same : (values others : List ℕ) (p q : ℕ) → reads values p ≡ reads others q → p ≡ q
 reads-same values others p q e = cc
 
-one-network : (input : List ℕ) (from to k from′ to′ k′ : ℕ) (network other : Network)
-    → Asked input from to k network → Asked input from′ to′ k′ other → network ≡ other
-one-network input from to k from′ to′ k′ network other asked again =
+one-network : (input wish wish′ : List ℕ) (network other : Network) → Asked planner input wish network → Asked planner input wish′ other
+    → network ≡ other
+one-network input wish wish′ network other asked again =
     let same : asked .behind ≡ again .behind =
-    reads-same (from ∷ to ∷ k ∷ []) (from′ ∷ to′ ∷ k′ ∷ []) (asked .behind) (again .behind) (sym (asked .wish) ∙ again .wish) in
+    reads-same wish wish′ (asked .behind) (again .behind) (sym (asked .line) ∙ again .line) in
     done-same network other
     (sym (asked .read) ∙ ap (λ (p : ℕ). readNetwork (drop p input) 3000 3000 1000) same ∙ again .read)
 
@@ -106,23 +108,24 @@ unfolding writeForm refusedForm
 refused-second values = refl
 
 -- What the planner prints for a wish that is not refused is answered with yes,
-printed-answer : (input : List ℕ) (from to k : ℕ) (network : Network) (sheet : Sheet) → Asked input from to k network
+printed-answer : (input wish : List ℕ) (network : Network) (sheet : Sheet) → Asked planner input wish network
     → planned input ≡ done sheet
     → sheetAnswer (network .relays) (network .lows) (network .highs) (network .states) (planText input) ≡ done (1 ∷ [])
 unfolding planText printed
-printed-answer input from to k network sheet asked e = go (sheet-promise input)
+printed-answer input wish network sheet asked e = go (sheet-promise .answered input)
   where
-    go : SheetPrinted input ⊎ RefusalPrinted input
+    go : Answered planner SheetPrinted input (planText input)
         → sheetAnswer (network .relays) (network .lows) (network .highs) (network .states) (planText input) ≡ done (1 ∷ [])
     go (inl found) =
-        let other = found .network in
+        let other = found .thing in
+        let one = found .holds in
         subst (λ (net : Network). sheetAnswer (net .relays) (net .lows) (net .highs) (net .states) (planText input) ≡ done (1 ∷ []))
-        (one-network input _ _ _ from to k other network (found .asked) asked)
-        (ap (sheetAnswer (other .relays) (other .lows) (other .highs) (other .states)) (found .text)
-        ∙ written-yes (other .relays) (other .lows) (other .highs) (other .states) (found .asked .accepted) (found .sheet)
+        (one-network input _ wish other network (found .asked) asked)
+        (ap (sheetAnswer (other .relays) (other .lows) (other .highs) (other .states)) (one .printed)
+        ∙ written-yes (other .relays) (other .lows) (other .highs) (other .states) (one .accepted) (one .sheet)
         (serving-sheet (other .lows) (other .highs) (other .states) _
-        (kept-serves (other .relays) (other .lows) (other .highs) (other .states) (found .sheet .k))
-        (other .relays) (found .sheet) (found .holds)))
+        (kept-serves (other .relays) (other .lows) (other .highs) (other .states) (one .sheet .k))
+        (other .relays) (one .sheet) (one .holds)))
     go (inr found) =
         let values = found .number ∷ found .place ∷ [] in
         let same : sheetText sheet ≡ writeForm refusedForm values = sym (ap (printed sheetText) e) ∙ found .text in
@@ -143,7 +146,7 @@ pub read-back-promise : ReadBackPromise
 read-back-promise =
     record {
       exact = said-exactly;
-      printed = λ input from to k network sheet asked e.
-          let answered = printed-answer input from to k network sheet asked e in
+      printed = λ input wish network sheet asked e.
+          let answered = printed-answer input wish network sheet asked e in
           record { answer = answered; line = line-holds (drop (asked .behind) input) (planText input) network (asked .read) answered };
     }

@@ -2,7 +2,7 @@
 ghost use mathlib.Core.Path.{_≡_};
 ghost use Prim.Native.Nat.{_≤_};
 ghost use lib.ListN.{length};
-ghost use Rattle.definitions.specs.Plan.{printed};
+ghost use Rattle.definitions.specs.Program.{printed};
 ghost use Rattle.definitions.specs.SheetTest.{sheetAnswer};
 ghost use Rattle.definitions.specs.Lists.{overwrite};
 ghost use Rattle.definitions.specs.Verify.{networkSize, verdictText, verifyText};

@@ -12,7 +12,7 @@ use Rattle.definitions.specs.Network.{Accepted}
 use Rattle.definitions.specs.Text.{Network, sized}
 use Rattle.definitions.specs.Dimacs.{importNetwork}
 use Rattle.definitions.specs.DimacsText.{Drawing, DrawingFits, dimacsText, judgedEdges, judged, Draws}
-use Rattle.definitions.specs.Plan.{printed}
+use Rattle.definitions.specs.Program.{printed}
 use Rattle.definitions.specs.Import.{networkText, importText}
 use Rattle.definitions.specs.ImportPromise.{ImportedAs, ImportPromise, PrintedRead}
 use Rattle.lists.specs.Outcomes.{refuse-not}

@@ -19,6 +19,7 @@ pub mod OutLengths
 pub mod Spans
 pub mod Reach
 pub mod Refusals
+pub mod Programs
 pub mod OutOrEnd
 pub mod RefusalTwo
 pub mod Longest

@@ -6,10 +6,10 @@ use mathlib.Core.List.{List, [], _∷_, _++_}
 use mathlib.Core.Path.{_≡_, refl, _∙_, ap}
 use native.Mathlib.Omega.{arith}
 use lib.Dec.{eqb, ltb, leb}
-use lib.ListN.{length, getD, take, drop, length-take}
+use lib.ListN.{length, getD, take, length-take}
 use lib.Seq.{getD-take}
 use borrow.Author.Tests.{lt-ltb, le-ltb, ltb-true, ltb-false, leb-false}
-use Rattle.definitions.specs.Outcome.{pick, Outcome, andThen}
+use Rattle.definitions.specs.Outcome.{pick, Outcome}
 use Rattle.definitions.specs.Lists.{outside}
 use Rattle.definitions.specs.Network.{linkFault}
 use Rattle.definitions.specs.Form.{
@@ -31,8 +31,7 @@ use Rattle.definitions.specs.Form.{
   decimal,
   writeForm,
 }
-use Rattle.definitions.specs.Text.{headerForm, linkForm, outForm, endForm, Network, withdrawn, readEnd, readOuts, readLinks, readNetwork}
-use Rattle.lists.specs.Front.{drop-take}
+use Rattle.definitions.specs.Text.{headerForm, linkForm, outForm, endForm, withdrawn, readEnd, readOuts, readLinks, readNetwork}
 use Rattle.lists.specs.Ranges.{inside-range}
 use Rattle.lists.specs.SameOutcomes.{refuse-same}
 use Rattle.lists.specs.Tests.{or-false}
@@ -229,16 +228,3 @@ network-reach n text roomLows roomHighs roomStates h =
     (λ room.
     let least = ltb-false 3000 links many in
     links-reach links n text relays [] [] p (inside-range 1 1000 relays size .1) (line .1 .within) (omega arith))))))
-
--- A line in front, and the network text behind it.
-pub front-reach : {A : Type 0} (form : List Item) (next : List ℕ → Network → Outcome A) (n : ℕ) (input : List ℕ)
-    → span 4 form + 54934 ≤ n
-    → onScan 1 (scanForm (take n input) form 0) (λ wish p. andThen (readNetwork (drop p (take n input)) 3000 3000 1000) (next wish))
-    ≡ onScan 1 (scanForm input form 0) (λ wish p. andThen (readNetwork (drop p input) 3000 3000 1000) (next wish))
-front-reach form next n input h =
-    rw (form-reach n input form 0 (omega arith))
-    (on-scan-same 1 (0 + span 4 form) (scanForm input form 0) _ _ (form-within form input 0)
-    (λ wish p e below.
-    ap (λ network. andThen network (next wish))
-    (ap (λ (rest : List ℕ). readNetwork rest 3000 3000 1000) (drop-take p n input)
-    ∙ network-reach (n - p) (drop p input) 3000 3000 1000 (omega arith))))

@@ -1,7 +1,7 @@
 -- `input::room` meets its contract: as many bytes as can matter. Assumes nothing.
 use Prim.Native.Nat.{ℕ}
 use lib.ListN.{length-replicate}
-use Rattle.definitions.specs.Plan.{inputRoom}
+use Rattle.definitions.specs.Program.{inputRoom}
 use Rattle.input.proofs.room.Statement.{statement}
 use Rattle.input.proofs.room.Tie as tie
 

@@ -4,12 +4,12 @@ use mathlib.Core.Path.{sym, _∙_, ap}
 use native.Mathlib.Omega.{arith}
 use denote.Ref.{now}
 use lib.ListN.{length}
-use Rattle.definitions.specs.Plan.{printed}
+use Rattle.definitions.specs.Program.{printed}
 use Rattle.definitions.specs.Lease.{leaseRoom, leased, leaseText, keepText}
 use Rattle.text.specs.Scans.{numberGives}
 use Rattle.program.specs.ReadStage.{fits-as, put-as}
 use Rattle.lease.specs.Longest.{keep-length}
-use Rattle.lease.specs.Stages.{line-departed, line-taken, keep-put}
+use Rattle.lease.specs.Stages.{keep-departed, keep-taken, keep-put}
 use borrow.Author.Needs.{needs}
 use Rattle.lease.proofs.keep.Statement.{statement}
 use Rattle.lease.proofs.keep.Tie as tie
@@ -28,7 +28,7 @@ put-refusal-requires c κs =
     let a = start .args in
     let bound : length (printed leaseText (leased (now (a .input)))) ≤ 66067 = keep-length (now (a .input)) in
     let line = fits-as _ _ _ _
-    (line-departed (now (a .input)) _ (sym (atKeepLine .keep-line .ensures) ∙ ap numberGives (c .before .before .p .given .1))) bound in
+    (keep-departed (now (a .input)) _ (sym (atKeepLine .keep-line .ensures) ∙ ap numberGives (c .before .before .p .given .1))) bound in
     omega arith
 
 enum-known-k : tie.Need-enum-known-k
@@ -39,14 +39,14 @@ sub-keep-network c =
     let atKeepLine = c .before .before .before .before in
     let start = atKeepLine .before .before in
     let a = start .args in
-    line-taken (now (a .input)) _ _ (sym (atKeepLine .keep-line .ensures) ∙ ap numberGives (c .before .before .k .given .1)) .0
+    keep-taken (now (a .input)) _ _ (sym (atKeepLine .keep-line .ensures) ∙ ap numberGives (c .before .before .k .given .1)) .0
 
 part-keep-network-start : tie.Need-part-keep-network-start
 part-keep-network-start c =
     let atKeepLine = c .before .before .before .before in
     let start = atKeepLine .before .before in
     let a = start .args in
-    line-taken (now (a .input)) _ _ (sym (atKeepLine .keep-line .ensures) ∙ ap numberGives (c .before .before .k .given .1)) .0
+    keep-taken (now (a .input)) _ _ (sym (atKeepLine .keep-line .ensures) ∙ ap numberGives (c .before .before .k .given .1)) .0
 
 part-keep-network-end : tie.Need-part-keep-network-end
 part-keep-network-end c = search needs
@@ -60,7 +60,7 @@ keep-network-requires c κs =
     let a = start .args in
     let bound : length (printed leaseText (leased (now (a .input)))) ≤ 66067 = keep-length (now (a .input)) in
     let lines = fits-as _ _ _ _
-    (line-taken (now (a .input)) _ _ (sym (atKeepLine .keep-line .ensures) ∙ ap numberGives (atK .k .given .1)) .1) bound in
+    (keep-taken (now (a .input)) _ _ (sym (atKeepLine .keep-line .ensures) ∙ ap numberGives (atK .k .given .1)) .1) bound in
     omega arith
 
 returns : tie.Need-returns
@@ -71,7 +71,7 @@ returns c =
     let start = atKeepLine .before .before in
     let a = start .args in
     keep-put (now (a .input)) _ _ _ (omega (arith, keep-length (now (a .input))))
-    (put-as _ _ _ _ _ _ (line-departed (now (a .input)) _ (sym (atKeepLine .keep-line .ensures) ∙ ap numberGives (atP .p .given .1))) (c .put-refusal .ensures))
+    (put-as _ _ _ _ _ _ (keep-departed (now (a .input)) _ (sym (atKeepLine .keep-line .ensures) ∙ ap numberGives (atP .p .given .1))) (c .put-refusal .ensures))
 
 returns-2 : tie.Need-returns-2
 unfolding leaseRoom
@@ -81,7 +81,7 @@ returns-2 c =
     let start = atKeepLine .before .before in
     let a = start .args in
     keep-put (now (a .input)) _ _ _ (omega (arith, keep-length (now (a .input))))
-    (put-as _ _ _ _ _ _ (line-taken (now (a .input)) _ _ (sym (atKeepLine .keep-line .ensures) ∙ ap numberGives (atK .k .given .1)) .1) (c .keep-network .ensures))
+    (put-as _ _ _ _ _ _ (keep-taken (now (a .input)) _ _ (sym (atKeepLine .keep-line .ensures) ∙ ap numberGives (atK .k .given .1)) .1) (c .keep-network .ensures))
 
 pub keep-spec : {M : Type 1} → statement M
 keep-spec =

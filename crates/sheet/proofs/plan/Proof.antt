@@ -5,7 +5,8 @@ use mathlib.Core.Path.{sym, _∙_, ap}
 use native.Mathlib.Omega.{arith}
 use denote.Ref.{now}
 use lib.ListN.{length}
-use Rattle.definitions.specs.Plan.{outputRoom, planned, sheetText, printed, planText}
+use Rattle.definitions.specs.Program.{printed}
+use Rattle.definitions.specs.Plan.{outputRoom, planned, sheetText, planText}
 use Rattle.sheet.specs.Wish.{wishGives}
 use Rattle.sheet.specs.Longest.{plan-length}
 use Rattle.program.specs.ReadStage.{fits-as, put-as}

@@ -1,6 +1,6 @@
 -- `lease::rooms::output` meets its contract: as many zeros as the output has room for. Assumes nothing.
 use mathlib.Core.Path.{refl}
-use Rattle.definitions.specs.Plan.{room}
+use Rattle.definitions.specs.Program.{room}
 use Rattle.definitions.specs.Lease.{leaseRoom}
 use Rattle.lease.proofs.rooms.output.Statement.{statement}
 use Rattle.lease.proofs.rooms.output.Tie as tie

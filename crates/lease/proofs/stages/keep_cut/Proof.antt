@@ -1,7 +1,7 @@
 -- `lease::stages::keep_cut` meets its contract: Cut refuses, or its marks give the lines of the list. Assumes nothing.
 use mathlib.Core.Path.{sym, _∙_, ap}
 use denote.Ref.{now}
-use Rattle.definitions.specs.Plan.{printed}
+use Rattle.definitions.specs.Program.{printed}
 use Rattle.forests.specs.Answers.{cutOutcome}
 use Rattle.program.specs.ReadStage.{fits-as, put-as, cut-rooms}
 use Rattle.lease.specs.Stages.{cut-refused, cut-marked}

@@ -2,7 +2,7 @@
 -- Assumes nothing.
 use mathlib.Core.Path.{sym}
 use lib.Seq.{length-take-le}
-use Rattle.definitions.specs.Plan.{printed}
+use Rattle.definitions.specs.Program.{printed}
 use Rattle.program.specs.ReadStage.{fits-as, put-as, loaded-refused, loaded-table}
 use borrow.Author.Needs.{needs}
 use Rattle.lease.proofs.stages.keep_network.Statement.{statement}

@@ -1,6 +1,6 @@
 -- `program::refusal::put_refused` meets its contract: three words, with the number and the place between them. Assumes nothing.
 use native.Mathlib.Nat.{zero-add}
-use Rattle.definitions.specs.Plan.{refusedForm}
+use Rattle.definitions.specs.Program.{refusedForm}
 use borrow.Author.Needs.{needs}
 use Rattle.program.proofs.refusal.put_refused.Statement.{statement}
 use Rattle.program.proofs.refusal.put_refused.Tie as tie

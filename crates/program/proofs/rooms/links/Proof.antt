@@ -1,6 +1,6 @@
 -- `program::rooms::links` meets its contract: 3,000 zeros. Assumes nothing.
 use mathlib.Core.Path.{refl}
-use Rattle.definitions.specs.Plan.{room}
+use Rattle.definitions.specs.Program.{room}
 use Rattle.program.proofs.rooms.links.Statement.{statement}
 use Rattle.program.proofs.rooms.links.Tie as tie
 

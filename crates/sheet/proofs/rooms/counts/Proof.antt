@@ -1,6 +1,6 @@
 -- `sheet::rooms::counts` meets its contract: 32 zeros. Assumes nothing.
 use mathlib.Core.Path.{refl}
-use Rattle.definitions.specs.Plan.{room}
+use Rattle.definitions.specs.Program.{room}
 use Rattle.sheet.proofs.rooms.counts.Statement.{statement}
 use Rattle.sheet.proofs.rooms.counts.Tie as tie
 

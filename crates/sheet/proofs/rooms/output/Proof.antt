@@ -1,6 +1,7 @@
 -- `sheet::rooms::output` meets its contract: as many zeros as the output has room for. Assumes nothing.
 use mathlib.Core.Path.{refl}
-use Rattle.definitions.specs.Plan.{room, outputRoom}
+use Rattle.definitions.specs.Program.{room}
+use Rattle.definitions.specs.Plan.{outputRoom}
 use Rattle.sheet.proofs.rooms.output.Statement.{statement}
 use Rattle.sheet.proofs.rooms.output.Tie as tie
 

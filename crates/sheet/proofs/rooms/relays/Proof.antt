@@ -1,6 +1,6 @@
 -- `sheet::rooms::relays` meets its contract: 1,062 zeros. Assumes nothing.
 use mathlib.Core.Path.{refl}
-use Rattle.definitions.specs.Plan.{room}
+use Rattle.definitions.specs.Program.{room}
 use Rattle.sheet.proofs.rooms.relays.Statement.{statement}
 use Rattle.sheet.proofs.rooms.relays.Tie as tie
 

@@ -1,6 +1,6 @@
 -- `sheet::rooms::route_links` meets its contract: 1,030 zeros. Assumes nothing.
 use mathlib.Core.Path.{refl}
-use Rattle.definitions.specs.Plan.{room}
+use Rattle.definitions.specs.Program.{room}
 use Rattle.sheet.proofs.rooms.route_links.Statement.{statement}
 use Rattle.sheet.proofs.rooms.route_links.Tie as tie
 

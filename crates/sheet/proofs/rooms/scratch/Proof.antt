@@ -1,6 +1,6 @@
 -- `sheet::rooms::scratch` meets its contract: 32,000 zeros. Assumes nothing.
 use mathlib.Core.Path.{refl}
-use Rattle.definitions.specs.Plan.{room}
+use Rattle.definitions.specs.Program.{room}
 use Rattle.sheet.proofs.rooms.scratch.Statement.{statement}
 use Rattle.sheet.proofs.rooms.scratch.Tie as tie
 

@@ -1,7 +1,7 @@
 -- `sheet::stages::plan_cut` meets its contract: Cut refuses, or Route goes on with its count. Assumes nothing.
 use mathlib.Core.Path.{sym, _∙_, ap}
 use denote.Ref.{now}
-use Rattle.definitions.specs.Plan.{printed}
+use Rattle.definitions.specs.Program.{printed}
 use Rattle.forests.specs.Answers.{cutOutcome}
 use Rattle.program.specs.ReadStage.{fits-as, put-as, cut-rooms}
 use Rattle.sheet.specs.Stages.{cut-refused, cut-done}

@@ -4,7 +4,7 @@ use mathlib.Core.List.{List}
 use mathlib.Core.Path.{sym, _∙_, ap, subst}
 use denote.Ref.{now}
 use lib.ListN.{length}
-use Rattle.definitions.specs.Plan.{printed}
+use Rattle.definitions.specs.Program.{printed}
 use Rattle.text.specs.Put.{Put}
 use Rattle.routes.specs.Answers.{routeOutcome}
 use Rattle.program.specs.ReadStage.{fits-as, put-as}

@@ -1,6 +1,6 @@
 -- `sheet_check::line::put_line` meets its contract: the line of each answer. Assumes nothing.
 use mathlib.Core.Path.{sym, _∙_, ap}
-use Rattle.definitions.specs.Plan.{printed}
+use Rattle.definitions.specs.Program.{printed}
 use Rattle.sheet_check.specs.Answers.{sheetOutcome}
 use Rattle.sheet_check.proofs.LineLaws.{line-of, holds-line, fails-line}
 use borrow.Author.Needs.{needs}

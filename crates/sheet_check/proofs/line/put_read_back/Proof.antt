@@ -2,7 +2,7 @@
 -- Assumes nothing.
 use mathlib.Core.Path.{sym}
 use lib.Seq.{length-take-le}
-use Rattle.definitions.specs.Plan.{printed}
+use Rattle.definitions.specs.Program.{printed}
 use Rattle.program.specs.ReadStage.{loaded-refused, loaded-table}
 use Rattle.sheet_check.proofs.LineLaws.{line-of}
 use borrow.Author.Needs.{needs}

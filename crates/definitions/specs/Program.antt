@@ -1,0 +1,63 @@
+-- What every program of ours is, said once: a line in front that asks, what is read behind it, the operations that are called in turn,
+-- and a text. Each program adds what is its own. Assumes nothing.
+use Prim.Native.Nat.{ℕ}
+use mathlib.Core.List.{List, [], _∷_}
+use lib.Dec.{ltb}
+use lib.ListN.{length, drop, replicate}
+use Rattle.definitions.specs.Outcome.{Outcome, refused, done, Answer, refuseIf, andThen, ifDone}
+use Rattle.definitions.specs.Lists.{overwrite}
+use Rattle.definitions.specs.Form.{bytes, Item, word, numeral, scanForm, onScan, writeForm}
+use Rattle.definitions.specs.Text.{Network, readNetwork}
+
+-- The form of the line in front, or no items where there is none; the reader of what stands behind it; and, for the numbers of the
+-- line and what was read, the answers of the operations that are called, in turn.
+pub record Program (A : Type 0) : Type 0 where
+  pub form : List Item
+  pub read : (text : List ℕ) → Outcome A
+  pub answers : (numbers : List ℕ) (thing : A) → List Answer
+
+-- The first of the answers that is a refusal stands; where none is, the value is given.
+unfoldable pub passing : {B : Type 0} (answers : List Answer) (value : B) → Outcome B
+passing [] value = done value
+passing (answer ∷ answers) value = andThen answer λ _. passing answers value
+
+-- "the first refusal met is the one printed": 1 where the line in front departs from its form, at the byte; then the reader's, whose
+-- "Offsets .. count from the first byte after that line"; then those of the operations. Else a value of the numbers and what was read.
+unfoldable pub outcomeOf : {A B : Type 0} (program : Program A) (value : List ℕ → A → B) (input : List ℕ) → Outcome B
+outcomeOf program value input =
+    onScan 1 (scanForm input (program .form) 0) λ numbers p.
+    andThen (program .read (drop p input)) λ thing.
+    passing (program .answers numbers thing) (value numbers thing)
+
+unfoldable pub refusedForm : List Item
+refusedForm = word (bytes "(refused ") ∷ numeral ∷ word (bytes " ") ∷ numeral ∷ word (bytes ")\n") ∷ []
+
+-- "A refusal prints only `(refused NUMBER PLACE)`, PLACE with as many digits as it takes." Else the text of what is done.
+unfoldable pub printed : {A : Type 0} (textOf : A → List ℕ) (outcome : Outcome A) → List ℕ
+printed textOf (refused number place) = writeForm refusedForm (number ∷ place ∷ [])
+printed textOf (done value) = textOf value
+
+-- One of a program's own lists: zeros.
+unfoldable pub room : (size : ℕ) → List ℕ
+room size = replicate size 0
+
+-- The bytes of its input that a program takes in at most: a longer input is answered from these alone.
+unfoldable pub inputRoom : ℕ
+inputRoom = 54956
+
+-- What an operation gives for a network.
+abbrev pub on : {B : Type 0} (network : Network) (operation : ℕ → List ℕ → List ℕ → List ℕ → B) → B
+on network operation = operation (network .relays) (network .lows) (network .highs) (network .states)
+
+-- The reader of a network text with a program's own lists, which are long enough for every network.
+abbrev pub ownRead : (text : List ℕ) → Outcome Network
+ownRead text = readNetwork text 3000 3000 1000
+
+-- A text that is to be printed into a lent list, for the C interface: 12 where the list is shorter than the text. The answer is
+-- the text's length.
+unfoldable pub printAnswer : (text output : List ℕ) → Answer
+printAnswer text output = refuseIf (ltb (length output) (length text)) 12 0 (done (length text ∷ []))
+
+-- The list afterwards.
+unfoldable pub outputAfter : (text output : List ℕ) → List ℕ
+outputAfter text output = ifDone (printAnswer text output) (overwrite text output) output
