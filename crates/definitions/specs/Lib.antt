@@ -19,6 +19,8 @@ pub mod SheetHolds
 pub mod Promised
 pub mod SheetPromise
 pub mod LeasePromise
+pub mod Sure
+pub mod SurePromise
 pub mod SheetForm
 pub mod SheetTest
 pub mod Verify
@@ -35,5 +37,6 @@ pub mod OtherExamples
 pub mod SheetExamples
 pub mod StateExamples
 pub mod LastTwoExamples
+pub mod SureExamples
 pub mod ImportExamples
 pub mod Astray

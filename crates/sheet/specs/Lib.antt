@@ -8,5 +8,6 @@ pub mod Routes
 pub mod Overs
 pub mod Longest
 pub mod Promise
+pub mod Sure
 pub mod LinkRooms
 pub mod Stages
