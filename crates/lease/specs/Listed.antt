@@ -4,7 +4,7 @@ use Prim.Native.Nat.{ℕ, _≤_}
 use mathlib.Core.List.{List, [], _∷_}
 use mathlib.Core.Path.{_≡_, refl, sym, _∙_}
 use native.Mathlib.Omega.{arith}
-use lib.ListN.{getD, drop}
+use lib.ListN.{getD}
 use Rattle.definitions.specs.Outcome.{done}
 use Rattle.definitions.specs.Lists.{outside}
 use Rattle.definitions.specs.Network.{Accepted}
@@ -23,9 +23,9 @@ use Rattle.text_theory.specs.Forms.{
   Line,
 }
 use Rattle.text_theory.specs.NetworkLines.{read-line}
-use Rattle.text_theory.specs.RoundTrip.{written-read}
 use Rattle.text_theory.specs.Programs.{AllDone, outcome-done}
 use Rattle.program.specs.CutPassed.{cut-passed}
+use Rattle.program.specs.ReadStage.{asked-accepted}
 
 pub keep-line : Line keepForm
 unfolding wellFormed wellFormedBehind goodWord noZero outside endsInNumber keepForm
@@ -80,7 +80,7 @@ listed-links input lease e =
     record {
       k = k;
       network = found .thing;
-      accepted = written-read (drop (found .asked .behind) input) 3000 3000 1000 (found .thing) (found .asked .read) .1;
+      accepted = asked-accepted keepForm leaseAnswers input (found .numbers) (found .thing) (found .asked);
       few = in-range (found .numbers) (found .thing) (found .passed) .1;
       leaseIs = sym (found .valueIs) ∙ lease-is k (found .thing);
     }

@@ -3,15 +3,15 @@ use Prim.Native.Nat.{ℕ}
 use mathlib.Core.List.{List}
 use mathlib.Core.Path.{sym, ap, subst}
 use native.Mathlib.Omega.{arith}
-use lib.ListN.{getD, drop}
+use lib.ListN.{getD}
 use Rattle.definitions.specs.Promised.{Answered}
 use Rattle.definitions.specs.Lease.{keepForm, leaseAnswers, keeper, leased, leaseText, keepText}
 use Rattle.definitions.specs.LeasePromise.{LeaseHolds, LeasePrinted, LeasePromise}
 use Rattle.lists.specs.RefusedWithin.{RefusedAs}
 use Rattle.text_theory.specs.Spans.{span}
-use Rattle.text_theory.specs.RoundTrip.{written-read}
 use Rattle.text_theory.specs.Programs.{AnswersAs, answered}
 use Rattle.program.specs.Printable.{Printable, cut-printable, network-printable, roomy}
+use Rattle.program.specs.ReadStage.{asked-accepted}
 use Rattle.lease.specs.Reach.{keep-reach}
 use Rattle.lease.specs.Listed.{line-read, in-range, lease-is}
 use Rattle.lease.specs.KeptLinks.{lease-holds}
@@ -30,7 +30,7 @@ lease-answered input =
     answered keeper _ input leaseText LeasePrinted (roomy (leased input) (leased-printable input))
     (λ line network asked passed.
     let k = getD line 0 0 in
-    let good = written-read (drop (asked .behind) input) 3000 3000 1000 network (asked .read) .1 in
+    let good = asked-accepted keepForm leaseAnswers input line network asked in
     record {
       k = k;
       asked = line-read input line network asked;

@@ -7,7 +7,7 @@ use mathlib.Core.Logic.{_⊎_, inl, inr, _≢_}
 use mathlib.Core.Path.{_≡_, refl}
 use native.Mathlib.Omega.{arith}
 use lib.Dec.{eqb, ltb}
-use lib.ListN.{length, drop}
+use lib.ListN.{length}
 use borrow.Author.Tests.{eqb-false, ne-eqb, le-ltb}
 use Rattle.definitions.specs.Outcome.{Outcome, Answer}
 use Rattle.definitions.specs.Lists.{outside}
@@ -21,9 +21,8 @@ use Rattle.lists.specs.RefusedWithin.{RefusedAs, as-more, refuse-as}
 use Rattle.theory.specs.Accepted.{accepted}
 use Rattle.text_theory.specs.Spans.{span, written-span}
 use Rattle.text_theory.specs.Refusals.{ReadRefusal, network-within}
-use Rattle.text_theory.specs.RoundTrip.{written-read}
 use Rattle.text_theory.specs.Programs.{AnswersAs, outcome-as}
-use Rattle.program.specs.ReadStage.{length-room}
+use Rattle.program.specs.ReadStage.{length-room, asked-accepted}
 
 pub record Printable (number place : ℕ) : Type 0 where
   pub low : number ≤ 17
@@ -66,7 +65,7 @@ pub network-printable : {B : Type 0} (form : List Item) (answers : List ℕ → 
 network-printable form answers value input short after =
     outcome-as (record { form = form; read = ownRead; answers = answers }) value input Printable
     (λ place below. printable 1 place (omega arith) (omega arith) refl refl) read-printable
-    (λ numbers network asked. after numbers network (written-read (drop (asked .behind) input) 3000 3000 1000 network (asked .read) .1))
+    (λ numbers network asked. after numbers network (asked-accepted form answers input numbers network asked))
 
 -- Neither 8 nor 12.
 pub roomy : {B : Type 0} (outcome : Outcome B) → RefusedAs Printable outcome

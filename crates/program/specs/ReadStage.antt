@@ -6,13 +6,14 @@ use mathlib.Core.Path.{_≡_, sym, _∙_, ap, subst}
 use native.Mathlib.Omega.{arith}
 use lib.ListN.{length, take, drop, length-drop, length-append, length-replicate}
 use lib.Seq.{take-all, take-append-seam}
-use Rattle.definitions.specs.Outcome.{Outcome, refused, done, andThen}
+use Rattle.definitions.specs.Outcome.{Outcome, refused, done, Answer, andThen}
 use Rattle.definitions.specs.Lists.{overwrite, zeroed}
 use Rattle.definitions.specs.Forests.{cutAnswer}
 use Rattle.definitions.specs.Network.{Accepted}
 use Rattle.definitions.specs.Text.{Network, readNetwork, countsOf, readAnswer, filled, lowsAfter, highsAfter, statesAfter}
-use Rattle.definitions.specs.Form.{departs, reads, scanForm, onScan}
-use Rattle.definitions.specs.Program.{Program, passing, outcomeOf, room, printed}
+use Rattle.definitions.specs.Form.{Item, departs, reads, scanForm, onScan}
+use Rattle.definitions.specs.Program.{Program, passing, outcomeOf, room, ownRead, printed}
+use Rattle.definitions.specs.Promised.{Asked}
 use Rattle.lists.specs.Outcomes.{then-done}
 use Rattle.lists.specs.SameOutcomes.{done-then}
 use Rattle.theory.specs.Accepted.{accepted, accepted-states}
@@ -183,6 +184,12 @@ unfolding readAnswer lowsAfter highsAfter statesAfter
 read-loads text lows highs states answer lowsNow highsNow statesNow low high state told =
     reading-loads (readNetwork text) lows highs states answer lowsNow highsNow statesNow low high state
     (λ network e. written-read text (length lows) (length highs) (length states) network e .1) told
+
+-- The network that was asked about is an accepted one.
+pub asked-accepted : (form : List Item) (answers : List ℕ → Network → List Answer) (input numbers : List ℕ) (network : Network)
+    → Asked (record { form = form; read = ownRead; answers = answers }) input numbers network
+    → Accepted (network .relays) (network .lows) (network .highs) (network .states)
+asked-accepted form answers input numbers network asked = written-read (drop (asked .behind) input) 3000 3000 1000 network (asked .read) .1
 
 -- The line in front departs, or it is taken and the rest is read.
 module _ {A B : Type 0} (program : Program A) (value : List ℕ → A → B) (input : List ℕ) where

@@ -13,7 +13,7 @@ use Rattle.definitions.specs.Route.{routesOf}
 use Rattle.definitions.specs.Over.{oversOf}
 use Rattle.definitions.specs.Form.{bytes, decimal, writeForm}
 use Rattle.definitions.specs.Text.{Network, endForm}
-use Rattle.definitions.specs.Program.{refusedForm, room, printed}
+use Rattle.definitions.specs.Program.{room, printed}
 use Rattle.definitions.specs.Plan.{sheetForm, keptForm, Sheet, outputRoom, planned, spaced, numbersLine, routeLines, sheetText, planText}
 use Rattle.lists.specs.Counting.{count-length}
 use Rattle.lists.specs.RefusedWithin.{RefusedAs}

@@ -3,18 +3,18 @@
 use Prim.Native.Nat.{ℕ}
 use mathlib.Core.List.{List}
 use mathlib.Core.Path.{refl, ap}
-use lib.ListN.{getD, drop}
+use lib.ListN.{getD}
 use Rattle.definitions.specs.Forests.{marksOf}
 use Rattle.definitions.specs.Text.{Network}
 use Rattle.definitions.specs.Program.{room}
 use Rattle.definitions.specs.Promised.{Answered}
-use Rattle.definitions.specs.Plan.{Sheet, sheetFor, planner, planned, sheetText, planText}
+use Rattle.definitions.specs.Plan.{wishForm, Sheet, sheetFor, sheetAnswers, planner, planned, sheetText, planText}
 use Rattle.definitions.specs.Demand.{Kept}
 use Rattle.definitions.specs.SheetHolds.{SheetHolds}
 use Rattle.definitions.specs.SheetPromise.{SheetPrinted, SheetPromise}
-use Rattle.text_theory.specs.RoundTrip.{written-read}
 use Rattle.text_theory.specs.Programs.{answered}
 use Rattle.program.specs.Printable.{roomy}
+use Rattle.program.specs.ReadStage.{asked-accepted}
 use Rattle.sheet.specs.Planned.{route-passed, sheetOf, keptOf, SheetFor, sheet-for, wish-read}
 use Rattle.sheet.specs.Reach.{plan-reach}
 use Rattle.sheet.specs.Refusals.{planned-printable}
@@ -58,7 +58,7 @@ sheet-answered input =
       sheet = sheetOf from to k network (keptOf k network);
       wished = wish-read input wish network asked .numbers;
       printed = ap sheetText (given .sheetIs);
-      accepted = written-read (drop (asked .behind) input) 3000 3000 1000 network (asked .read) .1;
+      accepted = asked-accepted wishForm sheetAnswers input wish network asked;
       holds = sheet-holds from to k network (sheetFor from to k network) given;
     })
 

@@ -7,7 +7,7 @@ use mathlib.Core.Logic.{_⊎_, inl, inr}
 use mathlib.Core.Path.{_≡_, refl, sym, _∙_, ap}
 use native.Mathlib.Omega.{arith}
 use lib.Dec.{ltb}
-use lib.ListN.{length, getD, take, drop}
+use lib.ListN.{length, getD, take}
 use borrow.Author.Tests.{ltb-true, ltb-false}
 use Rattle.definitions.specs.Outcome.{pick}
 use Rattle.definitions.specs.Lists.{outside}
@@ -29,11 +29,10 @@ use Rattle.theory.specs.Places.{relays-after, relay-entry}
 use Rattle.theory.specs.LastTwo.{last-two}
 use Rattle.text_theory.specs.Spans.{span}
 use Rattle.text_theory.specs.Reach.{network-reach}
-use Rattle.text_theory.specs.RoundTrip.{written-read}
 use Rattle.text_theory.specs.Programs.{AnswersAs, answered, outcome-reach}
 use Rattle.program.specs.Printable.{network-printable, roomy}
-use Rattle.program.specs.ReadStage.{length-room}
-use Rattle.sheet.specs.Planned.{sheetOf, keptOf, SheetFor, kept-ones}
+use Rattle.program.specs.ReadStage.{length-room, asked-accepted}
+use Rattle.sheet.specs.Planned.{sheetOf, keptOf, kept-ones}
 use Rattle.sheet.specs.Refusals.{rooms-fit}
 use Rattle.sheet.specs.Promise.{sheet-holds}
 
@@ -139,7 +138,7 @@ sure-answered input =
     answered surer (λ _ network. network) input figureText SurePrinted
     (roomy (outcomeOf surer (λ _ network. network) input) (network-printable [] (λ _ _. []) (λ _ network. network) input (omega arith) (λ _ _ _. tt)))
     (λ numbers network asked _.
-    figured numbers network (written-read (drop (asked .behind) input) 3000 3000 1000 network (asked .read) .1))
+    figured numbers network (asked-accepted [] (λ _ _. []) input numbers network asked))
 
 -- An input of any length is answered from its first bytes.
 pub sure-reach : (n : ℕ) (input : List ℕ) → inputRoom ≤ n → sureText (take n input) ≡ sureText input

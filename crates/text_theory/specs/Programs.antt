@@ -7,9 +7,9 @@ use mathlib.Core.Path.{_≡_, refl, sym, _∙_, ap, subst}
 use native.Mathlib.Omega.{arith}
 use lib.ListN.{take, drop}
 use Rattle.definitions.specs.Outcome.{Outcome, refused, done, Answer, andThen}
-use Rattle.definitions.specs.Form.{departs, reads, scanForm, onScan}
+use Rattle.definitions.specs.Form.{departs, reads, scanForm}
 use Rattle.definitions.specs.Program.{Program, passing, outcomeOf, printed}
-use Rattle.definitions.specs.Promised.{Asked, FirstOf, FirstRefusal, inLine, inText, inWork, Given, Refused, Answered}
+use Rattle.definitions.specs.Promised.{Asked, FirstOf, FirstRefusal, inLine, inText, inWork, Answered}
 use Rattle.lists.specs.Front.{drop-take}
 use Rattle.lists.specs.RefusedWithin.{RefusedAs, then-as}
 use Rattle.lists.specs.SameOutcomes.{done-same, done-then, refused-then}
