@@ -9,7 +9,7 @@ use Rattle.definitions.specs.Outcome.{refused, done}
 use Rattle.definitions.specs.Form.{bytes, writeForm}
 use Rattle.definitions.specs.Text.{Network, headerForm, linkForm, outForm, endForm, readAnswer, lowsAfter, highsAfter, statesAfter, writeAnswer, bufferAfter}
 use Rattle.definitions.specs.Plan.{planText}
-use Rattle.definitions.specs.Lease.{keepText}
+use Rattle.definitions.specs.Keep.{keepText}
 use Rattle.definitions.specs.Networks.{
   Result,
   Example,

@@ -9,7 +9,7 @@ use Rattle.definitions.specs.Outcome.{refused, done, Answer}
 use Rattle.definitions.specs.Form.{bytes}
 use Rattle.definitions.specs.Text.{Network, readAnswer, statesAfter, textOf}
 use Rattle.definitions.specs.Plan.{planText}
-use Rattle.definitions.specs.Lease.{keepText}
+use Rattle.definitions.specs.Keep.{keepText}
 use Rattle.definitions.specs.SheetTest.{sheetAnswer}
 use Rattle.definitions.specs.Networks.{
   Example,

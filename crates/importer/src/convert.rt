@@ -9,7 +9,7 @@ ghost use Rattle.definitions.specs.Dimacs.{importNetwork};
 ghost use Rattle.definitions.specs.Import.{importText};
 ghost use Rattle.program.specs.ReadStage.{Loads};
 ghost use Rattle.importer.specs.Printed.{Printed};
-use dimacs::import;
+use import::import;
 use program::refusal::put_any;
 use program::rooms;
 use text::ReadAnswer;

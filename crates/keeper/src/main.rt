@@ -1,5 +1,5 @@
 // The keeper: reads a line `(keep K)` and a network text from standard input and prints the list of links, or the refusal.
-ghost use Rattle.definitions.specs.Lease.{keepText};
+ghost use Rattle.definitions.specs.Keep.{keepText};
 ghost use Rattle.input.specs.Whole.{Enough, Answered};
 use libc::STDERR_FILENO;
 use libc::STDOUT_FILENO;
@@ -15,8 +15,8 @@ fn hand_over(bytes: &[u8], ended: bool, list: &[u8])
 fn answer(bytes: &[u8], ended: bool)
     requires { ⌜ Enough (now bytes) ended ⌝ }
 {
-    let mut output = lease::rooms::output();
-    let size = lease::keep(bytes, &mut output);
+    let mut output = keep::rooms::output();
+    let size = keep::keep(bytes, &mut output);
     hand_over(bytes, ended, &output[..size]);
 }
 

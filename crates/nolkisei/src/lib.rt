@@ -10,7 +10,7 @@ ghost use Rattle.definitions.specs.Over.{routeLinksAnswer, routeLinksCounts, ro
 ghost use Rattle.definitions.specs.Route.{routeAnswer, countsAfter, routeRelaysAfter, scratchAfter};
 ghost use Rattle.definitions.specs.Program.{printAnswer, outputAfter};
 ghost use Rattle.definitions.specs.Plan.{planText};
-ghost use Rattle.definitions.specs.Lease.{keepText};
+ghost use Rattle.definitions.specs.Keep.{keepText};
 ghost use Rattle.definitions.specs.SheetTest.{sheetAnswer};
 ghost use Rattle.nolkisei.specs.Reported.{reported};
 
@@ -22,8 +22,8 @@ use forests::SplitAnswer;
 use network::Relay;
 use program::into::PrintAnswer;
 use routes::RouteAnswer;
-use sheet_check::SheetAnswer;
 use text::WriteAnswer;
+use verify::SheetAnswer;
 
 // The table check.
 #[no_mangle]
@@ -84,7 +84,7 @@ pub extern "C" fn nolkisei_import(
     ensures highList { λ _. ⌜ now (highs .exit) ≡ importHighs (now (text .entry)) (now (lows .entry)) (now (highs .entry)) (now (states .entry)) ⌝ }
     ensures stateList { λ _. ⌜ now (states .exit) ≡ importStates (now (text .entry)) (now (lows .entry)) (now (highs .entry)) (now (states .entry)) ⌝ }
 {
-    report::table(dimacs::import(text, lows, highs, states), answer)
+    report::table(import::import(text, lows, highs, states), answer)
 }
 
 // Write: the text of a table into the buffer.
@@ -263,7 +263,7 @@ pub extern "C" fn nolkisei_plan(input: &[u8], output: &mut [u8], answer: &mut [u
     ensures answer { λ r. ⌜ reported (printAnswer (planText (now (input .entry))) (now (output .entry))) ≡ (r, now (answer .exit)) ⌝ }
     ensures bytes { λ _. ⌜ now (output .exit) ≡ outputAfter (planText (now (input .entry))) (now (output .entry)) ⌝ }
 {
-    match sheet::plan_into(input, output) {
+    match plan::plan_into(input, output) {
         PrintAnswer::Printed(size) => report::give(size as u64, 0, answer),
         PrintAnswer::Refused(refusal) => report::refuse(refusal, answer),
     }
@@ -275,7 +275,7 @@ pub extern "C" fn nolkisei_keep(input: &[u8], output: &mut [u8], answer: &mut [u
     ensures answer { λ r. ⌜ reported (printAnswer (keepText (now (input .entry))) (now (output .entry))) ≡ (r, now (answer .exit)) ⌝ }
     ensures bytes { λ _. ⌜ now (output .exit) ≡ outputAfter (keepText (now (input .entry))) (now (output .entry)) ⌝ }
 {
-    match lease::keep_into(input, output) {
+    match keep::keep_into(input, output) {
         PrintAnswer::Printed(size) => report::give(size as u64, 0, answer),
         PrintAnswer::Refused(refusal) => report::refuse(refusal, answer),
     }
@@ -293,7 +293,7 @@ pub extern "C" fn nolkisei_verify(
 ) -> u32
     ensures { λ r. ⌜ reported (sheetAnswer n (now (lows .entry)) (now (highs .entry)) (now (states .entry)) (now (text .entry))) ≡ (r, now (answer .exit)) ⌝ }
 {
-    match sheet_check::check_sheet(n, lows, highs, states, text) {
+    match verify::check_sheet(n, lows, highs, states, text) {
         SheetAnswer::Holds => report::give(1, 0, answer),
         SheetAnswer::Fails => report::give(0, 0, answer),
         SheetAnswer::Refused(refusal) => report::refuse(refusal, answer),

@@ -15,8 +15,8 @@ fn hand_over(bytes: &[u8], ended: bool, sheet: &[u8])
 fn answer(bytes: &[u8], ended: bool)
     requires { ⌜ Enough (now bytes) ended ⌝ }
 {
-    let mut output = sheet::rooms::output();
-    let size = sheet::plan(bytes, &mut output);
+    let mut output = plan::rooms::output();
+    let size = plan::plan(bytes, &mut output);
     hand_over(bytes, ended, &output[..size]);
 }
 

@@ -25,8 +25,8 @@ fn hand_over(bytes: &[u8], ended: bool, line: &[u8])
 fn answer(bytes: &[u8], ended: bool)
     requires { ⌜ ended ≡ true ⌝ }
 {
-    let mut output = sheet_check::line::output();
-    let size = sheet_check::line::verify(bytes, &mut output);
+    let mut output = verify::line::output();
+    let size = verify::line::verify(bytes, &mut output);
     hand_over(bytes, ended, &output[..size]);
 }
 

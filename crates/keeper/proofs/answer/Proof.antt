@@ -2,10 +2,10 @@
 use mathlib.Core.Path.{sym}
 use denote.Ref.{now}
 use lib.Seq.{length-take-le}
-use Rattle.definitions.specs.Lease.{keepText}
+use Rattle.definitions.specs.Keep.{keepText}
 use Rattle.input.specs.Whole.{answered}
 use Rattle.program.specs.Front.{front-within, front-is}
-use Rattle.lease.specs.Reach.{keep-reach}
+use Rattle.keep.specs.Reach.{keep-reach}
 use borrow.Author.Needs.{needs}
 use Rattle.keeper.proofs.answer.Statement.{statement}
 use Rattle.keeper.proofs.answer.Tie as tie

@@ -1,6 +1,6 @@
 -- `nolkisei::nolkisei_verify` meets its contract: what is said of the sheet is reported. Assumes nothing.
 use mathlib.Core.Path.{sym, _∙_, ap}
-use Rattle.sheet_check.specs.Answers.{sheetOutcome}
+use Rattle.verify.specs.Answers.{sheetOutcome}
 use Rattle.nolkisei.specs.Reported.{reported, reported-one}
 use borrow.Author.Needs.{needs}
 use Rattle.nolkisei.proofs.nolkisei_verify.Statement.{statement}

@@ -5,7 +5,7 @@ use lib.Seq.{length-take-le}
 use Rattle.definitions.specs.Plan.{planText}
 use Rattle.input.specs.Whole.{answered}
 use Rattle.program.specs.Front.{front-within, front-is}
-use Rattle.sheet.specs.Reach.{plan-reach}
+use Rattle.plan.specs.Reach.{plan-reach}
 use borrow.Author.Needs.{needs}
 use Rattle.planner.proofs.answer.Statement.{statement}
 use Rattle.planner.proofs.answer.Tie as tie

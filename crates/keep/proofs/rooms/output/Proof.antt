@@ -1,0 +1,13 @@
+-- `keep::rooms::output` meets its contract: as many zeros as the output has room for. Assumes nothing.
+use mathlib.Core.Path.{refl}
+use Rattle.definitions.specs.Program.{room}
+use Rattle.definitions.specs.Keep.{leaseRoom}
+use Rattle.keep.proofs.rooms.output.Statement.{statement}
+use Rattle.keep.proofs.rooms.output.Tie as tie
+
+returns : tie.Need-returns
+unfolding room leaseRoom
+returns c = refl
+
+pub output-spec : {M : Type 1} → statement M
+output-spec = tie.close (tie.spec returns)

@@ -1,0 +1,101 @@
+-- `keep::stages::keep_cut` meets its contract: Cut refuses, or its marks give the lines of the list. Assumes nothing.
+use mathlib.Core.Path.{sym, _∙_, ap}
+use denote.Ref.{now}
+use Rattle.definitions.specs.Program.{printed}
+use Rattle.forests.specs.Answers.{cutOutcome}
+use Rattle.program.specs.ReadStage.{fits-as, put-as, cut-rooms}
+use Rattle.keep.specs.Stages.{cut-refused, cut-marked}
+use borrow.Author.Needs.{needs}
+use Rattle.keep.proofs.stages.keep_cut.Statement.{statement}
+use Rattle.keep.proofs.stages.keep_cut.Tie as tie
+
+links-requires : tie.Need-links-requires
+links-requires c κs = search needs
+
+slice-aggregate-cut : tie.Need-slice-aggregate-cut
+slice-aggregate-cut c = search needs
+
+cut-requires : tie.Need-cut-requires
+cut-requires c κs = search needs
+
+enum-known-refusal : tie.Need-enum-known-refusal
+enum-known-refusal c = search needs
+
+put-refusal-requires : tie.Need-put-refusal-requires
+unfolding printed
+put-refusal-requires c κs =
+    let atRefusal = c .before .before in
+    let atCut = atRefusal .before .before .before in
+    let atLinks = atCut .before .before in
+    let start = atLinks .before .before .before .before .before in
+    let a = start .args in
+    fits-as _ _ _ _ (cut-refused (a .n) (now (a .lows)) (now (a .highs)) (now (a .states)) (a .k) (atRefusal .refusal .given .0 .0)
+    (cut-rooms (a .n) (now (a .lows)) (now (a .highs)) (now (a .states)) (a .k) _ (atLinks .links .ensures) _
+    (sym (atCut .cut .ensures .0) ∙ ap cutOutcome (atRefusal .refusal .given .1)))) (start .pre .1)
+
+enum-known-kept : tie.Need-enum-known-kept
+enum-known-kept c = search needs
+
+slice-aggregate-put-list : tie.Need-slice-aggregate-put-list
+slice-aggregate-put-list c = search needs
+
+cast-put-list : tie.Need-cast-put-list
+cast-put-list c = search needs
+
+put-list-requires : tie.Need-put-list-requires
+put-list-requires c κs =
+    let atKept = c .before .before .before in
+    let atCut = atKept .before .before .before in
+    let atLinks = atCut .before .before in
+    let start = atLinks .before .before .before .before .before in
+    let a = start .args in
+    let marked = cut-marked (a .n) (now (a .lows)) (now (a .highs)) (now (a .states)) (a .k) _ _ _ (start .pre .0) (atLinks .links .ensures)
+    (sym (atCut .cut .ensures .0) ∙ ap cutOutcome (atKept .kept .given .1)) (atCut .cut .ensures .1) in
+    ((marked .inHighs, marked .inMarks, marked .inStates), (marked .few, rw (marked .lines) at (start .pre .1)))
+
+same-length : tie.Need-same-length
+same-length c = search needs
+
+returns : tie.Need-returns
+unfolding printed
+returns c =
+    let atRefusal = c .before .before .before .before .before in
+    let atCut = atRefusal .before .before .before in
+    let atLinks = atCut .before .before in
+    let start = atLinks .before .before .before .before .before in
+    let a = start .args in
+    put-as _ _ _ _ _ _ (cut-refused (a .n) (now (a .lows)) (now (a .highs)) (now (a .states)) (a .k) (atRefusal .refusal .given .0 .0)
+    (cut-rooms (a .n) (now (a .lows)) (now (a .highs)) (now (a .states)) (a .k) _ (atLinks .links .ensures) _
+    (sym (atCut .cut .ensures .0) ∙ ap cutOutcome (atRefusal .refusal .given .1)))) (c .before .before .put-refusal .ensures)
+
+same-length-2 : tie.Need-same-length-2
+same-length-2 c = search needs
+
+returns-2 : tie.Need-returns-2
+returns-2 c =
+    let atKept = c .before .before .before .before .before .before in
+    let atCut = atKept .before .before .before in
+    let atLinks = atCut .before .before in
+    let start = atLinks .before .before .before .before .before in
+    let a = start .args in
+    let marked = cut-marked (a .n) (now (a .lows)) (now (a .highs)) (now (a .states)) (a .k) _ _ _ (start .pre .0) (atLinks .links .ensures)
+    (sym (atCut .cut .ensures .0) ∙ ap cutOutcome (atKept .kept .given .1)) (atCut .cut .ensures .1) in
+    rw (marked .lines) (c .before .before .put-list .ensures)
+
+pub keep-cut-spec : {M : Type 1} → statement M
+keep-cut-spec =
+    tie.close
+    (tie.spec
+    links-requires
+    slice-aggregate-cut
+    cut-requires
+    enum-known-refusal
+    put-refusal-requires
+    enum-known-kept
+    slice-aggregate-put-list
+    cast-put-list
+    put-list-requires
+    same-length
+    returns
+    same-length-2
+    returns-2)

@@ -1,0 +1,152 @@
+-- The promise of a sheet that is read back, `VerifyPromise`. Rests on the planner's own promise, `PlanPromise`: what it prints
+-- for a wish that is not refused is a sheet that holds.
+use Prim.Native.Nat.{ℕ, _<_}
+use mathlib.Core.Bool.{Bool, true, false}
+use mathlib.Core.List.{List, [], _∷_, _++_}
+use mathlib.Core.Logic.{inl, inr}
+use mathlib.Core.Path.{_≡_, refl, sym, _∙_, ap, subst}
+use native.Mathlib.Omega.{arith}
+use lib.ListN.{length, getD, drop}
+use lib.Seq.{take-append-seam, drop-append-seam}
+use Rattle.definitions.specs.Outcome.{done}
+use Rattle.definitions.specs.Network.{linkServes}
+use Rattle.definitions.specs.Forests.{marksOf}
+use Rattle.definitions.specs.Form.{bytes, reads, writeForm}
+use Rattle.definitions.specs.Text.{Network, readNetwork}
+use Rattle.definitions.specs.Program.{refusedForm, printed}
+use Rattle.definitions.specs.Plan.{sheetForm, Sheet, planner, planned, sheetText, planText}
+use Rattle.definitions.specs.DisjointRoutes.{LinkOf, InService, AlongFrom, Along, RouteHolds}
+use Rattle.definitions.specs.Demand.{Kept}
+use Rattle.definitions.specs.SheetHolds.{SheetHolds}
+use Rattle.definitions.specs.Promised.{Asked, Answered}
+use Rattle.definitions.specs.PlanPromise.{SheetPrinted}
+use Rattle.definitions.specs.SheetTest.{sheetAnswer}
+use Rattle.definitions.specs.Verify.{networkSize, verified, verdictText, verifyText}
+use Rattle.definitions.specs.VerifyPromise.{VerifyPromise}
+use Rattle.lists.specs.Outcomes.{then-done}
+use Rattle.lists.specs.SameOutcomes.{done-same}
+use Rattle.theory.specs.Columns.{no-mark, mark-entry}
+use Rattle.text_theory.specs.NetworkFront.{network-front}
+use Rattle.plan.specs.Promise.{sheet-promise}
+use Rattle.verify.specs.Exact.{said-exactly}
+use Rattle.verify.specs.Written.{written-yes}
+
+-- A sheet that holds along links that the property picks, all of them with both ends in service, holds along links in service.
+module _ (lows highs states : List ℕ) (picked : ℕ → Type 0)
+    (serving : (i : ℕ) → i < length lows → picked i → InService lows highs states i) where
+  serving-from : (a : ℕ) (rest : List ℕ) → AlongFrom (LinkOf lows highs picked) a rest
+      → AlongFrom (LinkOf lows highs (InService lows highs states)) a rest
+  serving-from a [] along = tt
+  serving-from a (b ∷ rest) along =
+      let l = along .0 in
+      ((l .0, l .1, l .2, serving (l .0) (l .1) (l .3)), serving-from b rest (along .1))
+
+  serving-along : (route : List ℕ) → Along (LinkOf lows highs picked) route → Along (LinkOf lows highs (InService lows highs states)) route
+  serving-along [] along = tt
+  serving-along (a ∷ rest) along = serving-from a rest along
+
+  serving-route : {n from to : ℕ} (route : List ℕ) → RouteHolds n lows highs states picked from to route
+      → RouteHolds n lows highs states (InService lows highs states) from to route
+  serving-route route holds =
+      record {
+        long = holds .long;
+        starts = holds .starts;
+        ends = holds .ends;
+        along = serving-along route (holds .along);
+        through = holds .through;
+        noRepeat = holds .noRepeat;
+      }
+
+  serving-sheet : (n : ℕ) (sheet : Sheet) → SheetHolds n lows highs states picked sheet
+      → SheetHolds n lows highs states (InService lows highs states) sheet
+  serving-sheet n sheet holds =
+      record {
+        some = holds .some;
+        few = holds .few;
+        many = holds .many;
+        differ = holds .differ;
+        disjoint =
+            record {
+              each = λ i less. serving-route (getD (sheet .routes) i []) (holds .disjoint .each i less);
+              apart = holds .disjoint .apart;
+            };
+        manyOvers = holds .manyOvers;
+        over = holds .over;
+        kept = holds .kept;
+      }
+
+-- A kept link has both ends in service.
+kept-serves : (n : ℕ) (lows highs states : List ℕ) (k i : ℕ) → i < length lows → Kept (marksOf n lows highs states k) i
+    → InService lows highs states i
+kept-serves n lows highs states k i less kept = go (linkServes lows highs states i) refl
+  where
+    go : (b : Bool) → linkServes lows highs states i ≡ b → b ≡ true
+    go true e = refl
+    go false e =
+        let none = no-mark n lows highs states k i less e (marksOf n lows highs states k) (mark-entry n lows highs states k) in
+        absurd (omega (arith, none, kept))
+
+-- One input asks for one network.
+reads-same : (values others : List ℕ) (p q : ℕ) → reads values p ≡ reads others q → p ≡ q
+reads-same values others p q e = cc
+
+one-network : (input wish wish′ : List ℕ) (network other : Network) → Asked planner input wish network → Asked planner input wish′ other
+    → network ≡ other
+one-network input wish wish′ network other asked again =
+    let same : asked .behind ≡ again .behind =
+    reads-same wish wish′ (asked .behind) (again .behind) (sym (asked .line) ∙ again .line) in
+    done-same network other
+    (sym (asked .read) ∙ ap (λ (p : ℕ). readNetwork (drop p input) 3000 3000 1000) same ∙ again .read)
+
+-- A sheet and the line of a refusal part at the second byte.
+sheet-second : (sheet : Sheet) → getD (sheetText sheet) 1 0 ≡ 115
+unfolding sheetText writeForm sheetForm
+sheet-second sheet = refl
+
+refused-second : (values : List ℕ) → getD (writeForm refusedForm values) 1 0 ≡ 114
+unfolding writeForm refusedForm
+refused-second values = refl
+
+-- What the planner prints for a wish that is not refused is answered with yes,
+printed-answer : (input wish : List ℕ) (network : Network) (sheet : Sheet) → Asked planner input wish network
+    → planned input ≡ done sheet
+    → sheetAnswer (network .relays) (network .lows) (network .highs) (network .states) (planText input) ≡ done (1 ∷ [])
+unfolding planText printed
+printed-answer input wish network sheet asked e = go (sheet-promise .answered input)
+  where
+    go : Answered planner SheetPrinted input (planText input)
+        → sheetAnswer (network .relays) (network .lows) (network .highs) (network .states) (planText input) ≡ done (1 ∷ [])
+    go (inl found) =
+        let other = found .thing in
+        let one = found .holds in
+        subst (λ (net : Network). sheetAnswer (net .relays) (net .lows) (net .highs) (net .states) (planText input) ≡ done (1 ∷ []))
+        (one-network input _ wish other network (found .asked) asked)
+        (ap (sheetAnswer (other .relays) (other .lows) (other .highs) (other .states)) (one .printed)
+        ∙ written-yes (other .relays) (other .lows) (other .highs) (other .states) (one .accepted) (one .sheet)
+        (serving-sheet (other .lows) (other .highs) (other .states) _
+        (kept-serves (other .relays) (other .lows) (other .highs) (other .states) (one .sheet .k))
+        (other .relays) (one .sheet) (one .holds)))
+    go (inr found) =
+        let values = found .number ∷ found .place ∷ [] in
+        let same : sheetText sheet ≡ writeForm refusedForm values = sym (ap (printed sheetText) e) ∙ found .text in
+        absurd (omega (arith, sheet-second sheet, refused-second values, ap (λ (l : List ℕ). getD l 1 0) same))
+
+-- and behind a network text, a sheet that is answered with yes gets the line for yes.
+line-holds : (text sheetBytes : List ℕ) (network : Network) → readNetwork text 3000 3000 1000 ≡ done network
+    → sheetAnswer (network .relays) (network .lows) (network .highs) (network .states) sheetBytes ≡ done (1 ∷ [])
+    → verifyText (text ++ sheetBytes) ≡ bytes "(holds)\n"
+unfolding verifyText verified verdictText printed
+line-holds text sheetBytes network read answered =
+    let size : networkSize (text ++ sheetBytes) ≡ length text = network-front text 3000 3000 1000 network read sheetBytes in
+    rw (size, take-append-seam text sheetBytes, drop-append-seam text sheetBytes)
+    (ap (printed verdictText) (then-done (readNetwork text 3000 3000 1000) _ network read ∙ answered))
+
+-- Yes is said exactly where the sheet holds, and of every sheet that the program prints.
+pub read-back-promise : VerifyPromise
+read-back-promise =
+    record {
+      exact = said-exactly;
+      printed = λ input wish network sheet asked e.
+          let answered = printed-answer input wish network sheet asked e in
+          record { answer = answered; line = line-holds (drop (asked .behind) input) (planText input) network (asked .read) answered };
+    }

@@ -1,0 +1,100 @@
+// A network text and behind it a sheet's text come in; the line that says whether the sheet holds goes out, or the refused line.
+ghost use mathlib.Core.Path.{_≡_};
+ghost use Prim.Native.Nat.{_≤_};
+ghost use lib.ListN.{length};
+ghost use Rattle.definitions.specs.Program.{printed};
+ghost use Rattle.definitions.specs.SheetTest.{sheetAnswer};
+ghost use Rattle.definitions.specs.Lists.{overwrite};
+ghost use Rattle.definitions.specs.Verify.{networkSize, verdictText, verifyText};
+ghost use Rattle.program.specs.RefusedLine.{LinePut};
+ghost use Rattle.verify.specs.Line.{readBackFrom};
+use crate::SheetAnswer;
+use crate::check_sheet;
+use program::load::load;
+use program::refusal::put_any;
+use program::rooms;
+use text::ReadAnswer;
+use text::put;
+use text::scan;
+use text::scan::WordScan;
+
+// The bytes for every line: `(refused NUMBER PLACE)` with two numbers of twenty digits has as many.
+pub const OUTPUT: usize = 52;
+
+pub fn output() -> [u8; OUTPUT] {
+    [0u8; OUTPUT]
+}
+
+// How many bytes of the input are the network's text: up to its first `(end)`, line end included.
+fn network_size(input: &[u8]) -> usize
+    ensures { λ r. ⌜ r ≡ networkSize (now (input .entry)) ⌝ }
+{
+    let mut p: usize = 0;
+    while p < input.len() {
+        match scan::word(input, b"(end)\n", p) {
+            WordScan::Departs(_) => {
+                p += 1;
+            }
+            WordScan::Reads(q) => {
+                return q;
+            }
+        }
+    }
+    p
+}
+
+// The line for a sheet that is read back with this table.
+fn put_line(
+    output: &mut [u8],
+    n: u16,
+    lows: &[u16],
+    highs: &[u16],
+    states: &[u16],
+    text: &[u8],
+) -> usize
+    requires { ⌜ 52 ≤ length (now output) ⌝ }
+    ensures { λ r. ⌜ LinePut (now (output .entry))
+        (printed verdictText (sheetAnswer n (now (lows .entry)) (now (highs .entry)) (now (states .entry)) (now (text .entry))))
+        (now (output .exit)) r ⌝ }
+{
+    match check_sheet(n, lows, highs, states, text) {
+        SheetAnswer::Refused(refusal) => put_any(output, refusal),
+        SheetAnswer::Holds => put::put_word(output, 0, b"(holds)\n"),
+        SheetAnswer::Fails => put::put_word(output, 0, b"(fails)\n"),
+    }
+}
+
+// The network is read, and then the sheet.
+pub(crate) fn put_read_back(output: &mut [u8], network: &[u8], text: &[u8]) -> usize
+    requires { ⌜ 52 ≤ length (now output) ⌝ }
+    ensures { λ r. ⌜ LinePut (now (output .entry)) (printed verdictText (readBackFrom (now (network .entry)) (now (text .entry))))
+        (now (output .exit)) r ⌝ }
+{
+    let mut lows = rooms::links();
+    let mut highs = rooms::links();
+    let mut states = rooms::states();
+    match load(network, &mut lows, &mut highs, &mut states) {
+        ReadAnswer::Refused(refusal) => put_any(output, refusal),
+        ReadAnswer::Table(n, m) => {
+            let size = m as usize;
+            let relays = n as usize;
+            put_line(
+                output,
+                n,
+                &lows[..size],
+                &highs[..size],
+                &states[..relays],
+                text,
+            )
+        }
+    }
+}
+
+// Prints the line for an input, from the output's first byte on, and gives its length.
+pub fn verify(input: &[u8], output: &mut [u8; OUTPUT]) -> usize
+    ensures length { λ r. ⌜ r ≡ length (verifyText (now (input .entry))) ⌝ }
+    ensures bytes { λ _. ⌜ now (output .exit) ≡ overwrite (verifyText (now (input .entry))) (now (output .entry)) ⌝ }
+{
+    let size = network_size(input);
+    put_read_back(output, &input[..size], &input[size..])
+}
