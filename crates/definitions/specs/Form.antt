@@ -1,6 +1,6 @@
 -- The forms of every text that is read or printed: words with numbers between them, as bytes.
 -- Reading goes from left to right and tells the first byte that departs. Assumes nothing.
-use Prim.Native.Nat.{ℕ, zero, suc, _+_, _-_, _*_, _/_, _%_}
+use Prim.Native.Nat.{ℕ, zero, suc, _+_, _-_, _*_, _/_, _%_, _<_}
 use Prim.Native.Char.{code}
 use Prim.Native.String.{String, [] as noChars, _∷_ as _then_}
 use mathlib.Core.List.{List, [], _∷_, _++_}
@@ -88,3 +88,11 @@ writeForm [] values = []
 writeForm (word w ∷ items) values = w ++ writeForm items values
 writeForm (numeral ∷ items) [] = []
 writeForm (numeral ∷ items) (x ∷ values) = decimal x ++ writeForm items values
+
+-- As many numbers as the form has, each of at most four digits.
+abbrev pub Fits : List Item → List ℕ → Type 0
+Fits [] [] = Unit {0}
+Fits [] (x ∷ values) = ⊥
+Fits (word w ∷ items) values = Fits items values
+Fits (numeral ∷ items) [] = ⊥
+Fits (numeral ∷ items) (x ∷ values) = (x < 10000) × Fits items values

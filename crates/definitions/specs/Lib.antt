@@ -9,6 +9,9 @@ pub mod Route
 pub mod Over
 pub mod Form
 pub mod Text
+pub mod Departs
+pub mod RefusalTwo
+pub mod DemandTwo
 pub mod Program
 pub mod Plan
 pub mod Keep
@@ -22,10 +25,10 @@ pub mod KeepPromise
 pub mod Sure
 pub mod SurePromise
 pub mod SheetForm
+pub mod RefusalFourteen
 pub mod SheetTest
 pub mod Verify
 pub mod VerifyPromise
-pub mod Departs
 pub mod Dimacs
 pub mod DimacsText
 pub mod Import

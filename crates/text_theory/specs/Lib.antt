@@ -20,6 +20,7 @@ pub mod Spans
 pub mod Reach
 pub mod Refusals
 pub mod Programs
+pub mod Standing
 pub mod OutOrEnd
 pub mod RefusalTwo
 pub mod Longest
