@@ -26,6 +26,13 @@ pub refuse-not : {A : Type 0} (b : Bool) (number place : ℕ) (rest : Outcome A)
 unfolding refuseIf
 refuse-not b number place rest e = rw e refl
 
+-- Where a refusal comes from what follows only if it comes from something else too, it comes from that.
+pub refused-also : {A : Type 0} (b : Bool) (number place : ℕ) (one other : Outcome A) (r q : ℕ)
+    → refuseIf b number place one ≡ refused r q → (one ≡ refused r q → other ≡ refused r q) → refuseIf b number place other ≡ refused r q
+unfolding refuseIf
+refused-also true number place one other r q e after = e
+refused-also false number place one other r q e after = after e
+
 -- A step that might have refused and did not.
 pub refuse-passed : {A : Type 0} (b : Bool) (number place : ℕ) (rest : Outcome A) → refuseIf b number place rest ≢ refused number place
     → refuseIf b number place rest ≡ rest

@@ -45,5 +45,7 @@ pub mod DrawnFrom
 pub mod DimacsRead
 pub mod DimacsBegun
 pub mod DimacsAgree
+pub mod FrontDecides
+pub mod FrontRefused
 pub mod RefusalEighteen
 pub mod ImportProof
