@@ -51,8 +51,8 @@ pub record LastTwoHolds (n : ℕ) (lows highs states : List ℕ) (k : ℕ) (rela
       → (routes : List (List ℕ)) → RoutesInService n lows highs states from to routes
       → length routes ≤ sureFigure n lows highs states relays
 
--- For every accepted network with at least two relays in service, every k from 1 to 32, and every list long enough lent to Order
--- and Cut.
+-- #107 is this, for every accepted network that has two relays in service or more, every k from 1 to 32, and all lists long enough that
+-- are lent to Order and Cut.
 abbrev pub LastTwo : Type 0
 LastTwo =
     (n : ℕ) (lows highs states : List ℕ) → Accepted n lows highs states → 2 ≤ inServiceCount n states

@@ -1,4 +1,6 @@
 -- What the planner's papers mean, a module a subject. Read them in this order.
+-- 'Assumes nothing.' at the head of a file says that it defines or shows what it does for every value of the arguments: each condition that
+-- is asked stands in the statement that asks it.
 pub mod Outcome
 pub mod Lists
 pub mod Network

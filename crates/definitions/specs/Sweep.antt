@@ -49,7 +49,8 @@ unfoldable pub startSlot : {A : Type 0} (look : Look A) (s t i : ℕ) → Slot A
 startSlot look s t i =
     record { isOpen = true; pathA = look .left i s ∷ look .start s ∷ []; pathB = look .start t ∷ [] }
 
--- "If v = t: close A(i) and B(i) for each A(i) ending at t; to every other B(i) append left(i, t)."
+-- "If v = t: close A(i) and B(i) for each A(i) ending at t; to every other B(i) append left(i, t)." Every path is open until then; were
+-- there no left(i, t), B(i) would stay as it is.
 unfoldable pub slotAtT : {A : Type 0} (look : Look A) (t : ℕ) (slot : Slot A) (i : ℕ) → Slot A
 slotAtT look t slot i =
     pick (eqb (endOf (look .place) (slot .pathA)) t)
