@@ -2,7 +2,7 @@
 -- document 02, #104 puts first.
 -- Over any test `linked`, any rising list of candidate relays and any first relay; `orderOf` takes the relays in service and
 -- `firstRelay`.
-use Prim.Native.Nat.{ℕ, zero, suc, _+_, pred}
+use Prim.Native.Nat.{ℕ, zero, suc, pred}
 use mathlib.Core.Bool.{Bool, _&&_, _||_, not}
 use mathlib.Core.List.{List, [], _∷_, _++_}
 use lib.Dec.{ltb}

@@ -1,7 +1,7 @@
 -- Document 01, 'The sweep' (document 002, Algorithm 2), in places, over an arbitrary look-up of left(i, v), k, s and t.
 -- s is the later and t the earlier of the two places. A path is a list with its end first; what stands in it is what the look-up
 -- gives, a place alone or a place with more.
-use Prim.Native.Nat.{ℕ, zero, suc, _+_, pred}
+use Prim.Native.Nat.{ℕ, zero, suc, pred}
 use mathlib.Core.Bool.{Bool, true, false, _&&_, _||_}
 use mathlib.Core.List.{List, [], _∷_, _++_, map, reverse, tail}
 use lib.Dec.{eqb, ltb}

@@ -5,9 +5,8 @@ use mathlib.Core.Path.{_≡_, sym, _∙_, ap}
 use native.Mathlib.Omega.{arith}
 use lib.Dec.{ltb}
 use lib.ListN.{length}
-use Rattle.definitions.specs.Outcome.{Outcome, refused, done}
+use Rattle.definitions.specs.Outcome.{refused}
 use Rattle.definitions.specs.Form.{onScan, writeForm}
-use Rattle.definitions.specs.Text.{Network, sized}
 use Rattle.definitions.specs.Departs.{Begins}
 use Rattle.definitions.specs.Dimacs.{problemForm, edgeForm, lowEnd, highEnd, edgeFault, readEdges, importNetwork}
 use Rattle.definitions.specs.DimacsText.{EdgeLine, commentLines, edgeLines, EdgesFit, judgedEdges, Front, frontText, FrontFits, judgedFront}

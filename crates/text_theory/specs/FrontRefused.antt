@@ -8,7 +8,7 @@ use mathlib.Core.Path.{_≡_, refl, sym, _∙_, ap}
 use native.Mathlib.Omega.{arith}
 use lib.Dec.{ltb}
 use lib.ListN.{length, getD, drop}
-use Rattle.definitions.specs.Outcome.{Outcome, refused, done, refuseIf}
+use Rattle.definitions.specs.Outcome.{Outcome, refused, refuseIf}
 use Rattle.definitions.specs.Form.{Scan, departs, reads, onScan, writeForm}
 use Rattle.definitions.specs.Text.{Network, sized}
 use Rattle.definitions.specs.Departs.{Begins}

@@ -1,6 +1,6 @@
 -- Behind the link lines two forms are due at once, an out line and the end line. They part at the second byte, which decides which
 -- of them the reader goes by: it departs where the text departs from the later of the two. Assumes nothing.
-use Prim.Native.Nat.{ℕ, zero, suc, _+_, max, _≤_, _<_}
+use Prim.Native.Nat.{ℕ, zero, suc, _+_, _≤_, _<_}
 use mathlib.Core.Bool.{Bool, true, false}
 use mathlib.Core.List.{List, [], _∷_}
 use mathlib.Core.Logic.{_≢_}
@@ -25,7 +25,6 @@ use Rattle.definitions.specs.Form.{
   writeForm,
 }
 use Rattle.definitions.specs.Text.{outForm, endForm, Network, allStates, readEnd, readOuts}
-use Rattle.definitions.specs.Departs.{DepartsAt}
 use Rattle.definitions.specs.RefusalTwo.{BothDepart, EndDeparts, outOrEndDue, nothingDue}
 use Rattle.lists.specs.Parts.{Part}
 use Rattle.theory.specs.Accepted.{ProperStates}

@@ -9,7 +9,7 @@ use lib.ListN.{length, getD, length-append}
 use lib.Seq.{append-snoc}
 use borrow.Author.Tests.{le-ltb}
 use Rattle.definitions.specs.Outcome.{done}
-use Rattle.definitions.specs.Lists.{outside, AllBelow}
+use Rattle.definitions.specs.Lists.{outside}
 use Rattle.definitions.specs.Form.{bytes, byteAt, onScan, writeForm, Fits}
 use Rattle.definitions.specs.Text.{endForm}
 use Rattle.definitions.specs.Plan.{sheetForm, keptForm, Sheet, numbersLine, routeLines, sheetText}

@@ -6,7 +6,6 @@ use mathlib.Core.List.{List}
 use mathlib.Core.Path.{_≡_, refl}
 use native.Mathlib.Omega.{arith}
 use lib.Dec.{eqb}
-use lib.ListN.{length}
 use Rattle.definitions.specs.Network.{serves, Accepted}
 use Rattle.definitions.specs.Order.{relaysAfter, placesAfter}
 use Rattle.definitions.specs.Forests.{forestsAfter, marksAfter}
