@@ -115,19 +115,23 @@ unfolding opened
 thirteen-with-routes = (
   refl,
   record {
-    long = omega arith;
-    starts = refl;
-    ends = refl;
-    along = ((0, omega arith, refl, refl), ((1, omega arith, refl, refl), tt));
-    through = square-through 1 (omega arith);
+    runs = record {
+      long = omega arith;
+      starts = refl;
+      ends = refl;
+      along = ((0, omega arith, refl, refl), ((1, omega arith, refl, refl), tt));
+      through = square-through 1 (omega arith);
+    };
     noRepeat = (refl, (refl, (refl, tt)));
   },
   record {
-    long = omega arith;
-    starts = refl;
-    ends = refl;
-    along = ((3, omega arith, refl, refl), ((2, omega arith, refl, refl), tt));
-    through = square-through 3 (omega arith);
+    runs = record {
+      long = omega arith;
+      starts = refl;
+      ends = refl;
+      along = ((3, omega arith, refl, refl), ((2, omega arith, refl, refl), tt));
+      through = square-through 3 (omega arith);
+    };
     noRepeat = (refl, (refl, (refl, tt)));
   },
   record { relays = square-relays; links = square-links },

@@ -48,8 +48,9 @@ unfoldable pub cutUp : (counts relays : List ℕ) → List (List ℕ)
 cutUp [] relays = []
 cutUp (size ∷ counts) relays = take size relays ∷ cutUp counts (drop size relays)
 
--- The routes that Route's two lists give: k of them along kept links, and how many relays were written in all, "the sum of the k
--- counts, which is also Route's answer".
+-- The routes that Route's two lists give: k of them. "Each runs along kept links and repeats no relay, and no two have a common link or a
+-- common relay but the ends. At most n − 2 + 2k relays are written in all." These are "the sum of the k counts, which is also Route's
+-- answer". Two different relays make n at least 2, so n − 2 is not cut off at 0.
 pub record RoutesHold (n : ℕ) (lows highs states marks : List ℕ) (k from to : ℕ) (counts relays : List ℕ) : Type 0 where
   pub number : length (cutUp (take k counts) relays) ≡ k
   pub disjoint : DisjointRoutes n lows highs states (Kept marks) from to (cutUp (take k counts) relays)
@@ -72,9 +73,10 @@ pub record RouteDelivers
 abbrev pub inServiceCount : (n : ℕ) (states : List ℕ) → ℕ
 inServiceCount n states = length (servingRelays n states)
 
--- The order as Order's two lists give it: each turns the other's numbers back, "for every two vertices v < w, v has at least as
--- many neighbors in {1, …, v − 1} as w has" (document 002, section 2), and "the first relay is the one with the most links, of
--- equals the lowest number" (document 02, #104). It is an order of the relays in service: "a withdrawn relay has place 0" (#105).
+-- What Order's two lists say: an order of the relays in service, its list of relays and its list of places each undoing the other, where
+-- "a withdrawn relay has place 0" (document 02, #105). It is maximal: "for every two vertices v < w, v has at least as many neighbors in ..
+-- as w has", between the dots those before v (document 002, section 2). And "the first relay is the one with the most links, of equals
+-- the lowest number" (document 02, #104).
 pub record MaximalOrder (n : ℕ) (lows highs states relays places : List ℕ) : Type 0 where
   pub placed : (r : ℕ) → r < n → serves states r ≡ true
       → (1 ≤ getD places r 0) × (getD places r 0 ≤ inServiceCount n states) × (getD relays (getD places r 0 - 1) 0 ≡ r)
@@ -92,21 +94,23 @@ pub record MaximalOrder (n : ℕ) (lows highs states relays places : List ℕ) :
 -- The results of the four together, for one network, one k, and lists that were lent to Order, Split and Cut.
 pub record Holds (n : ℕ) (lows highs states : List ℕ) (k : ℕ) (relays places forests marks : List ℕ) : Type 0 where
   pub order : MaximalOrder n lows highs states relays places
-  -- "whichever fewer than k relays are dead, two live ones are joined through live relays over the kept links exactly when
-  -- they are over all the links"
+  -- "Whichever relays are found dead afterwards, if they are fewer than k, any two different live ones are joined through live relays
+  -- over the kept links exactly when they are joined through live relays over all the links."
   pub survives : (dead : ℕ → Bool) → deadCount n states dead < k → (a b : ℕ) → Live n states dead a → Live n states dead b
       → Joined (Live n states dead) (LinkOf lows highs (Kept marks)) a b
       ↔ Joined (Live n states dead) (LinkOf lows highs (InService lows highs states)) a b
-  -- "forest i holds at most n − i links", for every i from 1 to n, and "n in the bound on forests, also where it ends the range of i,
-  -- counts relays in service"; each link with both ends in service is in one of these forests,
+  -- "Forest i holds at most n − i links, for every i from 1 to n", where "n in the bound on forests, also where it ends the range of i,
+  -- counts relays in service" (document 02, #105). Each link with both ends in service is in one of these forests;
   pub bound : (i : ℕ) → 1 ≤ i → i ≤ inServiceCount n states → count (eqb i) (take (length lows) forests) ≤ inServiceCount n states - i
   pub inOne : (i : ℕ) → i < length lows → InService lows highs states i
       → (1 ≤ getD forests i 0) × (getD forests i 0 < inServiceCount n states)
-  -- and a withdrawn relay's "links belong to no forest and carry mark 0": so "The counts of the forests add up to the links with both
+  -- of a withdrawn relay "its links belong to no forest and carry mark 0". So "The counts of the forests add up to the links with both
   -- ends in service".
   pub inNone : (i : ℕ) → i < length lows → linkServes lows highs states i ≡ false → (getD forests i 0 ≡ 0) × (getD marks i 0 ≡ 0)
   pub addUp : total (table (λ i. count (eqb i) (take (length lows) forests)) 1 (inServiceCount n states))
       ≡ count (linkServes lows highs states) (table (λ i. i) 0 (length lows))
+  -- "Whichever two different relays of one tree of forest k are named as ends, in either order, Route, with lists long enough, gives k
+  -- routes from the first to the second."
   pub routes : (from to : ℕ) → Serving n states from → Serving n states to → from ≢ to
       → (counts routeRelays scratch : List ℕ)
       → tooShort n k counts routeRelays scratch ≡ false
@@ -115,7 +119,8 @@ pub record Holds (n : ℕ) (lows highs states : List ℕ) (k : ℕ) (relays plac
       (countsAfter n lows highs states k from to counts routeRelays scratch)
       (routeRelaysAfter n lows highs states k from to counts routeRelays scratch)
 
--- Demand 3: for every accepted network, every k from 1 to 32, and every list long enough lent to Order, Split and Cut.
+-- Demand 3: "This holds for every accepted network of n relays and every k from 1 to 32, once Order, Split and Cut to k have done their
+-- work on it", with any lists long enough.
 abbrev pub DemandThree : Type 0
 DemandThree =
     (n : ℕ) (lows highs states : List ℕ) → Accepted n lows highs states → (k : ℕ) → 1 ≤ k → k ≤ 32

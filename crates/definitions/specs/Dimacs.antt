@@ -31,8 +31,8 @@ scanComment text p =
     following (scanWord text (bytes "c") p) λ q.
     scanWord text (bytes "\n") (pick (eqb (byteAt text q) 32) (behindWords text (q + 1) (length text - (q + 1))) q)
 
--- "`c` comment lines anywhere": all those from offset p on. Every other line begins with another byte than c (byte 99). No text has as
--- many lines as bytes: at most `most` are left.
+-- "`c` comment lines anywhere": all those from offset p on. Every other line begins with another byte than c (byte 99). At most `most`
+-- are read; no text has more of them than bytes.
 unfoldable pub scanComments : (text : List ℕ) (p most : ℕ) → Scan
 scanComments text p zero = reads [] p
 scanComments text p (suc most) =

@@ -1,6 +1,6 @@
 -- The texts of the DIMACS edge format (document 02, #106), written from what they say. No operation writes one: the promises of the
 -- import speak of them. Assumes nothing.
-use Prim.Native.Nat.{ℕ, _+_, _<_}
+use Prim.Native.Nat.{ℕ, _+_, _≤_, _<_}
 use mathlib.Core.Bool.{false}
 use mathlib.Core.List.{List, [], _∷_, _++_}
 use mathlib.Core.Logic.{_⊎_}
@@ -80,6 +80,30 @@ unfoldable pub judged : (drawing : Drawing) (roomLows roomHighs roomStates : ℕ
 judged drawing roomLows roomHighs roomStates =
     let n = drawing .relays in
     sized n (length (drawing .edges)) roomLows roomHighs roomStates (judgedEdges n [] [] (drawing .edges))
+
+-- The lines that stand whole at the front of a text, whatever comes after them: the comment lines before the `p` line, its N and M, and
+-- the first `e` lines.
+pub record Front : Type 0 where
+  pub notes : List Comment
+  pub relays : ℕ
+  pub links : ℕ
+  pub edges : List EdgeLine
+
+unfoldable pub frontText : (front : Front) → List ℕ
+frontText front =
+    commentLines (front .notes) ++ (writeForm problemForm (front .relays ∷ front .links ∷ []) ++ edgeLines (front .edges))
+
+pub record FrontFits (front : Front) : Type 0 where
+  pub notes : CommentsFit (front .notes)
+  pub relays : front .relays < 10000
+  pub links : front .links < 10000
+  pub edges : EdgesFit (front .edges)
+  pub few : length (front .edges) ≤ front .links
+
+-- What the numbers of these lines decide: "3, 4 and 8 after the `p` line, and after each `e` line 5 .. 6 .. and 7".
+unfoldable pub judgedFront : (front : Front) (roomLows roomHighs roomStates : ℕ) → Outcome Network
+judgedFront front roomLows roomHighs roomStates =
+    sized (front .relays) (front .links) roomLows roomHighs roomStates (judgedEdges (front .relays) [] [] (front .edges))
 
 -- "relays from 1", and "Ends may come in either order": a line `e U V` is the link a b.
 abbrev pub DrawsLink : (u v a b : ℕ) → Type 0

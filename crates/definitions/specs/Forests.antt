@@ -37,7 +37,7 @@ unfoldable pub laterOf : (order lows highs : List ℕ) (i : ℕ) → ℕ
 laterOf order lows highs i = max (placeOf order (getD lows i 0)) (placeOf order (getD highs i 0))
 
 -- "The link to the i-th of them belongs to forest i": the index of v's link to its i-th earlier neighbour, which is the link of
--- forest i that has its later end at v; 0 if there is none.
+-- forest i that has its later end at v. Where there is no such link it is 0, which is an index too: `left` tells whether there is one.
 unfoldable pub leftLink : (linked : ℕ → ℕ → Bool) (order lows highs : List ℕ) (i v : ℕ) → ℕ
 leftLink linked order lows highs i v =
     firstFrom (λ l. eqb (forestOf linked order lows highs l) i && eqb (laterOf order lows highs l) v) 0 (length lows)

@@ -1,6 +1,7 @@
--- The forms of every text that is read or printed: words with numbers between them, as bytes.
+-- Forms: words with numbers between them, as bytes. Every line that has a fixed number of numbers is of such a form; comment lines and
+-- lines of any number of numbers are put together from the same pieces, where they are due.
 -- Reading goes from left to right and tells the first byte that departs. Assumes nothing.
-use Prim.Native.Nat.{ℕ, zero, suc, _+_, _-_, _*_, _/_, _%_}
+use Prim.Native.Nat.{ℕ, zero, suc, _+_, _-_, _*_, _/_, _%_, _<_}
 use Prim.Native.Char.{code}
 use Prim.Native.String.{String, [] as noChars, _∷_ as _then_}
 use mathlib.Core.List.{List, [], _∷_, _++_}
@@ -20,12 +21,13 @@ pub data Item : Type 0 where
   numeral : Item
 
 -- What reading an item or a form gives: the offset of the first byte that departs from it, or the numbers that were
--- read and the offset behind them.
+-- read and the offset after them.
 pub data Scan : Type 0 where
   departs : ℕ → Scan
   reads : List ℕ → ℕ → Scan
 
--- The byte at an offset; past the end 0, which departs from every form: "the length, if it ends early".
+-- The byte at an offset; past the end 0, which is no digit and in no word of a form, so that a form that is not whole departs there: "the
+-- length, if it ends early".
 unfoldable pub byteAt : (text : List ℕ) (p : ℕ) → ℕ
 byteAt text p = getD text p 0
 
@@ -88,3 +90,11 @@ writeForm [] values = []
 writeForm (word w ∷ items) values = w ++ writeForm items values
 writeForm (numeral ∷ items) [] = []
 writeForm (numeral ∷ items) (x ∷ values) = decimal x ++ writeForm items values
+
+-- As many numbers as the form has, each of at most four digits.
+abbrev pub Fits : List Item → List ℕ → Type 0
+Fits [] [] = Unit {0}
+Fits [] (x ∷ values) = ⊥
+Fits (word w ∷ items) values = Fits items values
+Fits (numeral ∷ items) [] = ⊥
+Fits (numeral ∷ items) (x ∷ values) = (x < 10000) × Fits items values

@@ -8,15 +8,17 @@ use lib.ListN.{length, replicate}
 use Rattle.definitions.specs.Outcome.{refused, done}
 use Rattle.definitions.specs.Network.{Accepted}
 use Rattle.definitions.specs.Text.{Network, sized, readNetwork}
-use Rattle.definitions.specs.Departs.{DepartsFrom}
+use Rattle.definitions.specs.Departs.{Begins, DepartsFrom}
 use Rattle.definitions.specs.Dimacs.{importNetwork}
-use Rattle.definitions.specs.DimacsText.{Drawing, DrawingFits, dimacsText, judged, Draws}
+use Rattle.definitions.specs.DimacsText.{Drawing, DrawingFits, dimacsText, judged, Front, frontText, FrontFits, judgedFront, Draws}
 use Rattle.definitions.specs.Import.{importText}
 
--- No number that comes before is refused: the import gives no other refusal than 18.
+-- The numbers of the lines that stand whole at the front of the text pass: they give no cause for 3 to 8. Where the text departs from
+-- the form, these are lines before the departure.
 abbrev pub NumbersPass : (text : List ℕ) (roomLows roomHighs roomStates : ℕ) → Type 0
 NumbersPass text roomLows roomHighs roomStates =
-    (number place : ℕ) → importNetwork text roomLows roomHighs roomStates ≡ refused number place → number ≡ 18
+    (front : Front) → FrontFits front → Begins (frontText front) text
+    → (network : Network) × (judgedFront front roomLows roomHighs roomStates ≡ done network)
 
 -- A drawing whose text was imported as this network.
 pub record ImportedAs (text : List ℕ) (roomLows roomHighs roomStates : ℕ) (network : Network) : Type 0 where

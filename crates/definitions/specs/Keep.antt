@@ -51,7 +51,8 @@ pub record Lease : Type 0 where
   pub states : List ℕ
   pub marks : List ℕ
 
--- The bytes that the program has for its output.
+-- The bytes that the program has for its output, enough for every list: 17 + 3,000 × 22 + 12 + 15 + 17 + 6. These are the first line, the
+-- lines of 3,000 links, and the four last lines.
 unfoldable pub leaseRoom : ℕ
 leaseRoom = 66067
 

@@ -23,7 +23,7 @@ use Rattle.definitions.specs.Demand.{Joined, Kept, Live, deadCount}
 unfoldable pub dispensable : (n : ℕ) (lows highs states : List ℕ) (k i : ℕ) → Bool
 dispensable n lows highs states k i = outside 1 k (getD (forestsOf n lows highs states) i 0)
 
--- Its line, of one form or the other by that, and of a third where it has a withdrawn end.
+-- The line of link i: kept where it is in one of these forests, else dropped, or idle where it has a withdrawn end.
 unfoldable pub linkLine : (n : ℕ) (lows highs states : List ℕ) (k i : ℕ) → List ℕ
 linkLine n lows highs states k i =
     writeForm
@@ -47,8 +47,8 @@ pub record LeaseHolds (n : ℕ) (lows highs states : List ℕ) (k : ℕ) (printe
   pub all : kept + (dropped + idle) ≡ length lows
   -- The kept links are those that Cut marks 1.
   pub marked : (i : ℕ) → i < length lows → Kept (marksOf n lows highs states k) i ↔ (dispensable n lows highs states k i ≡ false)
-  -- "whichever fewer than k relays are dead, two live ones are joined through live relays over the kept links exactly when
-  -- they are over all the links"
+  -- "Whichever relays are found dead afterwards, if they are fewer than k, any two different live ones are joined through live relays
+  -- over the kept links exactly when they are joined through live relays over all the links." (demand 3)
   pub survives : (dead : ℕ → Bool) → deadCount n states dead < k → (a b : ℕ) → Live n states dead a → Live n states dead b
       → Joined (Live n states dead) (LinkOf lows highs (λ i. dispensable n lows highs states k i ≡ false)) a b
       ↔ Joined (Live n states dead) (LinkOf lows highs (InService lows highs states)) a b

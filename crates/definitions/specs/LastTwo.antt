@@ -10,7 +10,7 @@ use Rattle.definitions.specs.Network.{Accepted}
 use Rattle.definitions.specs.Order.{linksAt, relaysAfter}
 use Rattle.definitions.specs.Forests.{marksAfter}
 use Rattle.definitions.specs.Route.{tooShort, routeAnswer, countsAfter, routeRelaysAfter}
-use Rattle.definitions.specs.DisjointRoutes.{DisjointRoutes}
+use Rattle.definitions.specs.DisjointRoutes.{AnyLink, RouteRuns, NoCommonLink, RoutesBetween}
 use Rattle.definitions.specs.Demand.{inServiceCount, Delivered}
 
 -- "the last two relays in the order", as Order's list of relays gives it: the last, and the one before it.
@@ -31,9 +31,10 @@ AreLastTwo n states relays from to =
 abbrev pub sureFigure : (n : ℕ) (lows highs states relays : List ℕ) → ℕ
 sureFigure n lows highs states relays = linksAt lows highs states (lastRelay n states relays)
 
--- Any link of the table.
-abbrev pub AnyLink : (i : ℕ) → Type 0
-AnyLink i = Unit {0}
+-- "routes between them, through relays in service": in either direction, along any links of the table, and no two have a link in
+-- common. That they repeat no relay and share no inner relay is not asked: a list that also does so is one of these.
+abbrev pub RoutesInService : (n : ℕ) (lows highs states : List ℕ) (from to : ℕ) (routes : List (List ℕ)) → Type 0
+RoutesInService n lows highs states = RoutesBetween (RouteRuns n lows highs states AnyLink) (NoCommonLink lows highs)
 
 -- The results of Order, of Cut to k and of Route with k, for one network.
 pub record LastTwoHolds (n : ℕ) (lows highs states : List ℕ) (k : ℕ) (relays marks : List ℕ) : Type 0 where
@@ -45,13 +46,13 @@ pub record LastTwoHolds (n : ℕ) (lows highs states : List ℕ) (k : ℕ) (rela
       (countsAfter n lows highs states k from to counts routeRelays scratch)
       (routeRelaysAfter n lows highs states k from to counts routeRelays scratch)
   -- "no list of routes between them, through relays in service as all routes are from here on, sharing no inner relay and no link,
-  -- has more than d", and this whatever d is.
+  -- has more than d", whatever d is.
   pub noMore : (from to : ℕ) → AreLastTwo n states relays from to
-      → (routes : List (List ℕ)) → DisjointRoutes n lows highs states AnyLink from to routes
+      → (routes : List (List ℕ)) → RoutesInService n lows highs states from to routes
       → length routes ≤ sureFigure n lows highs states relays
 
--- For every accepted network with at least two relays in service, every k from 1 to 32, and every list long enough lent to Order
--- and Cut.
+-- #107 is this, for every accepted network that has two relays in service or more, every k from 1 to 32, and all lists long enough that
+-- are lent to Order and Cut.
 abbrev pub LastTwo : Type 0
 LastTwo =
     (n : ℕ) (lows highs states : List ℕ) → Accepted n lows highs states → 2 ≤ inServiceCount n states

@@ -46,7 +46,8 @@ oneMore w from to k =
 
 abbrev pub lastTwoExamples : List Example
 lastTwoExamples =
-    -- Mesh, order 2 0 1 3 4: between 4 and 3 there are 2 routes, 4 2 3 and 4 3, and no 3.
+    -- Mesh, order 2 0 1 3 4: Route gives 2 routes between 4 and 3, 4 2 3 and 4 3, and 13 for a third. That no list has 3 routes is not
+    -- said by 13; the bound of #107 says it (`theory/Mesh`).
     quoted mesh 4 3 2
     ∷ routed mesh 4 3 2 5 (3 ∷ 2 ∷ 7 ∷ []) (4 ∷ 2 ∷ 3 ∷ 4 ∷ 3 ∷ 7 ∷ 7 ∷ 7 ∷ 7 ∷ [])
     ∷ routed mesh 3 4 2 5 (3 ∷ 2 ∷ 7 ∷ []) (3 ∷ 2 ∷ 4 ∷ 3 ∷ 4 ∷ 7 ∷ 7 ∷ 7 ∷ 7 ∷ [])

@@ -1,4 +1,6 @@
 -- What the planner's papers mean, a module a subject. Read them in this order.
+-- 'Assumes nothing.' at the head of a file says that it defines or shows what it does for every value of the arguments: each condition that
+-- is asked stands in the statement that asks it.
 pub mod Outcome
 pub mod Lists
 pub mod Network
@@ -9,6 +11,9 @@ pub mod Route
 pub mod Over
 pub mod Form
 pub mod Text
+pub mod Departs
+pub mod RefusalTwo
+pub mod DemandTwo
 pub mod Program
 pub mod Plan
 pub mod Keep
@@ -22,10 +27,10 @@ pub mod KeepPromise
 pub mod Sure
 pub mod SurePromise
 pub mod SheetForm
+pub mod RefusalFourteen
 pub mod SheetTest
 pub mod Verify
 pub mod VerifyPromise
-pub mod Departs
 pub mod Dimacs
 pub mod DimacsText
 pub mod Import

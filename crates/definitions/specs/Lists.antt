@@ -1,6 +1,6 @@
 -- Plain functions on lists, tests and indices that the definitions share. They know nothing of networks.
 -- Assumes nothing.
-use Prim.Native.Nat.{ℕ, zero, suc, _+_, max}
+use Prim.Native.Nat.{ℕ, zero, suc, _+_, _<_, max}
 use mathlib.Core.Bool.{Bool, true, false, _||_}
 use mathlib.Core.List.{List, [], _∷_, _++_}
 use mathlib.Core.Path.{_≡_}
@@ -95,3 +95,8 @@ joinAll (list ∷ lists) = list ++ joinAll lists
 abbrev pub NoRepeat : (list : List ℕ) → Type 0
 NoRepeat [] = Unit {0}
 NoRepeat (x ∷ list) = (has list x ≡ false) × NoRepeat list
+
+-- Every number is below the bound.
+abbrev pub AllBelow : ℕ → List ℕ → Type 0
+AllBelow bound [] = Unit {0}
+AllBelow bound (x ∷ values) = (x < bound) × AllBelow bound values

@@ -264,6 +264,8 @@ unfolding
     DimacsText.dimacsText
     DimacsText.judgedEdges
     DimacsText.judged
+    DimacsText.frontText
+    DimacsText.judgedFront
     Import.networkText
     Import.importText
 opened = tt

@@ -2,7 +2,7 @@
 -- document 02, #104 puts first.
 -- Over any test `linked`, any rising list of candidate relays and any first relay; `orderOf` takes the relays in service and
 -- `firstRelay`.
-use Prim.Native.Nat.{ℕ, zero, suc, _+_, pred}
+use Prim.Native.Nat.{ℕ, zero, suc, pred}
 use mathlib.Core.Bool.{Bool, _&&_, _||_, not}
 use mathlib.Core.List.{List, [], _∷_, _++_}
 use lib.Dec.{ltb}
@@ -29,8 +29,8 @@ unfoldable pub heaviestOf : (weightOf : ℕ → ℕ) (relays : List ℕ) → ℕ
 heaviestOf weightOf [] = 0
 heaviestOf weightOf (r ∷ rest) = heaviest weightOf r rest
 
--- The first relay where none is placed. "Next comes always the unplaced relay with the most links to placed ones, of equals the
--- lowest relay number."
+-- `first` where none is placed yet, and from then on: "Next comes always the unplaced relay with the most links to placed ones, of equals
+-- the lowest relay number."
 unfoldable pub nextRelay : (linked : ℕ → ℕ → Bool) (first : ℕ) (candidates placed : List ℕ) → ℕ
 nextRelay linked first candidates [] = first
 nextRelay linked first candidates (p ∷ placed) =
@@ -69,7 +69,7 @@ unfoldable pub orderOf : (n : ℕ) (lows highs states : List ℕ) → List ℕ
 orderOf n lows highs states =
     placedAfter (linked lows highs) (firstRelay n lows highs states) (servingRelays n states) (length (servingRelays n states))
 
--- "A relay's place is 1 to n" (a term of document 01); 0 for no relay of the order: "a withdrawn relay has place 0".
+-- "A relay's place is 1 to n". A relay that is not in the order gets 0: "a withdrawn relay has place 0" (document 02, #105).
 unfoldable pub placeOf : (order : List ℕ) (r : ℕ) → ℕ
 placeOf order r = position order r
 

@@ -34,7 +34,8 @@ pub record Sheet : Type 0 where
   pub overs : List (List ℕ)
   pub kept : ℕ
 
--- The bytes that the program has for its output.
+-- The bytes that the program has for its output, enough for every sheet: 39 + 32 × 15 + 4 × 1,062 + 5 × 1,030 + 12 + 6. These are the
+-- first line, the two lines of 32 routes without their numbers, 1,062 relays, 1,030 links, and the two last lines.
 unfoldable pub outputRoom : ℕ
 outputRoom = 9935
 

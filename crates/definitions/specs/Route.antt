@@ -33,7 +33,8 @@ oneTreeOf n lows highs states k from to =
     let order = orderOf n lows highs states in
     oneTree (leftOf n lows highs states) k (placeOf order from) (placeOf order to)
 
--- "12, count list shorter than k, relay list shorter than n − 2 + 2k, or scratch shorter than k × n"
+-- "12, count list shorter than k, relay list shorter than n − 2 + 2k, or scratch shorter than k × n". Subtraction stops at 0, which
+-- matters to n 1 alone: there 10 or 11 comes before.
 unfoldable pub tooShort : (n k : ℕ) (counts relays scratch : List ℕ) → Bool
 tooShort n k counts relays scratch =
     ltb (length counts) k || (ltb (length relays) (n - 2 + 2 * k) || ltb (length scratch) (k * n))

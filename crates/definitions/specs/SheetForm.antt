@@ -27,7 +27,8 @@ scanMore text p (suc most) =
     (following (scanNumber text (p + 1)) λ q. scanMore text q most)
     (reads [] p)
 
--- A line of numbers: its front, then more numbers, then its end. No text has as many numbers as bytes.
+-- A line of numbers: its front, then more numbers, then its end. Each number takes two bytes or more with its space, so there is no need
+-- to read more of them than the text has bytes.
 unfoldable pub scanNumbers : (text : List ℕ) (front : List Item) (p : ℕ) → Scan
 scanNumbers text front p =
     following (scanForm text front p) λ q.
@@ -42,7 +43,7 @@ readKept text from to k routes overs p =
     (done (record { from = from; to = to; k = k; routes = routes; overs = overs; kept = getD kept 0 0 }))
 
 -- "any number of `(route ..)` lines [..] each with its `(over ..)` line", and then the rest of the sheet. `(route` and `(kept` part
--- at the second byte: it is r (byte 114) where a route is due. No text has as many lines as bytes: at most `most` are left.
+-- at the second byte: it is r (byte 114) where a route is due. At most `most` routes are read; no text has more of them than bytes.
 unfoldable pub readRoutes : (text : List ℕ) (from to k : ℕ) (routes overs : List (List ℕ)) (p most : ℕ) → Outcome Sheet
 readRoutes text from to k routes overs p zero = readKept text from to k routes overs p
 readRoutes text from to k routes overs p (suc most) =

@@ -11,9 +11,8 @@ use Rattle.definitions.specs.Form.{writeForm}
 use Rattle.definitions.specs.Text.{Network}
 use Rattle.definitions.specs.Promised.{Promised}
 use Rattle.definitions.specs.Plan.{Sheet, sheetText}
-use Rattle.definitions.specs.DisjointRoutes.{DisjointRoutes}
 use Rattle.definitions.specs.Demand.{Kept}
-use Rattle.definitions.specs.LastTwo.{AnyLink}
+use Rattle.definitions.specs.LastTwo.{RoutesInService}
 use Rattle.definitions.specs.SheetHolds.{SheetHolds}
 use Rattle.definitions.specs.Sure.{fewForm, noneForm, lastOf, beforeOf, figureOf, servingOf, surer, sureText}
 
@@ -37,7 +36,7 @@ pub record Figure (network : Network) (text : List ℕ) : Type 0 where
   pub two : 2 ≤ servingOf network
   pub told : FigureSheet network text ⊎ FigureLine network text
   pub noMore : (routes : List (List ℕ))
-      → DisjointRoutes (network .relays) (network .lows) (network .highs) (network .states) AnyLink (lastOf network) (beforeOf network) routes
+      → RoutesInService (network .relays) (network .lows) (network .highs) (network .states) (lastOf network) (beforeOf network) routes
       → length routes ≤ figureOf network
 
 -- Fewer are.

@@ -1,7 +1,7 @@
 -- Document 01, 'The sweep' (document 002, Algorithm 2), in places, over an arbitrary look-up of left(i, v), k, s and t.
 -- s is the later and t the earlier of the two places. A path is a list with its end first; what stands in it is what the look-up
 -- gives, a place alone or a place with more.
-use Prim.Native.Nat.{ℕ, zero, suc, _+_, pred}
+use Prim.Native.Nat.{ℕ, zero, suc, pred}
 use mathlib.Core.Bool.{Bool, true, false, _&&_, _||_}
 use mathlib.Core.List.{List, [], _∷_, _++_, map, reverse, tail}
 use lib.Dec.{eqb, ltb}
@@ -49,7 +49,8 @@ unfoldable pub startSlot : {A : Type 0} (look : Look A) (s t i : ℕ) → Slot A
 startSlot look s t i =
     record { isOpen = true; pathA = look .left i s ∷ look .start s ∷ []; pathB = look .start t ∷ [] }
 
--- "If v = t: close A(i) and B(i) for each A(i) ending at t; to every other B(i) append left(i, t)."
+-- "If v = t: close A(i) and B(i) for each A(i) ending at t; to every other B(i) append left(i, t)." Every path is open until then; were
+-- there no left(i, t), B(i) would stay as it is.
 unfoldable pub slotAtT : {A : Type 0} (look : Look A) (t : ℕ) (slot : Slot A) (i : ℕ) → Slot A
 slotAtT look t slot i =
     pick (eqb (endOf (look .place) (slot .pathA)) t)

@@ -32,11 +32,11 @@ pub record Network : Type 0 where
   pub highs : List ℕ
   pub states : List ℕ
 
--- The states told so far, with those up to relay r behind them: r is withdrawn, the relays before it are in service.
+-- The states told so far, and after them those up to relay r: r is withdrawn, the relays between are in service.
 unfoldable pub withdrawn : (states : List ℕ) (r : ℕ) → List ℕ
 withdrawn states r = states ++ (replicate (r - length states) 1 ++ (0 ∷ []))
 
--- The states of n relays: behind those told all are in service. "A text without such lines has all in service."
+-- The states of n relays: after those told all are in service. "A text without such lines has all in service."
 unfoldable pub allStates : (n : ℕ) (states : List ℕ) → List ℕ
 allStates n states = states ++ replicate (n - length states) 1
 
@@ -49,7 +49,7 @@ readEnd text n lows highs states p =
 
 -- The `(out R)` lines from offset p on, behind the states told so far, and then the end. `(out` and `(end` part at the second byte: it
 -- is o (byte 111) where a relay is withdrawn. "with 16 an `out` line whose relay is not below n or not above the one before, after
--- its form". At most `most` lines are read: of n relays no more than n lines can be good, so n + 1 are enough.
+-- its form". At most `most` lines are read: of n relays at most n lines can be good, so n + 1 are enough.
 unfoldable pub readOuts : (text : List ℕ) (n : ℕ) (lows highs states : List ℕ) (p most : ℕ) → Outcome Network
 readOuts text n lows highs states p zero = readEnd text n lows highs states p
 readOuts text n lows highs states p (suc most) =

@@ -13,15 +13,8 @@ use Rattle.definitions.specs.Text.{Network}
 use Rattle.definitions.specs.Program.{room}
 use Rattle.definitions.specs.Promised.{Asked}
 use Rattle.definitions.specs.Keep.{keepForm, Lease, leaseFor, leaseAnswers, keeper, leased}
-use Rattle.text_theory.specs.Forms.{
-  noZero,
-  goodWord,
-  wellFormedBehind,
-  wellFormed,
-  endsInNumber,
-  Fits,
-  Line,
-}
+use Rattle.definitions.specs.Form.{Fits}
+use Rattle.text_theory.specs.Forms.{noZero, goodWord, wellFormedBehind, wellFormed, endsInNumber, Line}
 use Rattle.text_theory.specs.NetworkLines.{read-line}
 use Rattle.text_theory.specs.Programs.{AllDone, outcome-done}
 use Rattle.program.specs.CutPassed.{cut-passed}

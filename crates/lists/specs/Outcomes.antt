@@ -1,6 +1,7 @@
 -- Outcomes step by step: which refusals were passed, and what stands after them.
 use Prim.Native.Nat.{ℕ}
 use mathlib.Core.Bool.{Bool, true, false}
+use mathlib.Core.Logic.{_≢_}
 use mathlib.Core.Path.{_≡_, refl}
 use native.Mathlib.Omega.{arith}
 use Rattle.definitions.specs.Outcome.{Outcome, refused, done, refuseIf, andThen, ifDone}
@@ -24,6 +25,20 @@ refused-later false number place rest r q e other = (refl, e)
 pub refuse-not : {A : Type 0} (b : Bool) (number place : ℕ) (rest : Outcome A) → b ≡ false → refuseIf b number place rest ≡ rest
 unfolding refuseIf
 refuse-not b number place rest e = rw e refl
+
+-- Where a refusal comes from what follows only if it comes from something else too, it comes from that.
+pub refused-also : {A : Type 0} (b : Bool) (number place : ℕ) (one other : Outcome A) (r q : ℕ)
+    → refuseIf b number place one ≡ refused r q → (one ≡ refused r q → other ≡ refused r q) → refuseIf b number place other ≡ refused r q
+unfolding refuseIf
+refused-also true number place one other r q e after = e
+refused-also false number place one other r q e after = after e
+
+-- A step that might have refused and did not.
+pub refuse-passed : {A : Type 0} (b : Bool) (number place : ℕ) (rest : Outcome A) → refuseIf b number place rest ≢ refused number place
+    → refuseIf b number place rest ≡ rest
+unfolding refuseIf
+refuse-passed true number place rest h = absurd (h refl)
+refuse-passed false number place rest h = refl
 
 pub then-done : {A B : Type 0} (outcome : Outcome A) (next : A → Outcome B) (value : A)
     → outcome ≡ done value → andThen outcome next ≡ next value

@@ -7,7 +7,7 @@ use native.Mathlib.Omega.{arith}
 use lib.Dec.{eqb}
 use lib.ListN.{length, length-append, length-map}
 use Rattle.definitions.specs.Outcome.{Outcome, refused, done}
-use Rattle.definitions.specs.Lists.{joinAll}
+use Rattle.definitions.specs.Lists.{joinAll, AllBelow}
 use Rattle.definitions.specs.Forests.{markOf, forestsOf, marksOf}
 use Rattle.definitions.specs.Route.{routesOf}
 use Rattle.definitions.specs.Over.{oversOf}
@@ -20,7 +20,7 @@ use Rattle.lists.specs.RefusedWithin.{RefusedAs}
 use Rattle.theory.specs.Accepted.{accepted}
 use Rattle.theory.specs.ForestBound.{forests-length}
 use Rattle.text_theory.specs.Decimal.{length-decimal-at-most}
-use Rattle.text_theory.specs.Spans.{span, AllBelow, written-span}
+use Rattle.text_theory.specs.Spans.{span, written-span}
 use Rattle.plan.specs.SheetLines.{line-length}
 use Rattle.plan.specs.Planned.{route-passed, keptOf, SheetFor, PlannedSheet, planned-sheet}
 use Rattle.program.specs.Printable.{Printable, refused-length}

@@ -5,7 +5,7 @@ use mathlib.Core.List.{List, [], _∷_, map}
 use mathlib.Core.Path.{_≡_, sym, _∙_, ap, subst}
 use native.Mathlib.Omega.{arith}
 use lib.ListN.{length, getD, length-map}
-use Rattle.definitions.specs.Lists.{joinAll}
+use Rattle.definitions.specs.Lists.{joinAll, AllBelow}
 use Rattle.definitions.specs.Network.{joins}
 use Rattle.definitions.specs.Forests.{marksOf}
 use Rattle.definitions.specs.Route.{routesOf}
@@ -18,7 +18,6 @@ use Rattle.theory.specs.Accepted.{accepted}
 use Rattle.theory.specs.Links.{one-link}
 use Rattle.theory.specs.OverLinks.{pairLink, over-holds, overs-found, tree-between, overs-fit}
 use Rattle.theory.specs.RoutePassed.{RoutePassed}
-use Rattle.text_theory.specs.Spans.{AllBelow}
 use Rattle.plan.specs.Routes.{length-routes, below-joined, routes-of}
 
 -- No index is beyond the table.

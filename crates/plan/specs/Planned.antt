@@ -15,8 +15,9 @@ use Rattle.definitions.specs.Text.{Network}
 use Rattle.definitions.specs.Program.{room}
 use Rattle.definitions.specs.Promised.{Asked}
 use Rattle.definitions.specs.Plan.{wishForm, Sheet, sheetFor, sheetAnswers, planner, planned}
+use Rattle.definitions.specs.Form.{Fits}
 use Rattle.theory.specs.RoutePassed.{RoutePassed, unless-passed}
-use Rattle.text_theory.specs.Forms.{Fits, wish-line}
+use Rattle.text_theory.specs.Forms.{wish-line}
 use Rattle.text_theory.specs.NetworkLines.{read-line}
 use Rattle.text_theory.specs.Programs.{AllDone, outcome-done}
 use Rattle.program.specs.CutPassed.{kept-total}

@@ -8,7 +8,7 @@ use lib.Dec.{ltb}
 use lib.ListN.{length, getD, length-map, List·getD-eq-default}
 use borrow.Author.Tests.{ltb-true, ltb-false}
 use Rattle.definitions.specs.Outcome.{pick}
-use Rattle.definitions.specs.Lists.{joinAll}
+use Rattle.definitions.specs.Lists.{joinAll, AllBelow}
 use Rattle.definitions.specs.Order.{orderOf, placeOf, relayAt}
 use Rattle.definitions.specs.Forests.{marksOf}
 use Rattle.definitions.specs.Sweep.{slotRoute, sweepRoutes}
@@ -20,7 +20,6 @@ use Rattle.theory.specs.SweepRoutes.{sweep-length}
 use Rattle.theory.specs.RelayRoutes.{RelayRoutes, routes-hold}
 use Rattle.theory.specs.OverLinks.{tree-between}
 use Rattle.theory.specs.RoutePassed.{RoutePassed}
-use Rattle.text_theory.specs.Spans.{AllBelow}
 
 length-sweepRoutes : (left : ℕ → ℕ → ℕ) (k s t : ℕ) → length (sweepRoutes left k s t) ≡ k
 unfolding sweepRoutes

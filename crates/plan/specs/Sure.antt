@@ -19,8 +19,7 @@ use Rattle.definitions.specs.Text.{Network}
 use Rattle.definitions.specs.Program.{outcomeOf, room, inputRoom, printed}
 use Rattle.definitions.specs.Promised.{Answered}
 use Rattle.definitions.specs.Plan.{sheetFor, sheetText}
-use Rattle.definitions.specs.DisjointRoutes.{DisjointRoutes}
-use Rattle.definitions.specs.LastTwo.{lastRelay, lastButOne, sureFigure, AnyLink, LastTwoHolds}
+use Rattle.definitions.specs.LastTwo.{lastRelay, lastButOne, sureFigure, RoutesInService, LastTwoHolds}
 use Rattle.definitions.specs.Sure.{fewForm, noneForm, lastOf, beforeOf, figureOf, servingOf, figureText, surer, sureText}
 use Rattle.definitions.specs.SurePromise.{FigureSheet, FigureLine, Figure, TooFew, SurePrinted, SurePromise}
 use Rattle.lists.specs.Ranges.{inside-range}
@@ -85,12 +84,12 @@ module _ (w : Network) (good : Accepted (w .relays) (w .lows) (w .highs) (w .sta
       (room (length (w .lows))) long long (omega (arith, length-room (length (w .lows))))
 
   no-more : (routes : List (List ℕ))
-      → DisjointRoutes (w .relays) (w .lows) (w .highs) (w .states) AnyLink (lastOf w) (beforeOf w) routes → length routes ≤ figureOf w
-  no-more routes disjoint =
+      → RoutesInService (w .relays) (w .lows) (w .highs) (w .states) (lastOf w) (beforeOf w) routes → length routes ≤ figureOf w
+  no-more routes between =
       omega (
         arith,
         figure-same,
-        two-hold 1 (omega arith) (omega arith) .noMore (lastOf w) (beforeOf w) (inl (last-same, before-same)) routes disjoint,
+        two-hold 1 (omega arith) (omega arith) .noMore (lastOf w) (beforeOf w) (inl (last-same, before-same)) routes between,
       )
 
   -- Route delivers d routes, so the sheet holds.

@@ -11,48 +11,13 @@ use lib.Seq.{length-take-le, getD-take, take-add}
 use borrow.Author.Tests.{eqb-true, ltb-true}
 use Rattle.definitions.specs.Outcome.{pick}
 use Rattle.definitions.specs.Lists.{outside}
-use Rattle.definitions.specs.Form.{
-  Item,
-  word,
-  numeral,
-  Scan,
-  departs,
-  reads,
-  byteAt,
-  scanWord,
-  scanDigits,
-  scanNumber,
-  scanItem,
-  withFront,
-  following,
-  scanForm,
-  decimal,
-  writeForm,
-}
+use Rattle.definitions.specs.Form.{Item, word, numeral, Scan, departs, reads, byteAt, scanWord, scanDigits, scanNumber, scanItem, withFront, following, scanForm, decimal, writeForm, Fits}
+use Rattle.definitions.specs.Departs.{DepartsAt}
 use Rattle.lists.specs.Parts.{Part, part-empty, part-cons, part-append, part-taken, part-end}
 use Rattle.text_theory.specs.Decimal.{decimal-not-empty}
 use Rattle.text_theory.specs.Numbers.{read-number, byte-within}
-use Rattle.text_theory.specs.Forms.{
-  noZero,
-  goodWord,
-  wellFormedBehind,
-  wellFormed,
-  Fits,
-  good-no-zero,
-  read-word,
-  scans-written,
-}
+use Rattle.text_theory.specs.Forms.{noZero, goodWord, wellFormedBehind, wellFormed, good-no-zero, read-word, scans-written}
 use Rattle.text_theory.specs.Looks.{Alike, form-looks}
-
--- The text departs from the form, which is due from byte p on, at byte q. The bytes from p up to q begin the form with some
--- numbers and are not the whole of it; where q is not the end of the text, the bytes up to and with q begin it with none.
-pub record DepartsAt (text : List ℕ) (items : List Item) (p q : ℕ) : Type 0 where
-  pub behind : p ≤ q
-  pub within : q ≤ length text
-  pub begins : (values rest : List ℕ) × Fits items values × (0 < length rest)
-      × (take (q - p) (drop p text) ++ rest ≡ writeForm items values)
-  pub breaks : q < length text → (values rest : List ℕ) → Fits items values
-      → take (q + 1 - p) (drop p text) ++ rest ≡ writeForm items values → ⊥
 
 -- Something that was begun in the text: its part from p up to q, and what is missing.
 record Begun (text : List ℕ) (p q : ℕ) (whole : List ℕ) : Type 0 where

@@ -9,11 +9,12 @@ use native.Mathlib.Omega.{arith}
 use lib.Dec.{ltb}
 use lib.ListN.{length, take, drop, length-append}
 use borrow.Author.Tests.{ltb-true, ltb-false}
-use Rattle.definitions.specs.Form.{Item, Scan, departs, reads, scanForm, writeForm}
+use Rattle.definitions.specs.Form.{Item, Scan, departs, reads, scanForm, writeForm, Fits}
+use Rattle.definitions.specs.Departs.{DepartsAt}
 use Rattle.lists.specs.Parts.{Part, part-taken, part-start, part-end, take-further}
-use Rattle.text_theory.specs.Forms.{Fits, Line, written-scanned}
+use Rattle.text_theory.specs.Forms.{Line, written-scanned}
 use Rattle.text_theory.specs.NetworkLines.{line-read}
-use Rattle.text_theory.specs.DepartsFromForm.{DepartsAt, departs-at}
+use Rattle.text_theory.specs.DepartsFromForm.{departs-at}
 
 -- Before a byte up to which the form is begun the text does not depart.
 not-before : (text : List ℕ) (items : List Item) (p q r : ℕ) → DepartsAt text items p q → q < r → r ≤ length text

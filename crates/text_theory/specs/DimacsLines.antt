@@ -8,20 +8,11 @@ use native.Mathlib.Omega.{arith}
 use lib.Dec.{eqb}
 use lib.ListN.{length, getD}
 use Rattle.definitions.specs.Lists.{outside}
-use Rattle.definitions.specs.Form.{bytes, Item, word, numeral, Scan, departs, reads, byteAt, withFront, following, scanForm, writeForm}
+use Rattle.definitions.specs.Form.{bytes, Item, word, numeral, Scan, departs, reads, byteAt, withFront, following, scanForm, writeForm, Fits}
 use Rattle.definitions.specs.Dimacs.{problemForm, edgeForm, scanComments, scanLine}
 use Rattle.definitions.specs.DimacsText.{Comment, commentLines, CommentsFit}
 use Rattle.lists.specs.Parts.{Part, part-head, part-append, part-first, part-second}
-use Rattle.text_theory.specs.Forms.{
-  wellFormed,
-  wellFormedBehind,
-  goodWord,
-  noZero,
-  endsInNumber,
-  Fits,
-  Line,
-  following-reads,
-}
+use Rattle.text_theory.specs.Forms.{wellFormed, wellFormedBehind, goodWord, noZero, endsInNumber, Line, following-reads}
 use Rattle.text_theory.specs.NetworkLines.{line-read, read-line, two-numbers}
 use Rattle.text_theory.specs.DepartsFromForm.{with-front-departs}
 use Rattle.text_theory.specs.LineBegun.{BeginsAt, begins-first, begins-later, form-begins}

@@ -26,6 +26,7 @@ use Rattle.definitions.specs.Form.{
   scanForm,
   decimal,
   writeForm,
+  Fits,
 }
 use Rattle.definitions.specs.Text.{headerForm, linkForm, outForm, endForm}
 use Rattle.definitions.specs.Plan.{wishForm}
@@ -56,14 +57,6 @@ unfoldable pub endsInNumber : Bool → List Item → Bool
 endsInNumber behindNumber [] = behindNumber
 endsInNumber behindNumber (word w ∷ items) = endsInNumber false items
 endsInNumber behindNumber (numeral ∷ items) = endsInNumber true items
-
--- As many numbers as the form has, each of at most four digits.
-abbrev pub Fits : List Item → List ℕ → Type 0
-Fits [] [] = Unit {0}
-Fits [] (x ∷ values) = ⊥
-Fits (word w ∷ items) values = Fits items values
-Fits (numeral ∷ items) [] = ⊥
-Fits (numeral ∷ items) (x ∷ values) = (x < 10000) × Fits items values
 
 -- A line: well formed, and it ends in a word, so that anything may come behind it.
 abbrev pub Line : List Item → Type 0

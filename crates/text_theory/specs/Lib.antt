@@ -20,6 +20,7 @@ pub mod Spans
 pub mod Reach
 pub mod Refusals
 pub mod Programs
+pub mod Standing
 pub mod OutOrEnd
 pub mod RefusalTwo
 pub mod Longest
@@ -44,5 +45,7 @@ pub mod DrawnFrom
 pub mod DimacsRead
 pub mod DimacsBegun
 pub mod DimacsAgree
+pub mod FrontDecides
+pub mod FrontRefused
 pub mod RefusalEighteen
 pub mod ImportProof

@@ -10,25 +10,13 @@ use lib.ListN.{length, take, drop, length-drop, take-append-drop}
 use lib.Seq.{drop-drop, length-take-le}
 use borrow.Author.Tests.{eqb-true}
 use Rattle.definitions.specs.Outcome.{pick}
-use Rattle.definitions.specs.Form.{
-  bytes,
-  Item,
-  Scan,
-  departs,
-  reads,
-  byteAt,
-  scanNumber,
-  following,
-  scanForm,
-  decimal,
-  writeForm,
-}
+use Rattle.definitions.specs.Form.{bytes, Item, Scan, departs, reads, byteAt, scanNumber, following, scanForm, decimal, writeForm, Fits}
 use Rattle.definitions.specs.Plan.{spaced, numbersLine}
 use Rattle.definitions.specs.SheetForm.{routeFront, overFront, lineEnd, scanMore, scanNumbers}
+use Rattle.definitions.specs.Lists.{AllBelow}
 use Rattle.lists.specs.Parts.{Part, part-empty, part-cons, part-append}
 use Rattle.text_theory.specs.Numbers.{read-number, byte-within}
-use Rattle.text_theory.specs.Forms.{wellFormed, Fits, written-scanned}
-use Rattle.text_theory.specs.Spans.{AllBelow}
+use Rattle.text_theory.specs.Forms.{wellFormed, written-scanned}
 use Rattle.text_theory.specs.DepartsFromForm.{departs-at, with-front-departs, number-departs-first}
 use Rattle.text_theory.specs.NumberLines.{
   read-more,

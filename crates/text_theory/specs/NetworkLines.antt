@@ -7,11 +7,11 @@ use mathlib.Core.Path.{_≡_, refl, sym, _∙_}
 use native.Mathlib.Omega.{arith}
 use lib.ListN.{length, getD}
 use Rattle.definitions.specs.Network.{linkFault}
-use Rattle.definitions.specs.Form.{bytes, reads, Item, word, numeral, scanForm, writeForm}
+use Rattle.definitions.specs.Form.{bytes, reads, Item, word, numeral, scanForm, writeForm, Fits}
 use Rattle.definitions.specs.Text.{headerForm, linkForm, outForm, endForm}
 use Rattle.lists.specs.Parts.{Part}
 use Rattle.theory.specs.Accepted.{fault-none}
-use Rattle.text_theory.specs.Forms.{Fits, Line, scans-written, written-scanned}
+use Rattle.text_theory.specs.Forms.{Line, scans-written, written-scanned}
 
 -- A line that stands in the text is read, whatever comes behind it.
 pub line-read : (items : List Item) (values text : List ℕ) (p q : ℕ) → Line items → Fits items values

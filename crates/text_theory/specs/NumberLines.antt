@@ -9,26 +9,14 @@ use lib.Dec.{eqb}
 use lib.ListN.{length, length-append}
 use borrow.Author.Tests.{eqb-true}
 use Rattle.definitions.specs.Outcome.{pick}
-use Rattle.definitions.specs.Lists.{outside}
-use Rattle.definitions.specs.Form.{bytes, Item, reads, byteAt, scanNumber, withFront, following, scanForm, decimal, writeForm}
+use Rattle.definitions.specs.Lists.{outside, AllBelow}
+use Rattle.definitions.specs.Form.{bytes, Item, reads, byteAt, scanNumber, withFront, following, scanForm, decimal, writeForm, Fits}
 use Rattle.definitions.specs.Plan.{spaced, numbersLine}
 use Rattle.definitions.specs.SheetForm.{routeFront, overFront, lineEnd, scanMore, scanNumbers}
 use Rattle.lists.specs.Parts.{Part, part-empty, part-cons, part-head, part-tail, part-append, part-first, part-second}
 use Rattle.text_theory.specs.Numbers.{number-read, read-number, byte-within}
-use Rattle.text_theory.specs.Forms.{
-  wellFormed,
-  wellFormedBehind,
-  goodWord,
-  noZero,
-  endsInNumber,
-  Fits,
-  Line,
-  following-reads,
-  scans-written,
-  written-scanned,
-}
+use Rattle.text_theory.specs.Forms.{wellFormed, wellFormedBehind, goodWord, noZero, endsInNumber, Line, following-reads, scans-written, written-scanned}
 use Rattle.text_theory.specs.NetworkLines.{line-read, read-line}
-use Rattle.text_theory.specs.Spans.{AllBelow}
 
 -- Where numbers behind spaces begin, and a bracket ends them, stands no digit.
 spaced-clear : (numbers text : List ℕ) (p q : ℕ) → byteAt text q ≡ 41 → Part text p (spaced numbers) q

@@ -50,15 +50,6 @@ header-roomy text n m p roomLows roomHighs roomStates some few short part =
     (refuse-not (outside 1 1000 n) 3 0 (refuseIf (ltb 3000 m) 4 0 roomy) (inside 1 1000 n some few)
     ∙ refuse-not (ltb 3000 m) 4 0 roomy (le-ltb 3000 m short))
 
-pub header-onward : (text : List ℕ) (n m p roomLows roomHighs roomStates : ℕ) → 1 ≤ n → n ≤ 1000 → m ≤ 3000
-    → m ≤ roomLows → m ≤ roomHighs → n ≤ roomStates → Part text 0 (writeForm headerForm (n ∷ m ∷ [])) p
-    → readNetwork text roomLows roomHighs roomStates ≡ readLinks text n [] [] p m
-header-onward text n m p roomLows roomHighs roomStates some few short inLows inHighs inStates part =
-    let full = ltb roomLows m || (ltb roomHighs m || ltb roomStates n) in
-    let room : full ≡ false = rw (le-ltb roomLows m inLows, le-ltb roomHighs m inHighs, le-ltb roomStates n inStates) in
-    header-roomy text n m p roomLows roomHighs roomStates some few short part
-    ∙ refuse-not full 8 0 (readLinks text n [] [] p m) room
-
 pub links-onward : (text : List ℕ) (n : ℕ) (ls hs lows highs : List ℕ) (p at left : ℕ) → n ≤ 1000 → length ls ≡ length hs
     → Faultless n lows highs ls hs → Part text p (lines ls hs) at
     → readLinks text n lows highs p (length ls + left) ≡ readLinks text n (lows ++ ls) (highs ++ hs) at left

@@ -1,6 +1,6 @@
 -- Behind the link lines two forms are due at once, an out line and the end line. They part at the second byte, which decides which
 -- of them the reader goes by: it departs where the text departs from the later of the two. Assumes nothing.
-use Prim.Native.Nat.{ℕ, zero, suc, _+_, max, _≤_, _<_}
+use Prim.Native.Nat.{ℕ, zero, suc, _+_, _≤_, _<_}
 use mathlib.Core.Bool.{Bool, true, false}
 use mathlib.Core.List.{List, [], _∷_}
 use mathlib.Core.Logic.{_≢_}
@@ -25,31 +25,18 @@ use Rattle.definitions.specs.Form.{
   writeForm,
 }
 use Rattle.definitions.specs.Text.{outForm, endForm, Network, allStates, readEnd, readOuts}
+use Rattle.definitions.specs.RefusalTwo.{BothDepart, EndDeparts, outOrEndDue, nothingDue}
 use Rattle.lists.specs.Parts.{Part}
 use Rattle.theory.specs.Accepted.{ProperStates}
 use Rattle.text_theory.specs.Forms.{out-line, end-line}
 use Rattle.text_theory.specs.NetworkLines.{read-line, end-numbers}
 use Rattle.text_theory.specs.Looks.{offset, form-looks}
-use Rattle.text_theory.specs.DepartsFromForm.{DepartsAt, departs-at}
+use Rattle.text_theory.specs.DepartsFromForm.{departs-at}
 use Rattle.text_theory.specs.DepartsOnce.{departs-exactly}
 use Rattle.text_theory.specs.OutByOut.{outs, each-proper}
 use Rattle.text_theory.specs.Onward.{end-onward}
+use Rattle.text_theory.specs.Standing.{part-stands, stands-part}
 use Rattle.text_theory.specs.OutsRead.{OutsOver, outDeparts, noOut, OutsRead, read-outs}
-
--- The text departs from both forms, which are due from byte p on, and from the later of them at byte q: up to it the bytes begin an
--- out line or the end line, and with it neither.
-pub record BothDepart (text : List ℕ) (p q : ℕ) : Type 0 where
-  pub fromOut : ℕ
-  pub fromEnd : ℕ
-  pub outLine : DepartsAt text outForm p fromOut
-  pub endLine : DepartsAt text endForm p fromEnd
-  pub later : q ≡ max fromOut fromEnd
-
--- What is due at byte `at` behind the out lines, and how the text departs from it at byte q: an out line or the end line; or, the end
--- line being there, nothing.
-pub data EndDeparts (text : List ℕ) (at q : ℕ) : Type 0 where
-  outOrEndDue : BothDepart text at q → EndDeparts text at q
-  nothingDue : Part text at (writeForm endForm []) q → q < length text → EndDeparts text at q
 
 -- ---- two forms that part at the second byte
 
@@ -160,7 +147,7 @@ due-refused text n lows highs told at q zero within some due = absurd (omega ari
 due-refused text n lows highs told at q (suc left) within some (outOrEndDue both) =
     both-refused text n lows highs told at q left within both
 due-refused text n lows highs told at q (suc left) within some (nothingDue here before) =
-    end-onward text n lows highs told at q (suc left) here ∙ rw (lt-ltb q (length text) before)
+    end-onward text n lows highs told at q (suc left) (stands-part text (writeForm endForm []) at q within here) ∙ rw (lt-ltb q (length text) before)
 
 -- ---- what a refusal means
 
@@ -179,7 +166,7 @@ end-refused text n lows highs told p q within other e = go (scanForm text endFor
         let same : at ≡ q = cc in
         let line = read-line endForm text p values at end-line within first in
         let here : Part text p (writeForm endForm []) at = rw (end-numbers values (line .0)) at (line .1) in
-        nothingDue (rw same at here) (rw same at (ltb-true at (length text) test))
+        nothingDue (part-stands text (writeForm endForm []) p q (rw same at here)) (rw same at (ltb-true at (length text) test))
     over values at first false test e = let z : _≡_ {A = ℕ} 0 1 = cc in absurd (omega arith)
 
     go : (scan : Scan) → scanForm text endForm p ≡ scan

@@ -1,16 +1,17 @@
--- Refusal 18 of a DIMACS text is at the first byte that departs from every drawing's text, where the numbers before it pass.
+-- Refusal 18 of a DIMACS text is at the first byte that departs from every drawing's text, where the numbers of the lines before it pass.
 -- Assumes nothing.
 use Prim.Native.Nat.{ℕ}
 use mathlib.Core.List.{List, []}
-use mathlib.Core.Logic.{_↔_}
+use mathlib.Core.Logic.{_↔_, by-cases}
 use mathlib.Core.Path.{_≡_, refl, sym, _∙_, ap}
+use native.Mathlib.Decide.{ℕ-discrete}
 use native.Mathlib.Omega.{arith}
 use lib.ListN.{length}
 use Rattle.definitions.specs.Outcome.{Outcome, refused, done}
 use Rattle.definitions.specs.Departs.{DepartsFrom}
 use Rattle.definitions.specs.Text.{Network}
 use Rattle.definitions.specs.Dimacs.{importNetwork}
-use Rattle.definitions.specs.DimacsText.{Drawing, DrawingFits, dimacsText, judgedEdges, judged}
+use Rattle.definitions.specs.DimacsText.{Drawing, DrawingFits, dimacsText, judgedEdges, judged, Front, judgedFront}
 use Rattle.definitions.specs.ImportPromise.{NumbersPass}
 use Rattle.text_theory.specs.Sized.{sized-refused}
 use Rattle.text_theory.specs.FirstDeparture.{departs-once, whole-never-departs, departs-there}
@@ -19,6 +20,8 @@ use Rattle.text_theory.specs.JudgedEdges.{judged-not-eighteen}
 use Rattle.text_theory.specs.DimacsRead.{import-written}
 use Rattle.text_theory.specs.DimacsBegun.{import-begins}
 use Rattle.text_theory.specs.DimacsAgree.{import-agrees}
+use Rattle.text_theory.specs.FrontDecides.{front-decides}
+use Rattle.text_theory.specs.FrontRefused.{front-refused}
 
 -- The text of a drawing that fits is not refused with 18.
 never-eighteen : (drawing : Drawing) (roomLows roomHighs roomStates q : ℕ) → DrawingFits drawing
@@ -32,6 +35,16 @@ never-eighteen drawing roomLows roomHighs roomStates q fits e =
     (sym (drawing-read drawing roomLows roomHighs roomStates fits) ∙ e) (λ x. omega arith) (λ x. omega arith) (λ x. omega arith) in
     judged-not-eighteen edges n [] [] q wrong
 
+-- Nor do the numbers of lines at the front give cause for 18.
+front-never-eighteen : (front : Front) (roomLows roomHighs roomStates q : ℕ) → judgedFront front roomLows roomHighs roomStates ≡ refused 18 q → ⊥
+unfolding judgedFront
+front-never-eighteen front roomLows roomHighs roomStates q e =
+    let n = front .relays in
+    let (pass, wrong) =
+    sized-refused n (front .links) roomLows roomHighs roomStates (judgedEdges n [] [] (front .edges)) 18 q e (λ x. omega arith)
+    (λ x. omega arith) (λ x. omega arith) in
+    judged-not-eighteen (front .edges) n [] [] q wrong
+
 refused-departs : (text : List ℕ) (roomLows roomHighs roomStates q : ℕ)
     → importNetwork text roomLows roomHighs roomStates ≡ refused 18 q → DepartsFrom DrawingFits dimacsText text q
 refused-departs text roomLows roomHighs roomStates q e =
@@ -43,6 +56,18 @@ refused-departs text roomLows roomHighs roomStates q e =
     (λ other othersFit same. never-eighteen other roomLows roomHighs roomStates q othersFit
     (ap (λ (t : List ℕ). importNetwork t roomLows roomHighs roomStates) same ∙ e))
 
+-- Where the numbers of the lines at the front pass, no other refusal is given.
+eighteen-alone : (text : List ℕ) (roomLows roomHighs roomStates number place : ℕ) → NumbersPass text roomLows roomHighs roomStates
+    → importNetwork text roomLows roomHighs roomStates ≡ refused number place → number ≡ 18
+eighteen-alone text roomLows roomHighs roomStates number place pass e =
+    by-cases (ℕ-discrete number 18) (λ same. same)
+    (λ other.
+    let found = front-refused text roomLows roomHighs roomStates number place other e in
+    let (network, good) = pass (found .front) (found .fits) (found .begins) in
+    let clash : _≡_ {A = Outcome Network} (refused number place) (done network) = sym (found .judges) ∙ good in
+    let z : _≡_ {A = ℕ} 0 1 = cc in
+    absurd (omega arith))
+
 departs-refused : (text : List ℕ) (roomLows roomHighs roomStates q : ℕ) → DepartsFrom DrawingFits dimacsText text q
     → NumbersPass text roomLows roomHighs roomStates → importNetwork text roomLows roomHighs roomStates ≡ refused 18 q
 departs-refused text roomLows roomHighs roomStates q here pass = go (importNetwork text roomLows roomHighs roomStates) refl
@@ -52,7 +77,7 @@ departs-refused text roomLows roomHighs roomStates q here pass = go (importNetwo
         let (drawing, fits, written) = import-written text roomLows roomHighs roomStates network e in
         absurd (whole-never-departs DrawingFits dimacsText text q drawing fits written here)
     go (refused number place) e =
-        let eighteen : number ≡ 18 = pass number place e in
+        let eighteen : number ≡ 18 = eighteen-alone text roomLows roomHighs roomStates number place pass e in
         let there = refused-departs text roomLows roomHighs roomStates place (e ∙ ap (λ (n : ℕ). refused n place) eighteen) in
         let same : place ≡ q = departs-once DrawingFits dimacsText text place q there here in
         rw (eighteen, same)
@@ -65,8 +90,15 @@ refused-eighteen-exactly text roomLows roomHighs roomStates q = (
   λ both. departs-refused text roomLows roomHighs roomStates q (both .0) (both .1),
 )
   where
-    -- One refusal is given.
+    -- Numbers that do not pass are refused, and not with 18.
     alone : importNetwork text roomLows roomHighs roomStates ≡ refused 18 q → NumbersPass text roomLows roomHighs roomStates
-    alone e number place f =
-        let both : _≡_ {A = Outcome Network} (refused 18 q) (refused number place) = sym e ∙ f in
-        cc
+    alone e front fits begins = go (judgedFront front roomLows roomHighs roomStates) refl
+      where
+        go : (outcome : Outcome Network) → judgedFront front roomLows roomHighs roomStates ≡ outcome
+            → (network : Network) × (judgedFront front roomLows roomHighs roomStates ≡ done network)
+        go (done network) f = (network, f)
+        go (refused number place) f =
+            let both : _≡_ {A = Outcome Network} (refused 18 q) (refused number place) =
+            sym e ∙ front-decides text front roomLows roomHighs roomStates number place fits begins f in
+            let same : number ≡ 18 = cc in
+            absurd (front-never-eighteen front roomLows roomHighs roomStates place (f ∙ ap (λ (n : ℕ). refused n place) same))

@@ -3,7 +3,6 @@
 use Prim.Native.Nat.{ℕ, zero, suc, _+_}
 use mathlib.Core.Bool.{Bool, true, false}
 use mathlib.Core.List.{List, [], _∷_, _++_}
-use mathlib.Core.Logic.{_↔_}
 use mathlib.Core.Path.{_≡_, refl, sym, _∙_, ap}
 use native.Mathlib.Omega.{arith}
 use lib.Dec.{eqb, ltb}
@@ -14,7 +13,8 @@ use Rattle.definitions.specs.Form.{Scan, departs, reads, byteAt, scanForm, onSc
 use Rattle.definitions.specs.Text.{endForm}
 use Rattle.definitions.specs.Plan.{sheetForm, keptForm, Sheet, sheetText}
 use Rattle.definitions.specs.SheetForm.{routeFront, overFront, scanNumbers, readKept, readRoutes, readSheet}
-use Rattle.text_theory.specs.SheetRoundTrip.{SheetFits, sheet-read}
+use Rattle.definitions.specs.RefusalFourteen.{SheetFits, RefusalFourteen}
+use Rattle.text_theory.specs.SheetRoundTrip.{sheet-read}
 use Rattle.text_theory.specs.SheetWritten.{sheet-written}
 use Rattle.text_theory.specs.SheetLooks.{sheet-looks}
 use Rattle.text_theory.specs.SheetBegun.{sheet-begins}
@@ -63,7 +63,7 @@ routes-fourteen (suc most) text from to k rs os p number place e =
     go false e hyp = kept-fourteen text from to k rs os p number place e
 
 -- No other refusal is given to a sheet's text.
-pub refused-as-fourteen : (text : List ℕ) (number place : ℕ) → readSheet text ≡ refused number place → number ≡ 14
+refused-as-fourteen : (text : List ℕ) (number place : ℕ) → readSheet text ≡ refused number place → number ≡ 14
 unfolding readSheet
 refused-as-fourteen text number place =
     on-scan-fourteen (scanForm text sheetForm 0) _ number place
@@ -96,6 +96,5 @@ departs-refused text q here = go (readSheet text) refl
         let same : place ≡ q = departs-once SheetFits sheetText text place q there here in
         rw (fourteen, same)
 
--- Refusal 14 is at the first byte that departs, and at no other.
-pub refused-fourteen-exactly : (text : List ℕ) (q : ℕ) → (readSheet text ≡ refused 14 q) ↔ DepartsFrom SheetFits sheetText text q
-refused-fourteen-exactly text q = (refused-departs text q, departs-refused text q)
+pub refusal-fourteen : RefusalFourteen
+refusal-fourteen = record { exactly = λ text q. (refused-departs text q, departs-refused text q); alone = refused-as-fourteen }

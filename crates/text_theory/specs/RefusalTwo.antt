@@ -1,45 +1,35 @@
--- What refusal 2 of the reader means: at that byte the text departs from the form due, "the length, if it ends early".
--- Assumes nothing.
+-- What refusal 2 of the reader means, proved: at that byte the text departs from the form due, and where it departs it is refused, whatever
+-- room there is that gives no cause for 8. Assumes nothing.
 use Prim.Native.Nat.{ℕ, zero, suc, _+_, _≤_, _<_}
 use mathlib.Core.Bool.{Bool, true, false, _||_}
 use mathlib.Core.List.{List, [], _∷_, _++_, append-assoc}
-use mathlib.Core.Logic.{_↔_}
+use mathlib.Core.Logic.{_≢_}
 use mathlib.Core.Path.{_≡_, refl, sym, _∙_, ap}
 use native.Mathlib.Nat.{add-zero}
 use native.Mathlib.Omega.{arith}
 use lib.Dec.{ltb, leb}
 use lib.ListN.{length, getD, replicate}
 use borrow.Author.Tests.{ltb-false}
-use Rattle.definitions.specs.Outcome.{pick, refused, refuseIf}
+use Rattle.definitions.specs.Outcome.{pick, Outcome, refused, done, refuseIf, andThen}
 use Rattle.definitions.specs.Lists.{outside, someBelow}
 use Rattle.definitions.specs.Network.{isPair, linkFault, Accepted}
 use Rattle.definitions.specs.Form.{Scan, departs, reads, scanForm, onScan, writeForm}
-use Rattle.definitions.specs.Text.{headerForm, linkForm, Network, sized, readLinks, readNetwork, linkLines, outLines}
-use Rattle.lists.specs.Outcomes.{refused-later}
+use Rattle.definitions.specs.Text.{headerForm, linkForm, Network, sized, readLinks, readNetwork, countsOf, readAnswer, linkLines, outLines}
+use Rattle.definitions.specs.Departs.{DepartsAt}
+use Rattle.definitions.specs.RefusalTwo.{EndDeparts, Departure, headerDue, linkDue, endDue, RefusalTwo}
+use Rattle.lists.specs.Outcomes.{refused-later, refuse-passed}
 use Rattle.lists.specs.Parts.{Part, part-empty, part-append, part-first, part-second}
 use Rattle.theory.specs.Accepted.{ProperStates, accepted, accepted-states}
 use Rattle.text_theory.specs.Forms.{header-line, link-line}
 use Rattle.text_theory.specs.NetworkLines.{read-line, link-numbers, header-numbers}
 use Rattle.text_theory.specs.LinkByLink.{lines, Faultless, linkLines-lines, accepted-faultless, faultless-accepted}
 use Rattle.text_theory.specs.OutByOut.{outs, outLines-outs, tell, all-serve}
-use Rattle.text_theory.specs.Onward.{header-onward, links-onward, states-onward}
+use Rattle.text_theory.specs.Onward.{header-roomy, links-onward, states-onward}
 use Rattle.text_theory.specs.Sized.{sized-refused}
-use Rattle.text_theory.specs.DepartsFromForm.{DepartsAt, departs-at}
+use Rattle.text_theory.specs.DepartsFromForm.{departs-at}
 use Rattle.text_theory.specs.DepartsOnce.{departs-exactly}
-use Rattle.text_theory.specs.OutOrEnd.{EndDeparts, due-refused, OutsDepart, outs-depart}
-
--- Where a text departs: in its header line; behind that line and the lines of an accepted table, up to byte `at`, where `left` more
--- link lines are due; or behind all the link lines that the header announces and the out lines of some states.
-pub data Departure (text : List ℕ) (q : ℕ) : Type 0 where
-  headerDue : DepartsAt text headerForm 0 q → Departure text q
-  linkDue : (n : ℕ) (lows highs : List ℕ) (left at : ℕ) → Accepted n lows highs (replicate n 1) → 0 < left
-      → length lows + left ≤ 3000
-      → Part text 0 (writeForm headerForm (n ∷ (length lows + left) ∷ []) ++ linkLines lows highs 0 (length lows)) at
-      → DepartsAt text linkForm at q → Departure text q
-  endDue : (n : ℕ) (lows highs states : List ℕ) (at : ℕ) → Accepted n lows highs states
-      → Part text 0
-      (writeForm headerForm (n ∷ length lows ∷ []) ++ (linkLines lows highs 0 (length lows) ++ outLines states 0 (length states))) at
-      → EndDeparts text at q → Departure text q
+use Rattle.text_theory.specs.Standing.{part-stands, stands-part}
+use Rattle.text_theory.specs.OutOrEnd.{due-refused, OutsDepart, outs-depart}
 
 -- The faults of a link are 5, 6 and 7.
 fault-not-two : (n : ℕ) (lows highs : List ℕ) (i a b : ℕ) → linkFault n lows highs i a b ≡ 2 → ⊥
@@ -94,7 +84,8 @@ behind-header text n m p q header size few links = go (links .over)
 
     go : LinksOver text n (links .left) (links .at) q → Departure text q
     go (oneMore more here) =
-        linkDue n ls hs (links .left) (links .at) (accept (replicate n 1) (all-serve n)) more (omega (arith, links .many)) before here
+        linkDue n ls hs (links .left) (links .at) (accept (replicate n 1) (all-serve n)) more (omega (arith, links .many))
+        (part-stands text _ 0 (links .at) before) here
     go (noMore none seen) =
         let states = seen .states in
         let written = outLines states 0 (length states) in
@@ -102,9 +93,10 @@ behind-header text n m p q header size few links = go (links .over)
         let first = writeForm headerForm (n ∷ length ls ∷ []) in
         let count : length ls + links .left ≡ length ls = omega arith in
         let out : Part text (links .at) written (seen .at) = rw (outLines-outs states []) (seen .part) in
-        endDue n ls hs states (seen .at) (accept states (seen .proper))
-        (rw (append-assoc first table written) at
-        (part-append text (first ++ table) written 0 (links .at) (seen .at) (rw count at before) out))
+        let all : Part text 0 (first ++ (table ++ written)) (seen .at) =
+        rw (append-assoc first table written) at
+        (part-append text (first ++ table) written 0 (links .at) (seen .at) (rw count at before) out) in
+        endDue n ls hs states (seen .at) (accept states (seen .proper)) (part-stands text (first ++ (table ++ written)) 0 (seen .at) all)
         (seen .due)
 
 -- A link line, and behind it the others.
@@ -216,12 +208,12 @@ end-due-refused text n lows highs states p at q check part due =
     let (left, some, told) = states-onward text n lows highs states p at (accepted n lows highs states check .few) proper out in
     told ∙ due-refused text n lows highs (tell [] 0 states) at q left (part .within) some due
 
--- The reader goes on behind the header line and the lines of an accepted table, with room for every network.
+-- The reader goes on behind the header line and the lines of an accepted table, where it has no cause for 8.
 table-onward : (text : List ℕ) (n : ℕ) (lows highs states : List ℕ) (left at roomLows roomHighs roomStates : ℕ)
-    → Accepted n lows highs states → length lows + left ≤ 3000 → 3000 ≤ roomLows → 3000 ≤ roomHighs → 1000 ≤ roomStates
+    → Accepted n lows highs states → length lows + left ≤ 3000 → readNetwork text roomLows roomHighs roomStates ≢ refused 8 0
     → Part text 0 (writeForm headerForm (n ∷ (length lows + left) ∷ []) ++ linkLines lows highs 0 (length lows)) at
     → readNetwork text roomLows roomHighs roomStates ≡ readLinks text n lows highs at left
-table-onward text n lows highs states left at roomLows roomHighs roomStates check few inLows inHighs inStates before =
+table-onward text n lows highs states left at roomLows roomHighs roomStates check few roomy before =
     let table = accepted n lows highs states check in
     let size = table .few in
     let m = length lows + left in
@@ -229,35 +221,54 @@ table-onward text n lows highs states left at roomLows roomHighs roomStates chec
     let p = 0 + length header in
     let both : Part text 0 (header ++ lines lows highs) at =
     rw (linkLines-lines lows highs [] [] refl (table .even)) at before in
-    header-onward text n m p roomLows roomHighs roomStates (table .some) size few (omega arith) (omega arith) (omega arith)
-    (part-first text header (lines lows highs) 0 at both)
+    let full = ltb roomLows m || (ltb roomHighs m || ltb roomStates n) in
+    let begun =
+    header-roomy text n m p roomLows roomHighs roomStates (table .some) size few (part-first text header (lines lows highs) 0 at both) in
+    begun
+    ∙ refuse-passed full 8 0 (readLinks text n [] [] p m) (λ e. roomy (begun ∙ e))
     ∙ links-onward text n lows highs [] [] p at left size (table .even) (accepted-faultless n lows highs states check)
     (part-second text header (lines lows highs) 0 at both)
 
-departure-refused : (text : List ℕ) (roomLows roomHighs roomStates q : ℕ) → 3000 ≤ roomLows → 3000 ≤ roomHighs → 1000 ≤ roomStates
+departure-refused : (text : List ℕ) (roomLows roomHighs roomStates q : ℕ) → readNetwork text roomLows roomHighs roomStates ≢ refused 8 0
     → Departure text q → readNetwork text roomLows roomHighs roomStates ≡ refused 2 q
 unfolding readNetwork onScan
-departure-refused text roomLows roomHighs roomStates q inLows inHighs inStates (headerDue here) =
+departure-refused text roomLows roomHighs roomStates q roomy (headerDue here) =
     rw (departs-exactly headerForm text 0 q header-line (omega arith) .1 here)
-departure-refused text roomLows roomHighs roomStates q inLows inHighs inStates (linkDue n lows highs left at check more few before here) =
-    table-onward text n lows highs (replicate n 1) left at roomLows roomHighs roomStates check few inLows inHighs inStates before
+departure-refused text roomLows roomHighs roomStates q roomy (linkDue n lows highs left at check more few stands here) =
+    let before = stands-part text _ 0 at (omega arith) stands in
+    table-onward text n lows highs (replicate n 1) left at roomLows roomHighs roomStates check few roomy before
     ∙ link-refused text n lows highs left at q (before .within) more here
-departure-refused text roomLows roomHighs roomStates q inLows inHighs inStates (endDue n lows highs states at check before due) =
+departure-refused text roomLows roomHighs roomStates q roomy (endDue n lows highs states at check stands due) =
     let table = accepted n lows highs states check in
     let header = writeForm headerForm (n ∷ length lows ∷ []) in
     let links = linkLines lows highs 0 (length lows) in
     let written = outLines states 0 (length states) in
+    let before = stands-part text (header ++ (links ++ written)) 0 at (omega arith) stands in
     let both : Part text 0 ((header ++ links) ++ written) at = rw (append-assoc header links written) before in
     let p = 0 + length (header ++ links) in
     let first : Part text 0 (writeForm headerForm (n ∷ (length lows + 0) ∷ []) ++ links) p =
     rw (add-zero (length lows)) (part-first text (header ++ links) written 0 at both) in
-    table-onward text n lows highs states 0 p roomLows roomHighs roomStates check (omega (arith, table .short)) inLows inHighs inStates first
+    table-onward text n lows highs states 0 p roomLows roomHighs roomStates check (omega (arith, table .short)) roomy first
     ∙ end-due-refused text n lows highs states p at q check (part-second text (header ++ links) written 0 at both) due
 
--- With room for 3,000 links and 1,000 relays, the reader refuses with 2 at q exactly if the text departs at q.
-pub refused-two-exactly : (text : List ℕ) (roomLows roomHighs roomStates q : ℕ) → 3000 ≤ roomLows → 3000 ≤ roomHighs
-    → 1000 ≤ roomStates → (readNetwork text roomLows roomHighs roomStates ≡ refused 2 q) ↔ Departure text q
-refused-two-exactly text roomLows roomHighs roomStates q inLows inHighs inStates = (
-  refused-two text roomLows roomHighs roomStates q,
-  departure-refused text roomLows roomHighs roomStates q inLows inHighs inStates,
-)
+-- What Read answers, by what was read.
+answer-refused : (outcome : Outcome Network) (number place : ℕ) → countsOf outcome ≡ refused number place → outcome ≡ refused number place
+unfolding andThen
+answer-refused (refused n p) number place e =
+    let same : (n ≡ number) × (p ≡ place) = (cc, cc) in
+    rw (same .0, same .1)
+answer-refused (done network) number place e = let z : _≡_ {A = ℕ} 0 1 = cc in absurd (omega arith)
+
+refused-answer : (outcome : Outcome Network) (number place : ℕ) → outcome ≡ refused number place → countsOf outcome ≡ refused number place
+unfolding andThen
+refused-answer outcome number place e = rw e
+
+pub refusal-two : RefusalTwo
+unfolding readAnswer
+refusal-two text lows highs states q roomy =
+    let read = readNetwork text (length lows) (length highs) (length states) in (
+      λ e. refused-two text (length lows) (length highs) (length states) q (answer-refused read 2 q e),
+      λ here.
+          refused-answer read 2 q
+          (departure-refused text (length lows) (length highs) (length states) q (λ e. roomy (refused-answer read 8 0 e)) here),
+    )

@@ -12,12 +12,13 @@ use Rattle.definitions.specs.Form.{bytes, Scan, departs, reads, byteAt, scanFor
 use Rattle.definitions.specs.Text.{endForm}
 use Rattle.definitions.specs.Plan.{sheetForm, keptForm, Sheet, numbersLine, routeLines, sheetText}
 use Rattle.definitions.specs.SheetForm.{routeFront, overFront, scanNumbers, readKept, readRoutes, readSheet}
+use Rattle.definitions.specs.Lists.{AllBelow}
+use Rattle.definitions.specs.RefusalFourteen.{SheetFits, LinesFit}
 use Rattle.lists.specs.Parts.{Part, part-append}
 use Rattle.text_theory.specs.Forms.{end-line}
 use Rattle.text_theory.specs.NetworkLines.{read-line, end-numbers}
-use Rattle.text_theory.specs.Spans.{AllBelow}
 use Rattle.text_theory.specs.NumberLines.{read-route, read-over}
-use Rattle.text_theory.specs.SheetRoundTrip.{LinesFit, SheetFits, sheet-line, kept-line, keptAndEnd, routesAndEnd}
+use Rattle.text_theory.specs.SheetRoundTrip.{sheet-line, kept-line, keptAndEnd, routesAndEnd}
 use Rattle.text_theory.specs.SheetWritten.{sheet-numbers, kept-numbers}
 use Rattle.text_theory.specs.LineBegun.{BeginsAt, begins-first, begins-later, form-begins, route-begins, over-begins}
 

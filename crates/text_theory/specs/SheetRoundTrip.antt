@@ -10,33 +10,16 @@ use lib.Seq.{append-snoc}
 use borrow.Author.Tests.{le-ltb}
 use Rattle.definitions.specs.Outcome.{done}
 use Rattle.definitions.specs.Lists.{outside}
-use Rattle.definitions.specs.Form.{bytes, byteAt, onScan, writeForm}
+use Rattle.definitions.specs.Form.{bytes, byteAt, onScan, writeForm, Fits}
 use Rattle.definitions.specs.Text.{endForm}
 use Rattle.definitions.specs.Plan.{sheetForm, keptForm, Sheet, numbersLine, routeLines, sheetText}
 use Rattle.definitions.specs.SheetForm.{readKept, readRoutes, readSheet}
+use Rattle.definitions.specs.RefusalFourteen.{LinesFit, SheetFits}
 use Rattle.lists.specs.Parts.{Part, part-head, part-tail, part-first, part-second, part-start, part-end}
 use Rattle.lists.specs.Outcomes.{refuse-not}
-use Rattle.text_theory.specs.Forms.{wellFormed, wellFormedBehind, goodWord, noZero, endsInNumber, Fits, Line, end-line}
+use Rattle.text_theory.specs.Forms.{wellFormed, wellFormedBehind, goodWord, noZero, endsInNumber, Line, end-line}
 use Rattle.text_theory.specs.NetworkLines.{line-read, end-fits}
-use Rattle.text_theory.specs.Spans.{AllBelow}
 use Rattle.text_theory.specs.NumberLines.{route-read, over-read}
-
--- The lines of the routes can be written and read: each route has two relays or more and its line of one link or more, and every
--- number has at most four digits.
-abbrev pub LinesFit : (routes overs : List (List ℕ)) → Type 0
-LinesFit [] [] = Unit {0}
-LinesFit [] (over ∷ overs) = ⊥
-LinesFit (route ∷ routes) [] = ⊥
-LinesFit (route ∷ routes) (over ∷ overs) =
-    (2 ≤ length route) × (1 ≤ length over) × AllBelow 10000 route × AllBelow 10000 over × LinesFit routes overs
-
--- A sheet can be written and read: the lines of its routes can, and its other numbers have at most four digits.
-pub record SheetFits (sheet : Sheet) : Type 0 where
-  pub smallFrom : sheet .from < 10000
-  pub smallTo : sheet .to < 10000
-  pub smallK : sheet .k < 10000
-  pub smallKept : sheet .kept < 10000
-  pub lines : LinesFit (sheet .routes) (sheet .overs)
 
 -- The first line of a sheet and its `(kept ..)` line are lines: it can be seen where each number ends.
 pub sheet-line : Line sheetForm

@@ -10,18 +10,19 @@ use lib.ListN.{length, getD}
 use lib.Seq.{append-snoc}
 use borrow.Author.Tests.{ltb-false}
 use Rattle.definitions.specs.Outcome.{pick, Outcome, done, refuseIf}
-use Rattle.definitions.specs.Form.{bytes, byteAt, scanForm, onScan, writeForm}
+use Rattle.definitions.specs.Form.{bytes, byteAt, scanForm, onScan, writeForm, Fits}
 use Rattle.definitions.specs.Text.{endForm}
 use Rattle.definitions.specs.Plan.{sheetForm, keptForm, Sheet, numbersLine, routeLines, sheetText}
 use Rattle.definitions.specs.SheetForm.{routeFront, overFront, scanNumbers, readKept, readRoutes, readSheet}
+use Rattle.definitions.specs.Lists.{AllBelow}
+use Rattle.definitions.specs.RefusalFourteen.{SheetFits, LinesFit}
 use Rattle.lists.specs.Outcomes.{not-refused}
 use Rattle.lists.specs.Parts.{Part, part-append, part-whole}
-use Rattle.text_theory.specs.Forms.{Fits, end-line}
+use Rattle.text_theory.specs.Forms.{end-line}
 use Rattle.text_theory.specs.NetworkLines.{read-line, end-numbers}
-use Rattle.text_theory.specs.Spans.{AllBelow}
 use Rattle.text_theory.specs.RoundTrip.{on-scan-done}
 use Rattle.text_theory.specs.NumberLines.{read-route, read-over}
-use Rattle.text_theory.specs.SheetRoundTrip.{LinesFit, SheetFits, sheet-line, kept-line, keptAndEnd, routesAndEnd}
+use Rattle.text_theory.specs.SheetRoundTrip.{sheet-line, kept-line, keptAndEnd, routesAndEnd}
 
 -- The three numbers of the first line, each of at most four digits.
 pub sheet-numbers : (values : List ℕ) → Fits sheetForm values

@@ -1,14 +1,14 @@
 -- The refusals 3, 4 and 8 behind the line that tells n and m: what was passed where they were not given. Assumes nothing.
 use Prim.Native.Nat.{ℕ, _≤_}
-use mathlib.Core.Bool.{false, _||_}
-use mathlib.Core.Logic.{_≢_}
+use mathlib.Core.Bool.{Bool, true, false, _||_}
+use mathlib.Core.Logic.{_⊎_, inl, inr, _≢_}
 use mathlib.Core.Path.{_≡_, _∙_}
 use lib.Dec.{ltb}
 use borrow.Author.Tests.{ltb-false, le-ltb}
 use Rattle.definitions.specs.Outcome.{Outcome, refused, done, refuseIf}
 use Rattle.definitions.specs.Lists.{outside}
 use Rattle.definitions.specs.Text.{Network, sized}
-use Rattle.lists.specs.Outcomes.{not-refused, refused-later, refuse-not}
+use Rattle.lists.specs.Outcomes.{not-refused, refused-later, refused-also, refuse-not}
 
 -- None of the three is given.
 pub record SizesPass (n m roomLows roomHighs roomStates : ℕ) : Type 0 where
@@ -33,6 +33,31 @@ sized-done n m roomLows roomHighs roomStates rest network e =
     let four = not-refused (ltb 3000 m) 4 0 (refuseIf full 8 0 rest) network (three .1) in
     let eight = not-refused full 8 0 rest network (four .1) in
     (record { size = three .0; few = ltb-false 3000 m (four .0); room = eight .0 }, eight .1)
+
+-- A refusal that comes from what follows only if it comes from something else too.
+pub sized-also : (n m roomLows roomHighs roomStates : ℕ) (one other : Outcome Network) (r q : ℕ)
+    → sized n m roomLows roomHighs roomStates one ≡ refused r q → (one ≡ refused r q → other ≡ refused r q)
+    → sized n m roomLows roomHighs roomStates other ≡ refused r q
+sized-also n m roomLows roomHighs roomStates one other r q e after =
+    let full = ltb roomLows m || (ltb roomHighs m || ltb roomStates n) in
+    refused-also (outside 1 1000 n) 3 0 (refuseIf (ltb 3000 m) 4 0 (refuseIf full 8 0 one)) _ r q e
+    (λ four. refused-also (ltb 3000 m) 4 0 (refuseIf full 8 0 one) _ r q four
+    (λ eight. refused-also full 8 0 one other r q eight after))
+
+-- A refusal comes from the three, whatever follows, or from what follows.
+pub sized-split : (n m roomLows roomHighs roomStates : ℕ) (rest : Outcome Network) (r q : ℕ)
+    → sized n m roomLows roomHighs roomStates rest ≡ refused r q
+    → ((other : Outcome Network) → sized n m roomLows roomHighs roomStates other ≡ refused r q) ⊎ (rest ≡ refused r q)
+unfolding refuseIf
+sized-split n m roomLows roomHighs roomStates rest r q =
+    go (outside 1 1000 n) (ltb 3000 m) (ltb roomLows m || (ltb roomHighs m || ltb roomStates n))
+  where
+    go : (a b c : Bool) → refuseIf a 3 0 (refuseIf b 4 0 (refuseIf c 8 0 rest)) ≡ refused r q
+        → ((other : Outcome Network) → refuseIf a 3 0 (refuseIf b 4 0 (refuseIf c 8 0 other)) ≡ refused r q) ⊎ (rest ≡ refused r q)
+    go true b c e = inl (λ other. e)
+    go false true c e = inl (λ other. e)
+    go false false true e = inl (λ other. e)
+    go false false false e = inr e
 
 -- Another refusal comes from what follows.
 pub sized-refused : (n m roomLows roomHighs roomStates : ℕ) (rest : Outcome Network) (r q : ℕ)

@@ -8,7 +8,7 @@ use native.Mathlib.Omega.{arith}
 use lib.Dec.{eqb}
 use lib.ListN.{length, length-append}
 use Rattle.definitions.specs.Outcome.{pick}
-use Rattle.definitions.specs.Lists.{outside}
+use Rattle.definitions.specs.Lists.{outside, AllBelow}
 use Rattle.definitions.specs.Form.{
   Item,
   word,
@@ -34,11 +34,6 @@ unfoldable pub span : ℕ → List Item → ℕ
 span digits [] = 0
 span digits (word w ∷ items) = length w + span digits items
 span digits (numeral ∷ items) = digits + span digits items
-
--- Every number is below the bound.
-abbrev pub AllBelow : ℕ → List ℕ → Type 0
-AllBelow bound [] = Unit {0}
-AllBelow bound (x ∷ values) = (x < bound) × AllBelow bound values
 
 -- Numbers of at most `more` + 1 digits.
 pub written-span : (more : ℕ) (items : List Item) (values : List ℕ) → AllBelow (10 ^ suc more) values

@@ -31,11 +31,11 @@ module _ (lows highs : List ℕ) {n : ℕ} {states : List ℕ} {picked : ℕ →
 
   -- A route of two relays is its two ends,
   direct-ends : (route : List ℕ) → RouteHolds n lows highs states picked from to route → length route ≡ 2 → route ≡ from ∷ to ∷ []
-  direct-ends route holds two = two-entries route two ∙ ap₂ (λ (a b : ℕ). a ∷ b ∷ []) (holds .starts) (holds .ends)
+  direct-ends route holds two = two-entries route two ∙ ap₂ (λ (a b : ℕ). a ∷ b ∷ []) (holds .runs .starts) (holds .runs .ends)
 
   -- so a link joins them,
   direct-link : (route : List ℕ) → RouteHolds n lows highs states picked from to route → length route ≡ 2 → LinkOf lows highs picked from to
-  direct-link route holds two = subst (Along (LinkOf lows highs picked)) (direct-ends route holds two) (holds .along) .0
+  direct-link route holds two = subst (Along (LinkOf lows highs picked)) (direct-ends route holds two) (holds .runs .along) .0
 
   -- and the route goes over every link that does.
   direct-uses : (route : List ℕ) → RouteHolds n lows highs states picked from to route → length route ≡ 2
@@ -51,7 +51,7 @@ module _ (lows highs : List ℕ) {n : ℕ} {states : List ℕ} {picked : ℕ →
   apart-longer one other first second apart two =
       by-cases (decLt 2 (length other)) (λ more. more)
       (λ less.
-      let also : length other ≡ 2 = omega (arith, second .long) in
+      let also : length other ≡ 2 = omega (arith, second .runs .long) in
       let link = direct-link one first two in
       let one-uses = direct-uses one first two (link .0) (link .2) in
       let other-uses = direct-uses other second also (link .0) (link .2) in

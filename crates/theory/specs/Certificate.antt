@@ -72,9 +72,9 @@ module _ (order lows highs : List ℕ) (arranged : Arranged order lows highs) (n
       go (inl free) =
           let route : List ℕ = getD routes (free .0) [] in
           let route-holds = holds .among .disjoint .each (free .0) (within (free .0) (free .1)) in
-          subst₂ (Joined (LiveIn order dead) (LinkOf lows highs (Kept marks))) (route-holds .starts) (route-holds .ends)
-          (route-joined route (omega (arith, route-holds .long))
-          (λ x h. (holds .within (free .0) (within (free .0) (free .1)) x h, free .2 x h)) (route-holds .along))
+          subst₂ (Joined (LiveIn order dead) (LinkOf lows highs (Kept marks))) (route-holds .runs .starts) (route-holds .runs .ends)
+          (route-joined route (omega (arith, route-holds .runs .long))
+          (λ x h. (holds .within (free .0) (within (free .0) (free .1)) x h, free .2 x h)) (route-holds .runs .along))
       go (inr blocked) =
           let all : k ≤ count dead order =
           pigeonhole dead order k found (λ i h. (holds .within i (within i h) (found i) (blocked i h .0), blocked i h .1))

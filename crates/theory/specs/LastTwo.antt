@@ -9,8 +9,9 @@ use lib.ListN.{length, getD}
 use Rattle.definitions.specs.Network.{linked, Serving, Accepted}
 use Rattle.definitions.specs.Order.{linksAt, orderOf, placeOf, relayAt, relaysAfter}
 use Rattle.definitions.specs.Forests.{earlier, forestsOf, marksAfter}
+use Rattle.definitions.specs.DisjointRoutes.{AnyLink}
 use Rattle.definitions.specs.Demand.{OneTree, inServiceCount}
-use Rattle.definitions.specs.LastTwo.{lastRelay, lastButOne, AreLastTwo, sureFigure, AnyLink, LastTwo}
+use Rattle.definitions.specs.LastTwo.{lastRelay, lastButOne, AreLastTwo, sureFigure, LastTwo}
 use Rattle.theory.specs.Places.{place-named, relays-after, relay-entry}
 use Rattle.theory.specs.ForestBound.{forests-at}
 use Rattle.theory.specs.Columns.{cut-marks}
@@ -121,12 +122,12 @@ last-two n lows highs states ok two k one most relays places marks roomRelays ro
           (forestsOf n lows highs states) (marksAfter n lows highs states k marks) (forests-at n lows highs states)
           (cut-marks n lows highs states ok k one most marks roomMarks) .inOneTree
           (last-one-tree n lows highs states ok two k one (omega (arith, figure)) from to e);
-      noMore = λ from to last routes disjoint.
+      noMore = λ from to last routes between.
           let e = ends-last n lows highs states ok two relays places roomRelays roomPlaces from to last in
           omega (
             arith,
             figure,
             routes-at-most n lows highs states AnyLink from to (relayAt (orderOf n lows highs states) (inServiceCount n states))
-                (e .isLast) routes disjoint,
+                (e .isLast) routes between,
           );
     }

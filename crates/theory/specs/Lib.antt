@@ -39,6 +39,7 @@ pub mod DemandThree
 pub mod LastLinks
 pub mod LastTwo
 pub mod Mesh
+pub mod MeshWithoutTwo
 pub mod AnotherOrder
 pub mod SweepTrades
 pub mod Erased

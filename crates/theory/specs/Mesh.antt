@@ -12,9 +12,9 @@ use Rattle.definitions.specs.Network.{serves, Accepted}
 use Rattle.definitions.specs.Order.{relaysAfter, placesAfter}
 use Rattle.definitions.specs.Forests.{forestsAfter, marksAfter}
 use Rattle.definitions.specs.Route.{tooShort, routeAnswer, countsAfter, routeRelaysAfter}
-use Rattle.definitions.specs.DisjointRoutes.{LinkOf, InService, DisjointRoutes}
+use Rattle.definitions.specs.DisjointRoutes.{LinkOf, InService}
 use Rattle.definitions.specs.Demand.{Joined, alone, onward, Kept, Live, deadCount, OneTree, Delivered, inServiceCount, Holds, RoutesHold}
-use Rattle.definitions.specs.LastTwo.{AreLastTwo, sureFigure, AnyLink, LastTwoHolds}
+use Rattle.definitions.specs.LastTwo.{AreLastTwo, sureFigure, RoutesInService, LastTwoHolds}
 use Rattle.definitions.specs.Networks.{mesh, lent}
 use Rattle.definitions.specs.Opened.{opened}
 use Rattle.theory.specs.DemandThree.{demand-three}
@@ -112,5 +112,5 @@ pub mesh-last-routes : Delivered 5 lows highs states marks 2 4 3
 mesh-last-routes = mesh-last-two .delivers figure 4 3 last-ends (lent 2) (lent 7) (lent 10) long
 
 -- and no list of routes has 3.
-pub mesh-no-more : (routes : List (List ℕ)) → DisjointRoutes 5 lows highs states AnyLink 4 3 routes → length routes ≤ 2
-mesh-no-more routes disjoint = omega (arith, mesh-last-two .noMore 4 3 last-ends routes disjoint, figure)
+pub mesh-no-more : (routes : List (List ℕ)) → RoutesInService 5 lows highs states 4 3 routes → length routes ≤ 2
+mesh-no-more routes between = omega (arith, mesh-last-two .noMore 4 3 last-ends routes between, figure)

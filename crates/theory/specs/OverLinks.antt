@@ -120,7 +120,7 @@ module _ (n : ℕ) (lows highs states : List ℕ) (ok : Accepted n lows highs st
       omega (
         arith,
         ap (λ (l : List (List ℕ)). length (joinAll l)) (overs-found n lows highs states ok k from to hf ht differ tree-between),
-        length-all-steps (pairLink lows highs) routes (λ i less. omega (arith, holds .disjoint .each i less .long)),
+        length-all-steps (pairLink lows highs) routes (λ i less. omega (arith, holds .disjoint .each i less .runs .long)),
         holds .number,
         holds .written,
       )

@@ -74,15 +74,18 @@ module _ (order lows highs : List ℕ) (arranged : Arranged order lows highs) (n
         let long : 2 ≤ length route = holds .long in
         let last : length (map at route) - 1 ≡ length route - 1 = omega arith in
         record {
-          long = omega arith;
-          starts = getD-map at route 0 0 0 (omega arith) ∙ ap at (holds .starts) ∙ relay-of-place order from hf .2;
-          ends =
-              ap (λ (i : ℕ). getD (map at route) i 0) last ∙ getD-map at route (length route - 1) 0 0 (omega arith)
-              ∙ ap at (holds .ends) ∙ relay-of-place order to ht .2;
-          along =
-              along-map (LeftLink (leftIn order lows highs) k) (LinkOf lows highs (Kept marks)) at
-              (λ u v l. kept-link order lows highs arranged k marks marked (l .0) u v (l .2) (l .3)) route (holds .along);
-          through = λ r h. serving r (placed-relays route holds r h);
+          runs =
+              record {
+                long = omega arith;
+                starts = getD-map at route 0 0 0 (omega arith) ∙ ap at (holds .starts) ∙ relay-of-place order from hf .2;
+                ends =
+                    ap (λ (i : ℕ). getD (map at route) i 0) last ∙ getD-map at route (length route - 1) 0 0 (omega arith)
+                    ∙ ap at (holds .ends) ∙ relay-of-place order to ht .2;
+                along =
+                    along-map (LeftLink (leftIn order lows highs) k) (LinkOf lows highs (Kept marks)) at
+                    (λ u v l. kept-link order lows highs arranged k marks marked (l .0) u v (l .2) (l .3)) route (holds .along);
+                through = λ r h. serving r (placed-relays route holds r h);
+              };
           noRepeat =
               no-repeat-map at route
               (λ x y hx hy e.

@@ -1,5 +1,5 @@
--- Every relay of a route is an end of a link that the route goes over; and between two relays there are at most as many disjoint
--- routes as either has links to relays in service.
+-- Every relay of a route is an end of a link that the route goes over; so between two relays there are at most as many routes without a
+-- common link as either has links to relays in service, whichever way each of them runs and whether or not they repeat relays.
 use Prim.Native.Nat.{ℕ, _-_, _≤_, _<_}
 use mathlib.Core.Bool.{Bool, true, _&&_}
 use mathlib.Core.List.{List, [], _∷_}
@@ -10,7 +10,7 @@ use lib.ListN.{length, getD}
 use Rattle.definitions.specs.Lists.{table, firstFrom, has}
 use Rattle.definitions.specs.Network.{joins, touches, serves, linkServes}
 use Rattle.definitions.specs.Order.{linksAt}
-use Rattle.definitions.specs.DisjointRoutes.{LinkOf, InService, AlongFrom, Along, usesFrom, uses, RouteHolds, DisjointRoutes}
+use Rattle.definitions.specs.DisjointRoutes.{LinkOf, InService, AlongFrom, Along, usesFrom, uses, RouteRuns, NoCommonLink, RoutesBetween}
 use Rattle.lists.specs.Tests.{or-left, or-right, and-both, and-all}
 use Rattle.lists.specs.Cases.{has-nil, has-cases}
 use Rattle.lists.specs.Members.{has-at, range-has}
@@ -96,54 +96,67 @@ overEnd lows highs states r route i = uses lows highs i route && atEnd lows high
 abbrev firstOver : (lows highs states : List ℕ) (r : ℕ) (route : List ℕ) → ℕ
 firstOver lows highs states r route = firstFrom (overEnd lows highs states r route) 0 (length lows)
 
-module _ (n : ℕ) (lows highs states : List ℕ) (picked : ℕ → Type 0) (from to : ℕ) where
+module _ (n : ℕ) (lows highs states : List ℕ) (picked : ℕ → Type 0) where
+  -- A route from one relay to another.
+  abbrev Runs : (from to : ℕ) (route : List ℕ) → Type 0
+  Runs from to route = RouteRuns n lows highs states picked from to route
+
   -- A link that a route goes over has both ends in service.
-  over-serves : (route : List ℕ) → RouteHolds n lows highs states picked from to route → (i : ℕ) → uses lows highs i route ≡ true
+  over-serves : (from to : ℕ) (route : List ℕ) → Runs from to route → (i : ℕ) → uses lows highs i route ≡ true
       → linkServes lows highs states i ≡ true
   unfolding linkServes
-  over-serves route holds i e =
+  over-serves from to route runs i e =
       let both = has-ends lows highs i route e in
       and-all (serves states (getD lows i 0)) (serves states (getD highs i 0))
-      (holds .through (getD lows i 0) (both .0) .1) (holds .through (getD highs i 0) (both .1) .1)
+      (runs .through (getD lows i 0) (both .0) .1) (runs .through (getD highs i 0) (both .1) .1)
 
-  module _ (r : ℕ) (end : (r ≡ from) ⊎ (r ≡ to)) where
-    has-end : (route : List ℕ) → RouteHolds n lows highs states picked from to route → has route r ≡ true
-    has-end route holds = go end
-      where
-        go : (r ≡ from) ⊎ (r ≡ to) → has route r ≡ true
-        go (inl e) = subst (λ (x : ℕ). has route x ≡ true) (holds .starts ∙ sym e) (has-at route 0 (omega (arith, holds .long)))
-        go (inr e) =
-            subst (λ (x : ℕ). has route x ≡ true) (holds .ends ∙ sym e)
-            (has-at route (length route - 1) (omega (arith, holds .long)))
+  -- A route has its two ends,
+  has-end : (from to : ℕ) (route : List ℕ) → Runs from to route → (r : ℕ) → (r ≡ from) ⊎ (r ≡ to) → has route r ≡ true
+  has-end from to route runs r (inl e) =
+      subst (λ (x : ℕ). has route x ≡ true) (runs .starts ∙ sym e) (has-at route 0 (omega (arith, runs .long)))
+  has-end from to route runs r (inr e) =
+      subst (λ (x : ℕ). has route x ≡ true) (runs .ends ∙ sym e) (has-at route (length route - 1) (omega (arith, runs .long)))
 
-    first-over : (route : List ℕ) → RouteHolds n lows highs states picked from to route
-        → (firstOver lows highs states r route < length lows)
-        × (uses lows highs (firstOver lows highs states r route) route ≡ true)
-        × (atEnd lows highs states r (firstOver lows highs states r route) ≡ true)
-    first-over route holds =
-        let l = link-over lows highs picked route (holds .long) (holds .along) r (has-end route holds) in
-        let at : atEnd lows highs states r (l .0) ≡ true =
-        and-all (touches lows highs r (l .0)) (linkServes lows highs states (l .0)) (l .3) (over-serves route holds (l .0) (l .2)) in
-        let passes : overEnd lows highs states r route (l .0) ≡ true =
-        and-all (uses lows highs (l .0) route) (atEnd lows highs states r (l .0)) (l .2) at in
-        let w = first-holds (overEnd lows highs states r route) (length lows) 0 (l .0) (omega arith) (omega (arith, l .1)) passes in
-        let first = firstOver lows highs states r route in
-        let both = and-both (uses lows highs first route) (atEnd lows highs states r first) (w .passes) in
-        (omega (arith, w .upto, l .1), both .0, both .1)
+  -- so it goes over a link at each of them.
+  abbrev OverAtEnd : (r : ℕ) (route : List ℕ) → Type 0
+  OverAtEnd r route =
+      (firstOver lows highs states r route < length lows)
+      × (uses lows highs (firstOver lows highs states r route) route ≡ true)
+      × (atEnd lows highs states r (firstOver lows highs states r route) ≡ true)
 
-    -- Disjoint routes go over different links at r.
-    pub routes-at-most : (routes : List (List ℕ)) → DisjointRoutes n lows highs states picked from to routes
-        → length routes ≤ linksAt lows highs states r
-    unfolding linksAt
-    routes-at-most routes disjoint =
-        pigeonhole (atEnd lows highs states r) (table (λ i. i) 0 (length lows)) (length routes)
-        (λ i. firstOver lows highs states r (getD routes i []))
-        (λ i h.
-        let w = first-over (getD routes i []) (disjoint .each i h) in
-        (range-has 0 (length lows) (firstOver lows highs states r (getD routes i [])) (omega arith) (omega (arith, w .0)), w .2))
-        (λ i j less h same.
-        let low : i < length routes = omega arith in
-        let one = first-over (getD routes i []) (disjoint .each i low) in
-        let other = first-over (getD routes j []) (disjoint .each j h) in
-        disjoint .apart i j low h (omega arith) .links (firstOver lows highs states r (getD routes j [])) (other .0)
-        (subst (λ (l : ℕ). uses lows highs l (getD routes i []) ≡ true) same (one .1)) (other .1))
+  first-over : (from to : ℕ) (route : List ℕ) → Runs from to route → (r : ℕ) → (r ≡ from) ⊎ (r ≡ to) → OverAtEnd r route
+  first-over from to route runs r end =
+      let l = link-over lows highs picked route (runs .long) (runs .along) r (has-end from to route runs r end) in
+      let at : atEnd lows highs states r (l .0) ≡ true =
+      and-all (touches lows highs r (l .0)) (linkServes lows highs states (l .0)) (l .3) (over-serves from to route runs (l .0) (l .2)) in
+      let passes : overEnd lows highs states r route (l .0) ≡ true =
+      and-all (uses lows highs (l .0) route) (atEnd lows highs states r (l .0)) (l .2) at in
+      let w = first-holds (overEnd lows highs states r route) (length lows) 0 (l .0) (omega arith) (omega (arith, l .1)) passes in
+      let first = firstOver lows highs states r route in
+      let both = and-both (uses lows highs first route) (atEnd lows highs states r first) (w .passes) in
+      (omega (arith, w .upto, l .1), both .0, both .1)
+
+  -- In either direction: both relays are ends.
+  over-either : (from to : ℕ) (route : List ℕ) → Runs from to route ⊎ Runs to from route → (r : ℕ) → (r ≡ from) ⊎ (r ≡ to)
+      → OverAtEnd r route
+  over-either from to route (inl runs) r end = first-over from to route runs r end
+  over-either from to route (inr runs) r (inl e) = first-over to from route runs r (inr e)
+  over-either from to route (inr runs) r (inr e) = first-over to from route runs r (inl e)
+
+  -- Routes without a common link go over different links at r.
+  pub routes-at-most : (from to r : ℕ) → (r ≡ from) ⊎ (r ≡ to) → (routes : List (List ℕ))
+      → RoutesBetween (RouteRuns n lows highs states picked) (NoCommonLink lows highs) from to routes
+      → length routes ≤ linksAt lows highs states r
+  unfolding linksAt
+  routes-at-most from to r end routes between =
+      pigeonhole (atEnd lows highs states r) (table (λ i. i) 0 (length lows)) (length routes)
+      (λ i. firstOver lows highs states r (getD routes i []))
+      (λ i h.
+      let w = over-either from to (getD routes i []) (between .each i h) r end in
+      (range-has 0 (length lows) (firstOver lows highs states r (getD routes i [])) (omega arith) (omega (arith, w .0)), w .2))
+      (λ i j less h same.
+      let low : i < length routes = omega arith in
+      let one = over-either from to (getD routes i []) (between .each i low) r end in
+      let other = over-either from to (getD routes j []) (between .each j h) r end in
+      between .parted i j low h (omega arith) (firstOver lows highs states r (getD routes j [])) (other .0)
+      (subst (λ (l : ℕ). uses lows highs l (getD routes i []) ≡ true) same (one .1)) (other .1))

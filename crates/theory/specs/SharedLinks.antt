@@ -75,6 +75,6 @@ module _ (lows highs : List ℕ) where
       let r = step-over i one p in
       let both = has-ends i other q in
       let in-other = has-joined i (getD one (r .0) 0) (getD one (suc (r .0)) 0) other (r .1 .1) (both .0) (both .1) in
-      ends-meet one (holds .noRepeat) from to (holds .starts) (holds .ends) (r .0) (r .1 .0)
+      ends-meet one (holds .noRepeat) from to (holds .runs .starts) (holds .runs .ends) (r .0) (r .1 .0)
       (shared (getD one (r .0) 0) (has-at one (r .0) (omega (arith, r .1 .0))) (in-other .0))
       (shared (getD one (suc (r .0)) 0) (has-at one (suc (r .0)) (r .1 .0)) (in-other .1))

@@ -27,10 +27,10 @@ use Rattle.theory.specs.SheetRoutes.{GoodRoutes, good-routes, routes-goo
 ends-differ : (n : ℕ) (lows highs states : List ℕ) (picked : ℕ → Type 0) (from to : ℕ) (route : List ℕ)
     → RouteHolds n lows highs states picked from to route → from ≢ to
 ends-differ n lows highs states picked from to route holds e =
-    let last : length route - 1 < length route = omega (arith, holds .long) in
+    let last : length route - 1 < length route = omega (arith, holds .runs .long) in
     let same : 0 ≡ length route - 1 =
-    same-index route (holds .noRepeat) 0 (length route - 1) (omega arith) last (holds .starts ∙ e ∙ sym (holds .ends)) in
-    omega (arith, holds .long)
+    same-index route (holds .noRepeat) 0 (length route - 1) (omega arith) last (holds .runs .starts ∙ e ∙ sym (holds .runs .ends)) in
+    omega (arith, holds .runs .long)
 
 module _ (n : ℕ) (lows highs states : List ℕ) (sheet : Sheet) where
   -- The sheet's routes are good, `from` being the one relay met before the first step; the test of that; and the cut's count.

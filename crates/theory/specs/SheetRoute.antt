@@ -49,15 +49,15 @@ module _ (n : ℕ) (lows highs states : List ℕ) (from to : ℕ) (met : ℕ →
       let last : length (a ∷ rest) - 1 ≡ length rest = omega arith in
       record {
         links = good .links;
-        along = good .holds .along;
-        below = λ r h. good .holds .through r (has-there a rest r h) .0;
+        along = good .holds .runs .along;
+        below = λ r h. good .holds .runs .through r (has-there a rest r h) .0;
         fresh = λ r h. go r h (good .fresh r (has-there a rest r h));
         noRepeat = good .holds .noRepeat;
-        ends = ap (λ (i : ℕ). getD (a ∷ rest) i 0) (sym last) ∙ good .holds .ends;
+        ends = ap (λ (i : ℕ). getD (a ∷ rest) i 0) (sym last) ∙ good .holds .runs .ends;
       }
     where
       go : (r : ℕ) → has rest r ≡ true → NewTo from to met r → (r ≡ to) ⊎ (met r ≡ false)
-      go r h (inl e) = absurd (clash h (ap (has rest) (e ∙ sym (good .holds .starts)) ∙ good .holds .noRepeat .0))
+      go r h (inl e) = absurd (clash h (ap (has rest) (e ∙ sym (good .holds .runs .starts)) ∙ good .holds .noRepeat .0))
       go r h (inr e) = e
 
   -- A good route has one relay more than its walk has steps,
@@ -66,7 +66,7 @@ module _ (n : ℕ) (lows highs states : List ℕ) (from to : ℕ) (met : ℕ →
   unfolding walkRoute
   route-steps [] over good = absurd (good .links)
   route-steps (a ∷ rest) over good =
-      rw (eq-eqb a from (good .holds .starts))
+      rw (eq-eqb a from (good .holds .runs .starts))
       (omega (arith, walk-steps n lows highs states to met 0 a rest over (good-walked a rest over good)))
 
   module _ (started : met from ≡ true) where
@@ -76,12 +76,12 @@ module _ (n : ℕ) (lows highs states : List ℕ) (from to : ℕ) (met : ℕ →
     unfolding walkRoute passes has
     route-met [] over good r = absurd (good .links)
     route-met (a ∷ rest) over good r =
-        rw (eq-eqb a from (good .holds .starts))
+        rw (eq-eqb a from (good .holds .runs .starts))
         (walk-met n lows highs states to met 0 a rest over (good-walked a rest over good) r ∙ go (eqb a r) refl)
       where
         go : (c : Bool) → eqb a r ≡ c → (met r || (has rest r && not (eqb r to))) ≡ (met r || ((c || has rest r) && not (eqb r to)))
         go true e =
-            let known : met r ≡ true = ap met (sym (eqb-true a r e) ∙ good .holds .starts) ∙ started in
+            let known : met r ≡ true = ap met (sym (eqb-true a r e) ∙ good .holds .runs .starts) ∙ started in
             rw known refl
         go false e = refl
 
@@ -96,12 +96,17 @@ module _ (n : ℕ) (lows highs states : List ℕ) (from to : ℕ) (met : ℕ →
           record {
             holds =
                 record {
-                  long = omega arith;
-                  starts = first;
-                  ends = ap (λ (i : ℕ). getD (a ∷ b ∷ rest) i 0) last ∙ w .ends;
-                  along = w .along;
-                  through = λ r h.
-                      (below r (has-cases a (b ∷ rest) r h), along-serves lows highs states (a ∷ b ∷ rest) (omega arith) (w .along) r h);
+                  runs =
+                      record {
+                        long = omega arith;
+                        starts = first;
+                        ends = ap (λ (i : ℕ). getD (a ∷ b ∷ rest) i 0) last ∙ w .ends;
+                        along = w .along;
+                        through = λ r h. (
+                          below r (has-cases a (b ∷ rest) r h),
+                          along-serves lows highs states (a ∷ b ∷ rest) (omega arith) (w .along) r h,
+                        );
+                      };
                   noRepeat = w .noRepeat;
                 };
             links = w .links;

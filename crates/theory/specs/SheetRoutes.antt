@@ -173,7 +173,7 @@ module _ (n : ℕ) (lows highs states : List ℕ) (from to : ℕ) where
       let w : Walk = walkRoute n lows highs states from to met route over in
       let size : length route ≡ w .steps + 1 = route-steps n lows highs states from to met route over good in
       and-all (goodSteps (w .steps) direct) (routesHold n lows highs states from to (w .met) (direct || eqb (w .steps) 1) routes overs)
-      (good-steps (w .steps) direct (omega (arith, size, good .holds .long)) (λ d. omega (arith, size, all .single d 0 (omega arith))))
+      (good-steps (w .steps) direct (omega (arith, size, good .holds .runs .long)) (λ d. omega (arith, size, all .single d 0 (omega arith))))
       (good-routes (w .met) (still-started n lows highs states from to met started direct route over good routes overs)
       (direct || eqb (w .steps) 1) routes overs (good-rest n lows highs states from to met started direct route over good routes overs all))
 

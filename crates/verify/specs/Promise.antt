@@ -49,11 +49,14 @@ module _ (lows highs states : List ℕ) (picked : ℕ → Type 0)
       → RouteHolds n lows highs states (InService lows highs states) from to route
   serving-route route holds =
       record {
-        long = holds .long;
-        starts = holds .starts;
-        ends = holds .ends;
-        along = serving-along route (holds .along);
-        through = holds .through;
+        runs =
+            record {
+              long = holds .runs .long;
+              starts = holds .runs .starts;
+              ends = holds .runs .ends;
+              along = serving-along route (holds .runs .along);
+              through = holds .runs .through;
+            };
         noRepeat = holds .noRepeat;
       }
 

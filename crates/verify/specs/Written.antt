@@ -8,7 +8,7 @@ use native.Mathlib.Omega.{arith}
 use lib.Dec.{eqb}
 use lib.ListN.{length, getD}
 use Rattle.definitions.specs.Outcome.{done}
-use Rattle.definitions.specs.Lists.{has}
+use Rattle.definitions.specs.Lists.{has, AllBelow}
 use Rattle.definitions.specs.Network.{Accepted}
 use Rattle.definitions.specs.Forests.{marksOf}
 use Rattle.definitions.specs.Over.{OverFrom, OverHolds}
@@ -16,13 +16,13 @@ use Rattle.definitions.specs.Plan.{Sheet, sheetText}
 use Rattle.definitions.specs.DisjointRoutes.{InService}
 use Rattle.definitions.specs.SheetHolds.{SheetHolds}
 use Rattle.definitions.specs.SheetTest.{sheetAnswer}
+use Rattle.definitions.specs.RefusalFourteen.{SheetFits, LinesFit}
 use Rattle.lists.specs.Cases.{has-here, has-there}
 use Rattle.lists.specs.Members.{has-at}
 use Rattle.lists.specs.Counting.{count-length}
 use Rattle.theory.specs.Accepted.{accepted}
 use Rattle.theory.specs.Columns.{length-marks}
-use Rattle.text_theory.specs.Spans.{AllBelow}
-use Rattle.text_theory.specs.SheetRoundTrip.{LinesFit, SheetFits, sheet-read}
+use Rattle.text_theory.specs.SheetRoundTrip.{sheet-read}
 use Rattle.verify.specs.Exact.{said-exactly}
 
 -- A list whose members are all below the bound is below it entry by entry.
