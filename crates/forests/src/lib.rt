@@ -24,7 +24,7 @@ pub mod clear;
 mod counts;
 mod idle;
 pub mod left;
-mod marks;
+pub mod marks;
 mod placing;
 mod relays;
 mod results;

@@ -3,7 +3,7 @@ use native.Mathlib.Omega.{arith}
 use denote.Ref.{now}
 use borrow.Author.Needs.{needs}
 use Rattle.theory.specs.Accepted.{accepted}
-use Rattle.forests.proofs.AnswerLaws.{marks-done}
+use Rattle.forests.proofs.AnswerLaws.{kept-counted, marks-done}
 use Rattle.forests.proofs.cut_accepted.Statement.{statement}
 use Rattle.forests.proofs.cut_accepted.Tie as tie
 
@@ -27,8 +27,10 @@ returns c =
     let marked = c .before .before .mark-links in
     let atNumbers = c .before .before .before .before .before .before in
     let a = atNumbers .before .before .before .before .before .before .args in
-    marks-done (a .n) (now (a .lows)) (now (a .highs)) (now (a .states)) (a .k) (now (a .marks)) (marked .result)
-    (atNumbers .number-links .ensures) (marked .ensures .0) (marked .ensures .1)
+    let numbered = atNumbers .number-links .ensures in (
+      kept-counted (a .n) (now (a .lows)) (now (a .highs)) (now (a .states)) (a .k) (now (a .marks)) numbered (marked .result) (marked .ensures .0),
+      marks-done (a .n) (now (a .lows)) (now (a .highs)) (now (a .states)) (a .k) (now (a .marks)) numbered (marked .ensures .1),
+    )
 
 pub cut-accepted-spec : {M : Type 1} → statement M
 cut-accepted-spec = tie.close (tie.spec number-links-requires mark-links-requires same-length returns)
