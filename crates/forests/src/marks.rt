@@ -36,6 +36,20 @@ fn mark(k: u16, forest: u16) -> u16
     if forest <= k { 1 } else { 0 }
 }
 
+// How many of the first `count` links are kept, by their forest numbers.
+pub fn kept_links(count: usize, k: u16, forests: &[u16]) -> u16
+    requires { ⌜ (count ≤ 3000) × (count ≤ length (now forests)) ⌝ }
+    ensures { λ r. ⌜ r ≡ total (map (markOf k) (take count (now (forests .entry)))) ⌝ }
+{
+    let mut kept = 0;
+    let mut i = 0;
+    while i < count {
+        kept += mark(k, forests[i]);
+        i += 1;
+    }
+    kept
+}
+
 // The first m forest numbers become marks; gives how many are kept.
 pub(crate) fn mark_links(m: usize, k: u16, marks: &mut [u16]) -> u16
     requires { ⌜ (m ≤ 3000) × (m ≤ length (now marks)) ⌝ }

@@ -1,14 +1,18 @@
 -- The planner stage by stage: the wish, Read, Cut, Route, and what each answer makes of the sheet. Assumes nothing.
 use Prim.Native.Nat.{ℕ, _-_, _≤_, pred}
 use mathlib.Core.List.{List, [], _∷_, map}
-use mathlib.Core.Path.{_≡_, sym, _∙_, ap, ap₂}
+use mathlib.Core.Bool.{Bool, true, false}
+use mathlib.Core.Path.{_≡_, refl, sym, _∙_, ap, ap₂}
 use native.Mathlib.Omega.{arith}
+use borrow.Author.Tests.{le-ltb}
+use lib.Dec.{ltb}
 use lib.ListN.{length, take, drop, length-map}
 use lib.Seq.{take-all}
-use Rattle.definitions.specs.Outcome.{Outcome, done, andThen}
-use Rattle.definitions.specs.Lists.{overwrite, total, joinAll}
+use Rattle.definitions.specs.Outcome.{Outcome, done, refuseIf, andThen}
+use Rattle.definitions.specs.Lists.{overwrite, outside, total, joinAll}
+use Rattle.definitions.specs.Network.{Accepted}
 use Rattle.definitions.specs.Forests.{marksOf, cutAnswer}
-use Rattle.definitions.specs.Route.{routesOf, routeAnswer}
+use Rattle.definitions.specs.Route.{routesOf, routeUnless, routeAnswer}
 use Rattle.definitions.specs.Over.{oversOf, routeLinksAnswer, routeLinksCounts, routeLinksRelays, routeLinksLinks}
 use Rattle.definitions.specs.Demand.{cutUp}
 use Rattle.definitions.specs.Form.{departs, reads, scanForm}
@@ -16,16 +20,18 @@ use Rattle.definitions.specs.Text.{Network, readNetwork}
 use Rattle.definitions.specs.Program.{passing, room, printed}
 use Rattle.definitions.specs.Plan.{wishForm, Sheet, sheetFor, sheetAnswers, planner, planned, sheetText, planText}
 use Rattle.lists.specs.Outcomes.{then-done, if-done}
+use Rattle.lists.specs.SameOutcomes.{done-then}
 use Rattle.lists.specs.Overwritten.{take-overwrite}
 use Rattle.lists.specs.Cuts.{cut-up, total-lengths}
 use Rattle.text_theory.specs.Forms.{wish-line}
 use Rattle.text.specs.Put.{Put}
 use Rattle.network.specs.Answers.{refusalOf}
 use Rattle.network.specs.declared.Refusal.{Refusal}
-use Rattle.network.specs.declared.Refusal.the-variants.{Wish}
+use Rattle.network.specs.declared.Refusal.the-variants.{Wish, RouteCount}
+use Rattle.theory.specs.Accepted.{accepted}
+use Rattle.routes.specs.Answers.{countedAnswer}
 use Rattle.program.specs.Front.{longer}
-use Rattle.program.specs.CutPassed.{cut-total}
-use Rattle.program.specs.ReadStage.{length-room, networkOf, stage-refused, whole-put, line-departed, line-taken}
+use Rattle.program.specs.ReadStage.{length-room, networkOf, stage-refused, answer-refused, whole-put, line-departed, line-taken}
 use Rattle.plan.specs.SheetLines.{sheetLines}
 use Rattle.plan.specs.Planned.{sheetOf}
 use Rattle.plan.specs.Routes.{length-routes}
@@ -43,31 +49,46 @@ unfoldable pub cutStage : (from to k : ℕ) (network : Network) → Outcome Shee
 cutStage from to k network = passing (sheetAnswers (from ∷ to ∷ k ∷ []) network) (sheetFor from to k network)
 
 module _ (n : ℕ) (lows highs states : List ℕ) (from to k kept : ℕ) where
-  pub route-refused : (refusal : Refusal)
+  route-refused : (refusal : Refusal)
       → routeAnswer n lows highs states k from to (room 32) (room 1062) (room 32000) ≡ refusalOf refusal
       → routeStage from to k (networkOf n lows highs states) kept ≡ refusalOf refusal
   unfolding routeStage
   route-refused refusal e = stage-refused _ _ refusal e
 
-  pub route-done : (values : List ℕ)
+  route-done : (values : List ℕ)
       → routeAnswer n lows highs states k from to (room 32) (room 1062) (room 32000) ≡ done values
       → routeStage from to k (networkOf n lows highs states) kept ≡ done (sheetOf from to k (networkOf n lows highs states) kept)
   unfolding routeStage
   route-done values e =
       then-done (routeAnswer n lows highs states k from to (room 32) (room 1062) (room 32000)) _ values e
 
-  pub cut-refused : (refusal : Refusal) → cutAnswer n lows highs states k (room 3000) ≡ refusalOf refusal
-      → cutStage from to k (networkOf n lows highs states) ≡ refusalOf refusal
-  unfolding cutStage passing sheetAnswers
-  cut-refused refusal e = stage-refused _ _ refusal e
+-- Of an accepted network Cut refuses nothing that Route would not refuse in its place: its k is the first that Route looks at.
+module _ (n : ℕ) (lows highs states : List ℕ) (from to k : ℕ) (ok : Accepted n lows highs states) where
+  cut-count : outside 1 32 k ≡ true → cutAnswer n lows highs states k (room 3000) ≡ refusalOf RouteCount
+  unfolding cutAnswer andThen refuseIf
+  cut-count h = rw (ok, h)
 
-  pub cut-done : cutAnswer n lows highs states k (room 3000) ≡ done (kept ∷ [])
-      → cutStage from to k (networkOf n lows highs states) ≡ routeStage from to k (networkOf n lows highs states) kept
+  route-count : outside 1 32 k ≡ true → routeAnswer n lows highs states k from to (room 32) (room 1062) (room 32000) ≡ refusalOf RouteCount
+  unfolding routeAnswer routeUnless andThen refuseIf
+  route-count h = rw (ok, h)
+
+  cut-keeps : outside 1 32 k ≡ false → cutAnswer n lows highs states k (room 3000) ≡ done (total (marksOf n lows highs states k) ∷ [])
+  unfolding cutAnswer andThen refuseIf
+  cut-keeps h =
+      let long : ltb (length (room 3000)) (length lows) ≡ false =
+      le-ltb (length (room 3000)) (length lows) (omega (arith, length-room 3000, accepted n lows highs states ok .short)) in
+      rw (ok, h, long)
+
+  pub accepted-stage : cutStage from to k (networkOf n lows highs states)
+      ≡ routeStage from to k (networkOf n lows highs states) (total (marksOf n lows highs states k))
   unfolding cutStage passing sheetAnswers sheetFor routeStage
-  cut-done e =
-      let answers = cut-total n lows highs states k (room 3000) (kept ∷ []) e .1 in
-      let counted : kept ≡ total (marksOf n lows highs states k) = cc in
-      then-done (cutAnswer n lows highs states k (room 3000)) _ (kept ∷ []) e ∙ rw (← counted)
+  accepted-stage = go (outside 1 32 k) refl
+    where
+      go : (b : Bool) → outside 1 32 k ≡ b
+          → cutStage from to k (networkOf n lows highs states)
+          ≡ routeStage from to k (networkOf n lows highs states) (total (marksOf n lows highs states k))
+      go true h = stage-refused _ _ RouteCount (cut-count h) ∙ sym (stage-refused _ _ RouteCount (route-count h))
+      go false h = then-done (cutAnswer n lows highs states k (room 3000)) _ (total (marksOf n lows highs states k) ∷ []) (cut-keeps h)
 
 -- The lists of Route with links after a success: as many counts as routes, the relays of all of them, from which the counts cut the
 -- routes again, and their links, from which one less each time cuts them.
@@ -147,18 +168,19 @@ module _
     unfolding overwrite
     overs-cut = ap₂ cutUp first-steps links-are ∙ cut-up (oversOf n lows highs states k from to) _
 
--- Route with links was called with the planner's own lists: it refused, or its three lists give the lines of the sheet.
+-- Both were called with the planner's own lists: one refused, or the three lists and the count give the lines of the sheet.
 pub record Routed (from to k n : ℕ) (lows highs states : List ℕ) (kept : ℕ) (counts relays links : List ℕ) : Type 0 where
   pub sizes : k ≤ length counts
   pub within : total (take k counts) ≤ length relays
   pub linked : total (map pred (take k counts)) ≤ length links
-  pub lines : printed sheetText (routeStage from to k (networkOf n lows highs states) kept)
+  pub lines : printed sheetText (cutStage from to k (networkOf n lows highs states))
       ≡ sheetLines from to k (cutUp (take k counts) relays) (cutUp (map pred (take k counts)) links) kept
 
 module _
     (n : ℕ)
     (lows highs states : List ℕ)
-    (from to k kept : ℕ)
+    (from to k : ℕ)
+    (ok : Accepted n lows highs states)
     (counts relays links scratch : List ℕ)
     (countsAre : counts ≡ room 32)
     (relaysAre : relays ≡ room 1062)
@@ -172,26 +194,36 @@ module _
         rw (← countsAre, ← relaysAre, ← scratchIs)
         (sym (links-answer n lows highs states k from to counts relays links scratch roomy) ∙ e)
 
-    pub routes-refused : (refusal : Refusal) → routeLinksAnswer n lows highs states k from to counts relays links scratch ≡ refusalOf refusal
-        → routeStage from to k (networkOf n lows highs states) kept ≡ refusalOf refusal
-    routes-refused refusal e = route-refused n lows highs states from to k kept refusal (with-rooms (refusalOf refusal) e)
+    pub routes-refused : (refusal : Refusal)
+        → countedAnswer n lows highs states k from to counts relays links scratch ≡ refusalOf refusal
+        → cutStage from to k (networkOf n lows highs states) ≡ refusalOf refusal
+    unfolding countedAnswer
+    routes-refused refusal e =
+        let routes = routeLinksAnswer n lows highs states k from to counts relays links scratch in
+        let stops : routes ≡ refusalOf refusal = answer-refused routes (λ _. total (marksOf n lows highs states k) ∷ []) refusal e in
+        accepted-stage n lows highs states from to k ok
+        ∙ route-refused n lows highs states from to k (total (marksOf n lows highs states k)) refusal (with-rooms (refusalOf refusal) stops)
 
-    pub routes-written : (values countsNow relaysNow linksNow : List ℕ)
-        → routeLinksAnswer n lows highs states k from to counts relays links scratch ≡ done values
+    pub routes-written : (kept : ℕ) (countsNow relaysNow linksNow : List ℕ)
+        → countedAnswer n lows highs states k from to counts relays links scratch ≡ done (kept ∷ [])
         → countsNow ≡ routeLinksCounts n lows highs states k from to counts relays links scratch
         → relaysNow ≡ routeLinksRelays n lows highs states k from to counts relays links scratch
         → linksNow ≡ routeLinksLinks n lows highs states k from to counts relays links scratch
         → Routed from to k n lows highs states kept countsNow relaysNow linksNow
-    unfolding printed sheetText sheetLines
-    routes-written values countsNow relaysNow linksNow e countsOf relaysOf linksOf =
-        rw (countsOf, relaysOf, linksOf)
+    unfolding printed sheetText sheetLines countedAnswer
+    routes-written kept countsNow relaysNow linksNow told countsOf relaysOf linksOf =
+        let (values, e, last) = done-then (routeLinksAnswer n lows highs states k from to counts relays links scratch) _ (kept ∷ []) told in
+        let counted : kept ≡ total (marksOf n lows highs states k) = cc in
+        rw (counted, countsOf, relaysOf, linksOf)
         (record {
           sizes = counts-room n lows highs states k from to counts relays links scratch values e;
           within = relays-room n lows highs states k from to counts relays links scratch values e;
           linked = links-room n lows highs states k from to counts relays links scratch values e;
           lines =
-              ap (printed sheetText) (route-done n lows highs states from to k kept values (with-rooms (done values) e))
-              ∙ ap₂ (λ (routes overs : List (List ℕ)). sheetLines from to k routes overs kept)
+              ap (printed sheetText)
+              (accepted-stage n lows highs states from to k ok
+              ∙ route-done n lows highs states from to k (total (marksOf n lows highs states k)) values (with-rooms (done values) e))
+              ∙ ap₂ (λ (routes overs : List (List ℕ)). sheetLines from to k routes overs (total (marksOf n lows highs states k)))
               (sym (routes-cut n lows highs states k from to counts relays links scratch values e))
               (sym (overs-cut n lows highs states k from to counts relays links scratch values e));
         })

@@ -1,23 +1,22 @@
 // The planner's stages, the last one first: each prints the refusal that it meets, or hands on to the next.
 ghost use Prim.Native.Nat.{_≤_};
 ghost use lib.ListN.{length};
+ghost use Rattle.definitions.specs.Network.{Accepted};
 ghost use Rattle.definitions.specs.Program.{printed};
 ghost use Rattle.definitions.specs.Plan.{sheetText};
 ghost use Rattle.text.specs.Put.{Put};
 ghost use Rattle.program.specs.ReadStage.{networkOf};
-ghost use Rattle.plan.specs.Stages.{routeStage, cutStage, readStage};
+ghost use Rattle.plan.specs.Stages.{cutStage, readStage};
 use crate::print::put_sheet;
 use crate::rooms;
 use forests::CutAnswer;
-use forests::cut;
 use program::load::load;
 use program::refusal::put_refusal;
-use routes::RouteAnswer;
-use routes::route_links;
+use routes::kept::cut_and_route;
 use text::ReadAnswer;
 
-// Route, and the sheet with its routes and their links.
-fn plan_routes(
+// Cut and Route of an accepted network, and the sheet with the routes, their links and the count of kept links.
+pub fn plan_accepted(
     output: &mut [u8],
     n: u16,
     lows: &[u16],
@@ -26,17 +25,17 @@ fn plan_routes(
     from: u16,
     to: u16,
     k: u16,
-    kept: u16,
 ) -> usize
-    requires { ⌜ length (printed sheetText (routeStage from to k (networkOf n (now lows) (now highs) (now states)) kept)) ≤ length (now output) ⌝ }
-    ensures { λ r. ⌜ Put (now (output .entry)) 0
-        (printed sheetText (routeStage from to k (networkOf n (now (lows .entry)) (now (highs .entry)) (now (states .entry))) kept)) (now (output .exit)) r ⌝ }
+    requires { ⌜ Accepted n (now lows) (now highs) (now states) ⌝ }
+    requires { ⌜ length (printed sheetText (cutStage from to k (networkOf n (now lows) (now highs) (now states)))) ≤ length (now output) ⌝ }
+    ensures { λ r. ⌜ Put (now (output .entry)) 0 (printed sheetText (cutStage from to k (networkOf n (now (lows .entry)) (now (highs .entry)) (now (states .entry)))))
+        (now (output .exit)) r ⌝ }
 {
     let mut counts = rooms::counts();
     let mut relays = rooms::relays();
     let mut links = rooms::route_links();
     let mut scratch = rooms::scratch();
-    match route_links(
+    match cut_and_route(
         n,
         lows,
         highs,
@@ -49,8 +48,8 @@ fn plan_routes(
         &mut links,
         &mut scratch,
     ) {
-        RouteAnswer::Refused(refusal) => put_refusal(output, refusal),
-        RouteAnswer::Written(_) => put_sheet(
+        CutAnswer::Refused(refusal) => put_refusal(output, refusal),
+        CutAnswer::Kept(kept) => put_sheet(
             output,
             from as usize,
             to as usize,
@@ -60,28 +59,6 @@ fn plan_routes(
             &links,
             kept as usize,
         ),
-    }
-}
-
-// Cut, and what follows.
-fn plan_cut(
-    output: &mut [u8],
-    n: u16,
-    lows: &[u16],
-    highs: &[u16],
-    states: &[u16],
-    from: u16,
-    to: u16,
-    k: u16,
-) -> usize
-    requires { ⌜ length (printed sheetText (cutStage from to k (networkOf n (now lows) (now highs) (now states)))) ≤ length (now output) ⌝ }
-    ensures { λ r. ⌜ Put (now (output .entry)) 0 (printed sheetText (cutStage from to k (networkOf n (now (lows .entry)) (now (highs .entry)) (now (states .entry)))))
-        (now (output .exit)) r ⌝ }
-{
-    let mut marks = program::rooms::links();
-    match cut(n, lows, highs, states, k, &mut marks) {
-        CutAnswer::Refused(refusal) => put_refusal(output, refusal),
-        CutAnswer::Kept(kept) => plan_routes(output, n, lows, highs, states, from, to, k, kept),
     }
 }
 
@@ -98,7 +75,7 @@ pub(crate) fn plan_network(output: &mut [u8], text: &[u8], from: u16, to: u16, k
         ReadAnswer::Table(n, m) => {
             let size = m as usize;
             let relays = n as usize;
-            plan_cut(
+            plan_accepted(
                 output,
                 n,
                 &lows[..size],

@@ -59,8 +59,8 @@ pub cut-rooms : (n : ℕ) (lows highs states : List ℕ) (k : ℕ) (marks : List
     → cutAnswer n lows highs states k marks ≡ outcome → cutAnswer n lows highs states k (room 3000) ≡ outcome
 cut-rooms n lows highs states k marks marksAre outcome e = rw (← marksAre) e
 
--- What Read answers is refused where the reading of the network is.
-answer-refused : {A B : Type 0} (outcome : Outcome A) (f : A → B) (refusal : Refusal)
+-- Where what is made of an outcome's value is refused, the outcome is.
+pub answer-refused : {A B : Type 0} (outcome : Outcome A) (f : A → B) (refusal : Refusal)
     → andThen outcome (λ x. done (f x)) ≡ refusalOf refusal → outcome ≡ refusalOf refusal
 unfolding andThen
 answer-refused {A} {B} (refused number place) f refusal e =

@@ -8,12 +8,12 @@ use mathlib.Core.Path.{_≡_}
 use lib.Dec.{eqb, ltb, leb}
 use lib.ListN.{length, getD}
 use lib.Seq.{sets}
-use Rattle.definitions.specs.Outcome.{pick, refused, done, Answer, refuseIf, ifDone}
-use Rattle.definitions.specs.Lists.{overwrite, zeroed, outside, joinAll}
+use Rattle.definitions.specs.Outcome.{pick, refused, done, Answer, refuseIf, andThen, ifDone}
+use Rattle.definitions.specs.Lists.{overwrite, zeroed, outside, joinAll, total}
 use Rattle.definitions.specs.Network.{serves, Accepted, Serving}
-use Rattle.definitions.specs.Forests.{Entry}
+use Rattle.definitions.specs.Forests.{Entry, marksOf}
 use Rattle.definitions.specs.Route.{routesOf, oneTreeOf, tooShort, routeUnless, scratchUsed}
-use Rattle.definitions.specs.Over.{oversOf}
+use Rattle.definitions.specs.Over.{oversOf, routeLinksAnswer}
 use Rattle.network.specs.Answers.{refusalOf}
 use Rattle.forests.specs.Scan.{Scanned}
 use Rattle.forests.specs.Left.{LeftTable}
@@ -116,3 +116,35 @@ pub record Prepared (n k : ℕ) (lows highs states order order′ places places�
   pub numbered : List ℕ
   pub scanned : Scanned n lows highs states order order′ places places′ numbers numbered
   pub theTable : LeftTable n k lows highs states table table′ ends
+
+-- What the scan gave, in the lists of `RouteArrays`.
+pub record ScanGave (n : ℕ) (lows highs states order places numbers a b : List ℕ) : Type 0 where
+  pub orderBefore : List ℕ
+  pub placesBefore : List ℕ
+  pub numbersBefore : List ℕ
+  pub arrays : RouteArrays n lows orderBefore placesBefore numbersBefore a b
+  pub scanned : Scanned n lows highs states orderBefore order placesBefore places numbersBefore numbers
+  pub placeRoom : n ≤ length places
+  pub linkRoom : length lows ≤ length numbers
+
+-- From there on the list of states is not read: what is asked holds with some list of states, and the answer is the definition's with
+-- every such list.
+abbrev pub OverSome : (n : ℕ) (lows highs : List ℕ) (k from to : ℕ) (order places numbers a b counts relays scratch : List ℕ) → Type 0
+OverSome n lows highs k from to order places numbers a b counts relays scratch =
+    (states : List ℕ) × (Routable n lows highs states k from to counts relays scratch × ScanGave n lows highs states order places numbers a b)
+
+abbrev pub OverEach : (n : ℕ) (lows highs : List ℕ) (k from to : ℕ) (order places numbers a b counts relays links scratch : List ℕ) (result : Answered) → Type 0
+OverEach n lows highs k from to order places numbers a b counts relays links scratch result =
+    (states : List ℕ) → Routable n lows highs states k from to counts relays scratch → ScanGave n lows highs states order places numbers a b
+    → result ≡ treeAnswer n lows highs states k from to counts relays links
+
+-- The routes with the count of the links that Cut keeps in place of the count of relays.
+pub record Counted (n : ℕ) (lows highs states : List ℕ) (k from to : ℕ) (counts relays links counts′ relays′ links′ : List ℕ) (counted : Answer) : Type 0 where
+  pub answer : Answer
+  pub routed : answered counts′ relays′ links′ answer ≡ treeAnswer n lows highs states k from to counts relays links
+  pub kept : counted ≡ andThen answer λ _. done (total (marksOf n lows highs states k) ∷ [])
+
+-- Route with links, answered with that count.
+unfoldable pub countedAnswer : (n : ℕ) (lows highs states : List ℕ) (k from to : ℕ) (counts relays links scratch : List ℕ) → Answer
+countedAnswer n lows highs states k from to counts relays links scratch =
+    andThen (routeLinksAnswer n lows highs states k from to counts relays links scratch) λ _. done (total (marksOf n lows highs states k) ∷ [])

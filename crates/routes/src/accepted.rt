@@ -17,34 +17,11 @@ use network::Place;
 use network::Refusal;
 use network::Relay;
 ghost use mathlib.Core.Path.{_≡_};
-ghost use Prim.Native.Nat.{ℕ, _+_, _*_, _≤_, _<_};
-ghost use lib.ListN.{length, getD};
+ghost use Prim.Native.Nat.{_+_, _*_, _≤_, _<_};
+ghost use lib.ListN.{length};
 ghost use Rattle.definitions.specs.Lists.{zeroed};
-ghost use Rattle.forests.specs.Scan.{Scannable};
 ghost use Rattle.routes.specs.Side.{tableEntry, priorStart};
-ghost use Rattle.routes.specs.Answers.{routeOutcome, answered, answerIn, treeAnswer, Routable, RouteArrays, Prepared};
-
-// The order, the places and the left table of an accepted table; `numbers` has the earlier end of each link afterwards, as a place.
-fn prepare(
-    n: u16,
-    lows: &[u16],
-    highs: &[u16],
-    states: &[u16],
-    k: u16,
-    order: &mut [u16],
-    places: &mut [u16],
-    numbers: &mut [u16],
-    table: &mut [u16],
-)
-    requires { ⌜ Scannable n (now lows) (now highs) (now states) (now order) (now places) (now numbers) ⌝ }
-    requires { ⌜ (k * n ≤ length (now table)) × ((j : ℕ) → j < k * n → getD (now table) j 0 ≡ 0) ⌝ }
-    ensures { λ _. ⌜ Prepared n k (now (lows .entry)) (now (highs .entry)) (now (states .entry)) (now (order .entry))
-        (now (order .exit)) (now (places .entry)) (now (places .exit)) (now (numbers .entry)) (now (numbers .exit))
-        (now (table .entry)) (now (table .exit)) ⌝ }
-{
-    scan(n, lows, highs, states, order, places, numbers);
-    left_table(table, n, k, lows, highs, places, numbers);
-}
+ghost use Rattle.routes.specs.Answers.{routeOutcome, answered, answerIn, treeAnswer, Routable, RouteArrays, OverSome, OverEach};
 
 // The routes from p to q, or 13.
 fn answer(
@@ -86,6 +63,56 @@ fn answer(
     RouteAnswer::Refused(Refusal::NotOneTree)
 }
 
+// Route where all but 13 is passed, from what the scan gave, in arrays that are lent to it. `numbers` has the earlier end of each
+// link afterwards, as a place.
+pub(crate) fn route_over(
+    n: u16,
+    lows: &[u16],
+    highs: &[u16],
+    k: u16,
+    from: u16,
+    to: u16,
+    order: &[u16],
+    places: &[u16],
+    numbers: &mut [u16],
+    a: &mut [u16],
+    b: &mut [u16],
+    counts: &mut [u16],
+    relays: &mut [u16],
+    links: &mut [u16],
+    scratch: &mut [u16],
+) -> RouteAnswer
+    requires { ⌜ OverSome n (now lows) (now highs) k from to (now order) (now places) (now numbers) (now a) (now b) (now counts)
+        (now relays) (now scratch) ⌝ }
+    ensures { λ r. ⌜ OverEach n (now (lows .entry)) (now (highs .entry)) k from to (now (order .entry)) (now (places .entry))
+        (now (numbers .entry)) (now (a .entry)) (now (b .entry)) (now (counts .entry)) (now (relays .entry)) (now (links .entry))
+        (now (scratch .entry)) (answered (now (counts .exit)) (now (relays .exit)) (now (links .exit)) (routeOutcome r)) ⌝ }
+    ensures { λ _. ⌜ now (scratch .exit) ≡ zeroed (now (scratch .entry)) ⌝ }
+{
+    let entries = k as usize * n as usize;
+    clear(scratch, entries);
+    left_table(scratch, n, k, lows, highs, places, numbers);
+    let p = place_of(places, Relay(from));
+    let q = place_of(places, Relay(to));
+    let result = answer(
+        a,
+        b,
+        scratch,
+        numbers,
+        n,
+        k,
+        p,
+        q,
+        order,
+        counts,
+        relays,
+        links,
+    );
+    let whole = scratch.len();
+    clear(scratch, whole);
+    result
+}
+
 // Route where all but 13 is passed, in arrays that are lent to it.
 fn route_in(
     n: u16,
@@ -112,28 +139,24 @@ fn route_in(
         (now (relays .entry)) (now (links .entry)) ⌝ }
     ensures { λ _. ⌜ now (scratch .exit) ≡ zeroed (now (scratch .entry)) ⌝ }
 {
-    let entries = k as usize * n as usize;
-    clear(scratch, entries);
-    prepare(n, lows, highs, states, k, order, places, numbers, scratch);
-    let p = place_of(places, Relay(from));
-    let q = place_of(places, Relay(to));
-    let result = answer(
+    scan(n, lows, highs, states, order, places, numbers);
+    route_over(
+        n,
+        lows,
+        highs,
+        k,
+        from,
+        to,
+        order,
+        places,
+        numbers,
         a,
         b,
-        scratch,
-        numbers,
-        n,
-        k,
-        p,
-        q,
-        order,
         counts,
         relays,
         links,
-    );
-    let whole = scratch.len();
-    clear(scratch, whole);
-    result
+        scratch,
+    )
 }
 
 // Route in small arrays.

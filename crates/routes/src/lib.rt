@@ -12,6 +12,7 @@ ghost use Rattle.routes.specs.Answers.{routeOutcome, coreAnswer, coreCou
 
 mod accepted;
 mod between;
+pub mod kept;
 mod links;
 mod side;
 mod sides;

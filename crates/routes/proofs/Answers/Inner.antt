@@ -20,12 +20,12 @@ use Rattle.lists.specs.Overwritten.{getD-overwrite}
 use Rattle.theory.specs.ServingRelays.{serving-few}
 use Rattle.theory.specs.Places.{relay-placed}
 use Rattle.forests.specs.Scan.{Scannable, Scanned}
-use Rattle.forests.specs.Left.{LeftInput}
+use Rattle.forests.specs.Left.{LeftInput, LeftTable}
 use Rattle.forests.proofs.ClearLaws.{cleared}
 use Rattle.routes.specs.Side.{priorStart, tableEntry}
 use Rattle.routes.specs.Writing.{Written, written}
 use Rattle.routes.specs.Between.{oneTreeIn, betweenIn, linksBetween}
-use Rattle.routes.specs.Answers.{Answered, answered, answerIn, treeAnswer, Routable, RouteArrays, Prepared}
+use Rattle.routes.specs.Answers.{Answered, answered, answerIn, treeAnswer, Routable, RouteArrays, Prepared, ScanGave}
 use Rattle.routes.proofs.Answers.Accepted.{front-relays, tree-tested, routes-written, links-written}
 
 -- Lists of zeros, in one of the two sizes.
@@ -164,12 +164,39 @@ unfolding zeroed
 clear-whole old mid last e clear =
     clear ∙ rw (drop-length mid) (append-nil (replicate (length mid) 0)) ∙ ap (λ (x : ℕ). replicate x 0) e
 
--- What preparing asks, after the front of scratch is cleared.
-pub prepare-asks : (n : ℕ) (lows highs states : List ℕ) (k from to : ℕ) (counts relays scratch scratch′ order places numbers a b : List ℕ)
+-- What the scan asks, and what it gave.
+pub scan-asks : {n k from to : ℕ} {lows highs states counts relays scratch order places numbers a b : List ℕ}
     → Routable n lows highs states k from to counts relays scratch → RouteArrays n lows order places numbers a b
+    → Scannable n lows highs states order places numbers
+scan-asks asked lent =
+    record { accepted = asked .accepted; relayRoom = lent .relayRoom; placeRoom = lent .placeRoom; forestRoom = lent .linkRoom }
+
+pub scan-gave : {n : ℕ} {lows highs states order order′ places places′ numbers numbers′ a b : List ℕ}
+    → RouteArrays n lows order places numbers a b → Scanned n lows highs states order order′ places places′ numbers numbers′
+    → length places′ ≡ length places → length numbers′ ≡ length numbers → ScanGave n lows highs states order′ places′ numbers′ a b
+scan-gave lent scanned samePlaces sameNumbers =
+    record {
+      orderBefore = _;
+      placesBefore = _;
+      numbersBefore = _;
+      arrays = lent;
+      scanned = scanned;
+      placeRoom = omega (arith, samePlaces, lent .placeRoom);
+      linkRoom = omega (arith, sameNumbers, lent .linkRoom);
+    }
+
+-- What the left table is made from, after the front of scratch is cleared.
+pub table-input : (n : ℕ) (lows highs states : List ℕ) (k from to : ℕ) (counts relays scratch scratch′ order places numbers a b : List ℕ)
+    → Routable n lows highs states k from to counts relays scratch → ScanGave n lows highs states order places numbers a b
     → scratch′ ≡ replicate (k * n) 0 ++ drop (k * n) scratch → length scratch′ ≡ length scratch
-    → Scannable n lows highs states order places numbers × ((k * n ≤ length scratch′) × ((j : ℕ) → j < k * n → getD scratch′ j 0 ≡ 0))
-prepare-asks n lows highs states k from to counts relays scratch scratch′ order places numbers a b asked lent clear long = (
-  record { accepted = asked .accepted; relayRoom = lent .relayRoom; placeRoom = lent .placeRoom; forestRoom = lent .linkRoom },
-  (omega (arith, asked .scratchRoom), cleared (k * n) scratch clear .0),
-)
+    → LeftInput n k lows highs states places numbers scratch′
+table-input n lows highs states k from to counts relays scratch scratch′ order places numbers a b asked gave clear long =
+    table-asks n k lows highs states (gave .orderBefore) order (gave .placesBefore) places (gave .numbersBefore) numbers scratch′ (asked .accepted)
+    (gave .scanned) (gave .placeRoom) (gave .linkRoom) (omega (arith, asked .scratchRoom)) (cleared (k * n) scratch clear .0)
+
+-- With it all is prepared.
+pub prepared : (n k : ℕ) (lows highs states order places numbers a b table table′ ends : List ℕ)
+    (gave : ScanGave n lows highs states order places numbers a b) → LeftTable n k lows highs states table table′ ends
+    → Prepared n k lows highs states (gave .orderBefore) order (gave .placesBefore) places (gave .numbersBefore) ends table table′
+prepared n k lows highs states order places numbers a b table table′ ends gave made =
+    record { numbered = numbers; scanned = gave .scanned; theTable = made }

@@ -2,22 +2,24 @@
 -- long enough, all the links are written.
 use Prim.Native.Nat.{ℕ, _+_, _-_}
 use mathlib.Core.Bool.{Bool, true, false}
-use mathlib.Core.List.{List, map}
-use mathlib.Core.Path.{_≡_, refl, ap}
+use mathlib.Core.List.{List, [], _∷_, map}
+use mathlib.Core.Path.{_≡_, refl, _∙_, ap}
 use native.Mathlib.Omega.{arith}
 use lib.Dec.{ltb}
 use lib.ListN.{length}
 use lib.Seq.{sets}
 use borrow.Author.Tests.{ltb-false}
-use Rattle.definitions.specs.Outcome.{Answer, refused, done, pick, ifDone}
-use Rattle.definitions.specs.Lists.{overwrite, zeroed, joinAll}
+use Rattle.definitions.specs.Outcome.{Answer, refused, done, pick, andThen, ifDone}
+use Rattle.definitions.specs.Lists.{overwrite, zeroed, joinAll, total}
+use Rattle.definitions.specs.Forests.{marksOf}
 use Rattle.definitions.specs.Route.{tooShort, routesOf, routeUnless, routeAnswer, countsAfter, routeRelaysAfter, scratchUsed, scratchAfter}
 use Rattle.definitions.specs.Over.{oversOf, linksTooShort, routeLinksAnswer, routeLinksCounts, routeLinksRelays, routeLinksLinks, routeLinksScratch}
 use Rattle.lists.specs.Stores.{sets-overwrite}
 use Rattle.lists.specs.Tests.{or-false, or-none}
 use Rattle.theory.specs.RoutePassed.{unless-passed}
 use Rattle.theory.specs.OverLinks.{overs-fit}
-use Rattle.routes.specs.Answers.{shortFor, coreAnswer, coreCounts, coreRelays, coreLinks, coreScratch}
+use Rattle.routes.specs.Answers.{shortFor, coreAnswer, coreCounts, coreRelays, coreLinks, coreScratch, countedAnswer}
+use Rattle.routes.proofs.Answers.Refusals.{Promised}
 
 module _ (n : ℕ) (lows highs states : List ℕ) (k from to : ℕ) (counts relays scratch : List ℕ) where
   -- Where no list is asked for.
@@ -86,3 +88,18 @@ module _ (n : ℕ) (lows highs states : List ℕ) (k from to : ℕ) (counts rela
     pub lent-scratch : coreScratch true n lows highs states k from to counts relays links scratch ≡ routeLinksScratch n lows highs states k from to counts relays links scratch
     unfolding coreScratch routeLinksScratch
     lent-scratch = ap (λ (x : Answer). pick (scratchUsed x) (zeroed scratch) scratch) lent-answer
+
+    -- The same with the count of kept links as the answer.
+    pub counted-links : (answer counted : Answer) (counts′ relays′ links′ scratch′ : List ℕ)
+        → Promised true n lows highs states k from to counts relays links scratch answer counts′ relays′ links′ scratch′
+        → counted ≡ andThen answer (λ _. done (total (marksOf n lows highs states k) ∷ []))
+        → (counted ≡ countedAnswer n lows highs states k from to counts relays links scratch)
+        × ((counts′ ≡ routeLinksCounts n lows highs states k from to counts relays links scratch)
+        × ((relays′ ≡ routeLinksRelays n lows highs states k from to counts relays links scratch)
+        × ((links′ ≡ routeLinksLinks n lows highs states k from to counts relays links scratch)
+        × (scratch′ ≡ routeLinksScratch n lows highs states k from to counts relays links scratch))))
+    unfolding countedAnswer
+    counted-links answer counted counts′ relays′ links′ scratch′ (whole, (c, (r, (l, s)))) e = (
+      e ∙ ap (λ (x : Answer). andThen x (λ _. done (total (marksOf n lows highs states k) ∷ []))) (whole ∙ lent-answer),
+      (c ∙ lent-counts, (r ∙ lent-relays, (l ∙ lent-links, s ∙ lent-scratch))),
+    )

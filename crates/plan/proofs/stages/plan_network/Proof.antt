@@ -42,27 +42,27 @@ cast-relays c = search needs
 array-share-prefix-lows : tie.Need-array-share-prefix-lows
 array-share-prefix-lows c = (c .before .before .before .before .load .ensures .gives _ _ (c .before .before .n .given .1) .inLows)
 
-slice-aggregate-plan-cut : tie.Need-slice-aggregate-plan-cut
-slice-aggregate-plan-cut c = sym (length-take-le _ _ (c .before .before .before .before .before .load .ensures .gives _ _ (c .before .before .before .n .given .1) .inLows))
+slice-aggregate-plan-accepted : tie.Need-slice-aggregate-plan-accepted
+slice-aggregate-plan-accepted c = sym (length-take-le _ _ (c .before .before .before .before .before .load .ensures .gives _ _ (c .before .before .before .n .given .1) .inLows))
 
 array-share-prefix-highs : tie.Need-array-share-prefix-highs
 array-share-prefix-highs c = (c .before .before .before .before .before .load .ensures .gives _ _ (c .before .before .before .n .given .1) .inHighs)
 
-slice-aggregate-plan-cut-2 : tie.Need-slice-aggregate-plan-cut-2
-slice-aggregate-plan-cut-2 c = sym (length-take-le _ _ (c .before .before .before .before .before .before .load .ensures .gives _ _ (c .before .before .before .before .n .given .1) .inHighs))
+slice-aggregate-plan-accepted-2 : tie.Need-slice-aggregate-plan-accepted-2
+slice-aggregate-plan-accepted-2 c = sym (length-take-le _ _ (c .before .before .before .before .before .before .load .ensures .gives _ _ (c .before .before .before .before .n .given .1) .inHighs))
 
 array-share-prefix-states : tie.Need-array-share-prefix-states
 array-share-prefix-states c = (c .before .before .before .before .before .before .load .ensures .gives _ _ (c .before .before .before .before .n .given .1) .inStates)
 
-slice-aggregate-plan-cut-3 : tie.Need-slice-aggregate-plan-cut-3
-slice-aggregate-plan-cut-3 c = sym (length-take-le _ _ (c .before .before .before .before .before .before .before .load .ensures .gives _ _ (c .before .before .before .before .before .n .given .1) .inStates))
+slice-aggregate-plan-accepted-3 : tie.Need-slice-aggregate-plan-accepted-3
+slice-aggregate-plan-accepted-3 c = sym (length-take-le _ _ (c .before .before .before .before .before .before .before .load .ensures .gives _ _ (c .before .before .before .before .before .n .given .1) .inStates))
 
-plan-cut-requires : tie.Need-plan-cut-requires
-plan-cut-requires c κs =
+plan-accepted-requires : tie.Need-plan-accepted-requires
+plan-accepted-requires c κs =
     let atN = c .before .before .before .before .before in
     let atLoad = atN .before .before in
     let table = atLoad .load .ensures .gives _ _ (atN .n .given .1) in
-    fits-as _ _ _ _ (loaded-table _ _ _ _ _ _ _ table) (atLoad .before .before .before .before .before .before .before .before .before .pre)
+    (table .accepted, fits-as _ _ _ _ (loaded-table _ _ _ _ _ _ _ table) (atLoad .before .before .before .before .before .before .before .before .before .pre))
 
 same-length : tie.Need-same-length
 same-length c = search needs
@@ -82,7 +82,7 @@ returns-2 : tie.Need-returns-2
 returns-2 c =
     let atPut = c .before .before in
     let atN = atPut .before .before .before .before .before .before in
-    put-as _ _ _ _ _ _ (loaded-table _ _ _ _ _ _ _ (atN .before .before .load .ensures .gives _ _ (atN .n .given .1))) (atPut .plan-cut .ensures)
+    put-as _ _ _ _ _ _ (loaded-table _ _ _ _ _ _ _ (atN .before .before .load .ensures .gives _ _ (atN .n .given .1))) (atPut .plan-accepted .ensures)
 
 pub plan-network-spec : {M : Type 1} → statement M
 plan-network-spec =
@@ -98,12 +98,12 @@ plan-network-spec =
     cast-size
     cast-relays
     array-share-prefix-lows
-    slice-aggregate-plan-cut
+    slice-aggregate-plan-accepted
     array-share-prefix-highs
-    slice-aggregate-plan-cut-2
+    slice-aggregate-plan-accepted-2
     array-share-prefix-states
-    slice-aggregate-plan-cut-3
-    plan-cut-requires
+    slice-aggregate-plan-accepted-3
+    plan-accepted-requires
     same-length
     returns
     same-length-2

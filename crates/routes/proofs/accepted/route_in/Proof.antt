@@ -1,60 +1,27 @@
--- `route_in` meets its contract. Assumes nothing.
-use Rattle.routes.proofs.Answers.Inner.{prepare-asks, places-some, answers-tree, clear-whole}
-use Rattle.routes.specs.Answers.{routeOutcome, answered}
-use mathlib.Core.Path.{_∙_}
-use native.Mathlib.Omega.{arith}
+-- `route_in` meets its contract: the scan, and Route from what it gave. Assumes nothing.
+use Rattle.routes.specs.Answers.{ScanGave}
+use Rattle.routes.proofs.Answers.Inner.{scan-asks, scan-gave}
 use borrow.Author.Needs.{needs}
 use Rattle.routes.proofs.accepted.route_in.Statement.{statement}
 use Rattle.routes.proofs.accepted.route_in.Tie as tie
 
-mul-entries : tie.Need-mul-entries
-mul-entries c = search needs
+gave : (c : tie.After-scan)
+    → let a = c .before .before .before .before .before .before .before .before .before .before .before .before .before .before .before .before .args in
+    ScanGave (a .n) (a .lows .now) (a .highs .now) (a .states .now) (c .scan .last .1 .1 .1 .1 .0) (c .scan .last .1 .1 .1 .1 .1 .0)
+    (c .scan .last .1 .1 .1 .1 .1 .1 .0) (a .a .now) (a .b .now)
+gave c = scan-gave (c .before .before .before .before .before .before .before .before .before .before .before .before .before .before .before .before .pre .1) (c .scan .ensures) (c .scan .kept .1 .1 .1 .1 .1 .0) (c .scan .kept .1 .1 .1 .1 .1 .1 .0)
 
-clear-requires : tie.Need-clear-requires
-clear-requires c κs = search needs
+scan-requires : tie.Need-scan-requires
+scan-requires c κs = scan-asks (c .before .before .before .before .before .before .before .before .before .before .before .before .before .before .before .pre .0) (c .before .before .before .before .before .before .before .before .before .before .before .before .before .before .before .pre .1)
 
-prepare-requires : tie.Need-prepare-requires
-prepare-requires c κs =
-    let atClear = c .before .before .before .before .before .before in
-    let start = atClear .before .before .before .before .before .before .before .before .before .before .before .before .before .before in
-    let a = start .args in
-    prepare-asks (a .n) (a .lows .now) (a .highs .now) (a .states .now) (a .k) (a .from) (a .to) (a .counts .now) (a .relays .now) (a .scratch .now)
-    (atClear .clear .last .0) (a .order .now) (a .places .now) (a .numbers .now) (a .a .now) (a .b .now) (start .pre .0) (start .pre .1)
-    (atClear .clear .ensures) (atClear .clear .kept .0)
-
-place-of-requires : tie.Need-place-of-requires
-place-of-requires c κs =
-    let atPrepare = c .before .before .before .before .before .before .before .before .before in
-    let start = atPrepare .before .before .before .before .before .before .before .before .before .before .before .before .before .before .before .before .before .before .before .before .before in
-    omega (arith, start .pre .0 .source .0, start .pre .1 .placeRoom, atPrepare .prepare .kept .1 .1 .1 .1 .1 .1 .0)
-
-place-of-requires-2 : tie.Need-place-of-requires-2
-place-of-requires-2 c κs =
-    let atPrepare = c .before .before .before .before .before .before .before .before .before .before .before in
-    let start = atPrepare .before .before .before .before .before .before .before .before .before .before .before .before .before .before .before .before .before .before .before .before .before in
-    omega (arith, start .pre .0 .goal .0, start .pre .1 .placeRoom, atPrepare .prepare .kept .1 .1 .1 .1 .1 .1 .0)
-
-answer-requires : tie.Need-answer-requires
-answer-requires c κs =
-    let atPlaceOf2 = c .before .before .before .before .before .before .before .before in
-    let atPlaceOf = atPlaceOf2 .before .before in
-    let atPrepare = atPlaceOf .before .before .before .before .before .before .before .before .before .before in
-    let atClear = atPrepare .before .before .before .before .before .before .before in
-    let start = atClear .before .before .before .before .before .before .before .before .before .before .before .before .before .before in
-    let a = start .args in
-    let made = atPrepare .prepare in
-    places-some (a .n) (a .lows .now) (a .highs .now) (a .states .now) (a .k) (a .from) (a .to) (a .counts .now) (a .relays .now) (a .links .now) (a .scratch .now)
-    (start .pre .0)
-    (a .order .now) (made .last .1 .1 .1 .1 .1 .0) (a .places .now) (made .last .1 .1 .1 .1 .1 .1 .0)
-    (a .numbers .now) (made .last .1 .1 .1 .1 .1 .1 .1 .0) (atClear .clear .last .0) (made .last .1 .1 .1 .1 .1 .1 .1 .1 .0) (made .ensures) (a .a .now) (a .b .now) (start .pre .1)
-    (atPlaceOf .place-of .result .0) (atPlaceOf2 .place-of2 .result .0)
-    (atPlaceOf .place-of .ensures) (atPlaceOf2 .place-of2 .ensures)
-
-clear-requires-2 : tie.Need-clear-requires-2
-clear-requires-2 c κs = search needs
+route-over-requires : tie.Need-route-over-requires
+route-over-requires c κs =
+    let atScan = c .before .before .before .before .before .before .before .before .before .before .before .before .before .before .before in
+    let start = atScan .before .before .before .before .before .before .before .before .before .before .before .before .before .before .before .before in
+    (start .args .states .now, (start .pre .0, gave atScan))
 
 same-length : tie.Need-same-length
-same-length c = c .before .before .before .before .before .before .before .before .before .before .before .before .before .before .before .before .before .before .before .before .before .before .before .before .before .before .before .before .before .before .before .before .before .before .before .prepare .kept .1 .1 .1 .1 .1 .0
+same-length c = search needs
 
 same-length-2 : tie.Need-same-length-2
 same-length-2 c = search needs
@@ -78,45 +45,21 @@ same-length-8 : tie.Need-same-length-8
 same-length-8 c = search needs
 
 same-length-9 : tie.Need-same-length-9
-same-length-9 c =
-    let atPrepare = c .before .before .before .before .before .before .before .before .before .before .before .before .before .before .before .before .before .before .before .before .before .before .before .before .before .before .before .before .before .before .before .before .before .before .before in
-    let atClear = atPrepare .before .before .before .before .before .before .before in
-    c .before .before .clear2 .kept .0 ∙ atPrepare .prepare .kept .1 .1 .1 .1 .1 .1 .1 .1 .0 ∙ atClear .clear .kept .0
+same-length-9 c = search needs
 
 returns : tie.Need-returns
 returns c =
-    let atAnswer = c .before .before .before .before .before .before .before .before .before .before .before .before .before .before in
-    let atPlaceOf2 = atAnswer .before .before .before .before .before .before .before .before .before in
-    let atPlaceOf = atPlaceOf2 .before .before in
-    let atPrepare = atPlaceOf .before .before .before .before .before .before .before .before .before .before in
-    let atClear = atPrepare .before .before .before .before .before .before .before in
-    let start = atClear .before .before .before .before .before .before .before .before .before .before .before .before .before .before in
-    let a = start .args in
-    let made = atPrepare .prepare in (
-      answers-tree (a .n) (a .lows .now) (a .highs .now) (a .states .now) (a .k) (a .from) (a .to) (a .counts .now) (a .relays .now) (a .links .now) (a .scratch .now)
-          (start .pre .0)
-          (a .order .now) (made .last .1 .1 .1 .1 .1 .0) (a .places .now) (made .last .1 .1 .1 .1 .1 .1 .0)
-          (a .numbers .now) (made .last .1 .1 .1 .1 .1 .1 .1 .0) (atClear .clear .last .0) (made .last .1 .1 .1 .1 .1 .1 .1 .1 .0) (made .ensures)
-          (a .a .now) (a .b .now) (start .pre .1)
-          (atPlaceOf .place-of .result .0) (atPlaceOf2 .place-of2 .result .0)
-          (answered (atAnswer .answer .last .1 .1 .1 .1 .1 .1 .1 .1 .1 .0) (atAnswer .answer .last .1 .1 .1 .1 .1 .1 .1 .1 .1 .1 .0)
-          (atAnswer .answer .last .1 .1 .1 .1 .1 .1 .1 .1 .1 .1 .1 .0) (routeOutcome (atAnswer .answer .result)))
-          (atPlaceOf .place-of .ensures) (atPlaceOf2 .place-of2 .ensures) (atAnswer .answer .ensures),
-      clear-whole (a .scratch .now) (made .last .1 .1 .1 .1 .1 .1 .1 .1 .0) (c .before .before .clear2 .last .0)
-          (made .kept .1 .1 .1 .1 .1 .1 .1 .1 .0 ∙ atClear .clear .kept .0) (c .before .before .clear2 .ensures),
-    )
+    let called = c .before .before .before .before .before .before .before .before .before .before .before .before .before .before .route-over in
+    let atScan = c .before .before .before .before .before .before .before .before .before .before .before .before .before .before .before .before .before .before .before .before .before .before .before .before .before .before .before .before .before .before in
+    let start = atScan .before .before .before .before .before .before .before .before .before .before .before .before .before .before .before .before in
+    (called .ensures .0 (start .args .states .now) (start .pre .0) (gave atScan), called .ensures .1)
 
 pub route-in-spec : {M : Type 1} → statement M
 route-in-spec =
     tie.close
     (tie.spec
-    mul-entries
-    clear-requires
-    prepare-requires
-    place-of-requires
-    place-of-requires-2
-    answer-requires
-    clear-requires-2
+    scan-requires
+    route-over-requires
     same-length
     same-length-2
     same-length-3
