@@ -108,23 +108,34 @@ network() {
     says "$1" 1 "$4"
 }
 
-network 'a network without its end' "$head$body" '(refused 2 50)' 'verify: refused (2): a.net, line 4, column 1: the file ends without its last line, (end)'
+network 'a network without its end' "$head$body" '(refused 2 49)' 'verify: refused (2): a.net, line 4, column 1: the file ends without its last line, (end)'
 network 'an end without its line end' "$head$body(end)" '(refused 2 54)' 'verify: refused (2): a.net, line 4, column 6: the last line end is missing; press Enter behind (end) and save'
-network 'links that are missing in a network' "$head(link 0 1)\n" '(refused 2 39)' 'verify: refused (2): a.net, line 3, column 1: the file ends too early: line 1 announces 2 links, and it has 1 link line'
-network 'an empty network' '' '(refused 2 1)' 'verify: refused (2): a.net, line 1, column 1: the file is empty'
+network 'links that are missing in a network' "$head(link 0 1)\n" '(refused 2 38)' 'verify: refused (2): a.net, line 3, column 1: the file ends too early: line 1 announces 2 links, and it has 1 link line'
+network 'an empty network' '' '(refused 2 0)' 'verify: refused (2): a.net, line 1, column 1: the file is empty'
 network 'a sheet for a network' "$front$back" '(refused 2 1)' 'verify: refused (2): a.net, line 1, column 2: this is a sheet; the network file is named first, the sheet second'
 network 'a network of no relay' '(net (relays 0) (links 0))\n(end)\n' '(refused 3 0)' 'verify: refused (3): a.net, line 1, announces 0 relays; 1 to 1,000 are allowed'
 network 'a network with a link twice' "$head(link 0 1)\n(link 0 1)\n(end)\n" '(refused 7 1)' 'verify: refused (7): a.net, line 3: (link 0 1) stands already in line 2'
-network 'a blank line behind the network' "$mesh\n" '(refused 14 0)' $'verify: refused (14): a.net, line 10, column 1: a blank line\n    \n    ^\nverify: due there: nothing, since (end) is the last line'
-network 'words behind the network' "${mesh}Regards\n" '(refused 14 0)' $'verify: refused (14): a.net, line 10, column 1: something stands behind the last line\n    Regards'
-network 'an out line behind the network' "$mesh(out 2)\n" '(refused 14 1)' $'verify: refused (14): a.net, line 10, column 1: a line (out R) stands behind (end); put it in front of that\n    (out 2)'
-network 'words behind a network with an out line' "${mesh%'(end)\n'}(out 2)\n(end)\nRegards\n" '(refused 14 0)' $'verify: refused (14): a.net, line 11, column 1: something stands behind the last line\n    Regards'
-network 'a network with an out line and without its end' "$head$body(out 2)\n" '(refused 2 58)' $'verify: refused (2): a.net, line 5, column 1: the file ends without its last line, (end)\n    \n    ^\nverify: due there: a line (out R) or the line (end)'
+network 'a blank line behind the network' "$mesh\n" '(refused 2 110)' $'verify: refused (2): a.net, line 10, column 1: a blank line\n    \n    ^\nverify: due there: nothing, since (end) is the last line'
+network 'words behind the network' "${mesh}Regards\n" '(refused 2 110)' $'verify: refused (2): a.net, line 10, column 1: something stands behind the last line\n    Regards'
+network 'an out line behind the network' "$mesh(out 2)\n" '(refused 2 110)' $'verify: refused (2): a.net, line 10, column 1: a line (out R) stands behind (end); put it in front of that\n    (out 2)'
+network 'words behind a network with an out line' "${mesh%'(end)\n'}(out 2)\n(end)\nRegards\n" '(refused 2 118)' $'verify: refused (2): a.net, line 11, column 1: something stands behind the last line\n    Regards'
+network 'a network with an out line and without its end' "$head$body(out 2)\n" '(refused 2 57)' $'verify: refused (2): a.net, line 5, column 1: the file ends without its last line, (end)\n    \n    ^\nverify: due there: a line (out R) or the line (end)'
 network 'a network that breaks off in an out line' "$head$body(out 2" '(refused 2 55)' $'verify: refused (2): a.net, line 4, column 7: the file ends in the middle of a line\n    (out 2\n          ^\nverify: due there: a line (out R)'
 network 'a network with an out line of no relay' "$head$body(out 5)\n(end)\n" '(refused 16 0)' 'verify: refused (16): a.net, line 4: (out 5) names a relay that the network does not have; it has the relays 0 to 4'
 network 'a relay withdrawn beside the routes' "${mesh%'(end)\n'}(out 0)\n(end)\n" '(fails)' 'verify: fails: a.sheet, line 6: kept is 7, and that is not how many links are worth keeping for k 2; ./keep 2 a.net tells that'
 network 'a network of one relay' '(net (relays 1) (links 0))\n(end)\n' '(fails)' 'verify: fails: a.sheet, line 1: relay 4 is not in the network; it has relay 0 alone'
+network 'the sheet behind the network, in its file' "$mesh$front$via3$via2$back" '(refused 2 110)' $'verify: refused (2): a.net, line 10, column 1: something stands behind the last line\n    (sheet'
+printf '%b' "${mesh%'(end)\n'}" >"$work/a.net"
+printf '%b' "(end)\n$front$via3$via2$back" >"$work/b.sheet"
+ask "$copy/verify" a.net b.sheet
+same "the network's last line in front of the sheet" $'(refused 2 104)\nstatus 1' "$output"
+: >"$work/b.sheet"
+printf '%b' "$mesh$front$via3$via2$back" >"$work/a.net"
+ask "$copy/verify" a.net b.sheet
+same 'both in one file, and an empty sheet' $'(refused 2 110)\nstatus 1' "$output"
 printf '%b' "$front$via3$via2$back" >"$work/-s"
+ask bash -c "'$copy/verify' <(cat m.net) -s"
+same 'a network through a pipe' $'(holds)\nstatus 0' "$output$words"
 ask "$copy/verify" m.net -s
 same 'a sheet whose name begins with -' $'(holds)\nstatus 0' "$output$words"
 ask bash -c "'$copy/verify' m.net /dev/stdin <-s"
@@ -161,4 +172,4 @@ for part in 'exit 3: could not be run' 'printf "(holds)": not whole' 'echo "(hol
     instead verifier "${part%: *}" "${part##*: }" "$copy/verify" m.net -s
 done
 cp "$room/built/verifier" "$copy/target/bin"
-rm "$work/-s"
+rm "$work/-s" "$work/b.sheet"

@@ -4,8 +4,7 @@
 END {
     find_lines()
     find_counts()
-    # 14 is given where the file goes on behind its end.
-    if (number == 2 || number == 14) departs("a network file")
+    if (number == 2) departs("a network file")
     else if (number == 3) header("announces " of(relays, "relay") "; 1 to 1,000 are allowed")
     else if (number == 4) header("announces " of(links, "link") "; 3,000 are the most. Pass the file on to the network planners")
     else if (number >= 5 && number <= 7) link()

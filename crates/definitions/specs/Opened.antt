@@ -237,12 +237,15 @@ unfolding
     SheetTest.sheetHolds
     SheetTest.yesOrNo
     SheetTest.sheetAnswer
-    Verify.behindOr
-    Verify.endBehind
+    Verify.verifyForm
     Verify.networkSize
+    Verify.verifyInput
+    Verify.filed
+    Verify.valuesOf
     Verify.verified
     Verify.verdictText
     Verify.verifyText
+    Verify.verdictOf
     Dimacs.problemForm
     Dimacs.edgeForm
     Dimacs.behindWords
@@ -266,6 +269,7 @@ unfolding
     DimacsText.judged
     DimacsText.frontText
     DimacsText.judgedFront
+    Import.imported
     Import.networkText
     Import.importText
 opened = tt

@@ -27,7 +27,6 @@ pub mod Longest
 pub mod NumberLines
 pub mod SheetRoundTrip
 pub mod SheetWritten
-pub mod NetworkFront
 pub mod SameReadings
 pub mod SheetLooks
 pub mod LineBegun
@@ -48,4 +47,5 @@ pub mod DimacsAgree
 pub mod FrontDecides
 pub mod FrontRefused
 pub mod RefusalEighteen
+pub mod ImportRefusals
 pub mod ImportProof
