@@ -9,12 +9,12 @@ certain() {
     same "$1" "sure: $4" "$words"
 }
 
-# uncertain WHAT TEXT WORDS: a network text that gets no sheet, and all the words.
+# uncertain WHAT TEXT LINE WORDS: a network text that gets this line for a sheet, and all the words.
 uncertain() {
     printf '%b' "$2" >"$work/a.net"
     ask "$copy/sure" a.net
-    same "$1: no sheet" 'status 1' "$output"
-    same "$1" "sure: $3" "$words"
+    same "$1: no sheet" "$3"$'\nstatus 1' "$output"
+    same "$1" "sure: $4" "$words"
 }
 
 # sized WHAT TEXT LAST BEFORE FIGURE: a network text whose last two relays have so many routes, each on a line of the sheet.
@@ -45,17 +45,21 @@ sized 'the square' "$square" 3 2 2
 sized 'the full four' "$four" 3 2 3
 sized 'the most routes of a sheet' "$(crowded)\n" 999 998 32
 sized 'all pairs of 33 relays' "$(full 33)\n" 32 31 32
-uncertain 'all pairs of 34 relays' "$(full 34)\n" \
+uncertain 'all pairs of 34 relays' "$(full 34)\n" '(none (from 33) (to 32) (links 33))' \
     'relays 33 and 32, the last two of the order, have at most 33 routes, since relay 33 has 33 links to relays in service; a sheet has at most 32'
-uncertain 'a last relay without a link' "$parts" 'relays 2 and 1, the last two of the order, have no route: relay 2 has 0 links to relays in service'
-uncertain 'a link to a withdrawn relay alone' "$(without "$busy" 1)" \
+uncertain 'a last relay without a link' "$parts" '(none (from 2) (to 1) (links 0))' \
+    'relays 2 and 1, the last two of the order, have no route: relay 2 has 0 links to relays in service'
+uncertain 'a link to a withdrawn relay alone' "$(without "$busy" 1)" '(none (from 3) (to 2) (links 0))' \
     'relays 3 and 2, the last two of the order, have no route: relay 3 has 0 links to relays in service'
-uncertain 'the longest text' "$(longest)\n" 'relays 922 and 921, the last two of the order, have no route: relay 922 has 0 links to relays in service'
+uncertain 'the longest text' "$(longest)\n" '(none (from 922) (to 921) (links 0))' \
+    'relays 922 and 921, the last two of the order, have no route: relay 922 has 0 links to relays in service'
 for withdrawn in '0 1 2 3' '0 1 2 3 4'; do
     # shellcheck disable=SC2086
-    uncertain "the mesh without $withdrawn" "$(without "$mesh" $withdrawn)" 'fewer than two relays are in service, so there are no two to count routes between'
+    uncertain "the mesh without $withdrawn" "$(without "$mesh" $withdrawn)" "(none (serving $((5 - $(wc -w <<<"$withdrawn")))))" \
+        'fewer than two relays are in service, so there are no two to count routes between'
 done
-uncertain 'one relay' '(net (relays 1) (links 0))\n(end)\n' 'fewer than two relays are in service, so there are no two to count routes between'
+uncertain 'one relay' '(net (relays 1) (links 0))\n(end)\n' '(none (serving 1))' \
+    'fewer than two relays are in service, so there are no two to count routes between'
 
 # Network files that are refused, as by `plan`; what is no network file; programs that do not do their part.
 printf '(net (relays 4) (links 2))\n(link 0 1)\n(link 2 2)\n(end)\n' >"$work/a.net"
@@ -73,13 +77,13 @@ says 'sure, a missing file' 2 'sure: there is no file none.net'
 ask bash -c "'$copy/sure' /dev/stdin <'$mesh_file' | cat; exit \"\${PIPESTATUS[0]}\""
 same 'sure, a file through standard input' 'status 0' "${output##*$'\n'}"
 ask bash -c "cat '$mesh_file' | '$copy/sure' /dev/stdin"
-says 'sure, a pipe' 2 'sure: /dev/stdin is read more than once: save it to a file first'
+says 'sure, a pipe' 0 'relay 4 has 2 links to relays in service'
 for arguments in '' 'a.net b.net'; do
     # shellcheck disable=SC2086
     ask "$copy/sure" $arguments
     says "sure, the arguments '$arguments'" 2 'usage: sure FILE'
 done
-for does in 'echo "(refused 11 0)"' 'echo "(sheet (from 4) (to 3) (k 2))"'; do
-    instead planner "$does" sure: "$copy/sure" "$mesh_file"
+for part in 'exit 3: could not be run' 'echo "(sheet (from 4) (to 3) (k 2))": not whole' 'echo "(none (from 4) (to 3))": not whole'; do
+    instead surer "${part%: *}" "${part##*: }" "$copy/sure" "$mesh_file"
 done
-cp "$room/built/planner" "$copy/target/bin/planner"
+cp "$room/built/surer" "$copy/target/bin/surer"

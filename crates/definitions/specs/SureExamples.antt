@@ -1,4 +1,5 @@
--- Document 02, #107, on the networks of document 01: what the program for the sure figure prints. By computation. Assumes nothing.
+-- Document 02, #107, on the networks of document 01: what the program for the sure figure prints. By computation. No example has d
+-- over 32: all pairs of 34 relays are the least such network, and too many to compute. Assumes nothing.
 use Prim.Native.Nat.{ℕ}
 use Prim.Native.String.{String}
 use mathlib.Core.List.{List, [], _∷_}

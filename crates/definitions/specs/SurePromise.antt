@@ -1,5 +1,5 @@
 -- What the sure figure promises (document 02, #107), as one statement about `sureText`: between the last two relays of the order the
--- sheet has as many routes as there can be. The statement is a type; the crate `plan` proves it. Assumes nothing.
+-- sheet has as many routes as there can be. The statement is a type; the crate `sure` proves it. Assumes nothing.
 use Prim.Native.Nat.{ℕ, _≤_, _<_}
 use mathlib.Core.List.{List, [], _∷_}
 use mathlib.Core.Logic.{_⊎_}

@@ -8,6 +8,7 @@ use crate::keep::keep;
 use crate::over::{Lent, over, route_links};
 use crate::plan::plan;
 use crate::random::Random;
+use crate::sure::sure;
 use crate::sweep::{Wish, routes};
 use crate::table::{Network, Refusal, check, pair};
 use crate::text::{read, text, write};
@@ -226,6 +227,24 @@ fn last_two_of_the_order() {
     assert_eq!(route(&mesh(), 4, 3, 2), Some(vec![vec![4, 2, 3], vec![4, 3]]));
     assert_eq!(route(&mesh(), 3, 4, 2), Some(vec![vec![3, 2, 4], vec![3, 4]]));
     assert_eq!(route(&square(), 2, 3, 2), Some(vec![vec![2, 1, 0, 3], vec![2, 3]]));
+}
+
+/// What the surer prints, on stored inputs of tests/surer.
+#[test]
+fn sure_figure() {
+    let printed = |net: &Network| sure(text(net).as_bytes());
+    let mut net = mesh();
+    assert_eq!(printed(&net), "(sheet (from 4) (to 3) (k 2))\n(route 4 2 3)\n(over 5 4)\n(route 4 3)\n(over 6)\n(kept 7)\n(end)\n");
+    net.states[2] = 0;
+    assert_eq!(printed(&net), "(sheet (from 4) (to 3) (k 1))\n(route 4 3)\n(over 6)\n(kept 3)\n(end)\n");
+    net.states = vec![0, 0, 0, 1, 0];
+    assert_eq!(printed(&net), "(none (serving 1))\n");
+    assert_eq!(sure(b"(net (relays 2) (links 0))\n(end)\n"), "(none (from 1) (to 0) (links 0))\n");
+    assert_eq!(sure(b"(want 4 3 2)\n"), "(refused 2 1)\n");
+    let links = (0..34).flat_map(|high| (0..high).map(move |low| (low, high)));
+    let (lows, highs) = links.unzip();
+    let full = Network { n: 34, lows, highs, states: vec![1; 34] };
+    assert_eq!(printed(&full), "(none (from 33) (to 32) (links 33))\n");
 }
 
 #[test]

@@ -33,6 +33,7 @@ pub mod sheet;
 pub mod sheets;
 pub mod spoilt;
 pub mod states;
+pub mod sure;
 pub mod sweep;
 pub mod swift;
 pub mod swift_dimacs;
