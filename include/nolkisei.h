@@ -1,6 +1,8 @@
-/* Nolkisei for C on x86-64 Linux: plans routes over a network of relays, says which of its links are worth keeping, and whether a
- * sheet of routes holds.
- * Link libnolkisei.a (rt staticlib nolkisei); it needs memset alone of libc, allocates nothing and keeps nothing between calls.
+/* Nolkisei for C on x86-64 Linux: checks, reads and writes a network of relays and imports drawings of one, numbers pairs, orders the
+ * relays, splits the links into forests and cuts them down to those worth keeping, finds routes that share only their ends and the
+ * links that they run over, prints sheets of such routes and lists of such links, and says whether a sheet holds.
+ * Link libnolkisei.a (rt staticlib nolkisei). Of libc it needs memcpy and memset alone; it allocates nothing and keeps nothing between
+ * calls.
  *
  * A network has n relays, numbered from 0, and m links, each between two different relays and no two between the same. A table
  * is two lists, lows and highs: link i joins relay lows[i] to relay highs[i], lows[i] below highs[i]. i, counted from 0, is the
@@ -22,7 +24,9 @@
  * order are in one tree of forest d, so nolkisei_route with k = d gives d routes between them, in either direction. No list of routes
  * between them, through relays in service, sharing no link and no relay but the ends, has more than d.
  *
- * A network's text, each line ended by byte 10, single spaces, numbers of one to four digits with no zero in front:
+ * Every text here, that of a network, a drawing, a sheet, a list and of a line that asks, has each line ended by byte 10, single spaces,
+ * and numbers of one to four digits with no zero in front but in 0 itself; only PLACE in a refused line has as many as it takes. Nothing
+ * else stands there, but in a drawing's comments: no byte 13, no space at a line's end, no empty line. A network's text:
  *
  *    (net (relays N) (links M))
  *    (link A B)                     M such lines, A below B
@@ -33,9 +37,11 @@
  *   - every list goes with its length behind it, in entries: as many can be read there, and written where the list is not const;
  *     of `answer` 2 can be written;
  *   - a pointer is not null and is aligned for its type, even where the length is 0;
- *   - a list that is not const overlaps no other list of the call, and nobody else uses it while the call runs;
+ *   - a list that is not const overlaps no other list of the call, and nobody else reads or writes it while the call runs;
+ *   - nobody writes to a const list while the call runs; others may read it, and const lists of a call may overlap;
  *   - there are NOLKISEI_STACK bytes of stack.
- * Any numbers and any lengths are accepted and answered as follows. */
+ * Calls may run in several threads at once, as long as each of them is owed this. Any numbers and any lengths are accepted and answered
+ * as follows. */
 
 #ifndef NOLKISEI_H
 #define NOLKISEI_H
@@ -77,7 +83,8 @@ enum nolkisei_refusal {
     NOLKISEI_WISH = 1,         /* the line that asks departs from its form: printed alone, by nolkisei_plan and nolkisei_keep */
     NOLKISEI_FORM = 2,         /* the text departs from its form: at its first byte that does, or at its length */
     NOLKISEI_RELAY_COUNT = 3,  /* n is not 1 to 1,000 */
-    NOLKISEI_LINK_COUNT = 4,   /* the lists have unequal lengths, or m is over 3,000 */
+    NOLKISEI_LINK_COUNT = 4,   /* the lists of a table have unequal lengths, or m is over 3,000; of nolkisei_read and nolkisei_import, whose
+                                  lists may be unequal, only that the M of the text is over 3,000 */
     NOLKISEI_RELAY_RANGE = 5,  /* a relay number is not below n (of a pair: not below 1,000; in a drawing: not 1 to n) */
     NOLKISEI_NOT_BELOW = 6,    /* a link's low relay is not below its high relay; in a drawing, its two relays are equal */
     NOLKISEI_REPEATED = 7,     /* an earlier link has the same pair; in a drawing, in either order */
@@ -110,7 +117,7 @@ uint32_t nolkisei_read(const uint8_t *text, size_t text_length, uint16_t *lows, 
                        size_t highs_length, uint16_t *states, size_t states_length, uint64_t answer[2]);
 
 /* Imports a drawing in the DIMACS edge format into a table, with all relays in service. A drawing's text, of any length, each line ended
- * by byte 10, single spaces, numbers as in a network's text:
+ * by byte 10, single spaces, numbers as in every text:
  *
  *    c ANYTHING                     a comment: c alone, or c, a space and any or no bytes other than 10; any number of them, anywhere
  *    p edge N M                     one such line
@@ -171,7 +178,7 @@ uint32_t nolkisei_route_links(uint16_t n, const uint16_t *lows, size_t lows_leng
 
 /* Reads a sheet back with its network: the table check, then 14 over the whole text, then 15. answer: 1 where the sheet holds, 0 where
  * it does not. No list is lent. A sheet's text, whoever made it, may have any length, and any number of routes, each with its two
- * lines, one with two relays or more and one with one index or more:
+ * lines, one with two relays or more and one with one index or more; line ends, spaces and numbers are as in every text:
  *
  *    (sheet (from FROM) (to TO) (k K))
  *    (route RELAY RELAY ..)
@@ -186,10 +193,10 @@ uint32_t nolkisei_verify(uint16_t n, const uint16_t *lows, size_t lows_length, c
                          const uint16_t *states, size_t states_length, const uint8_t *text, size_t text_length,
                          uint64_t answer[2]);
 
-/* The two programs. Their input is a line that asks, and behind it a network's text; what they print goes to the output. The return
- * value is 0 with the number of bytes printed as answer, which stand at the output's start, and the rest of it is unchanged; or 12
- * where the output is shorter than what is to be printed, and then it is unchanged. For an input that is refused they print one
- * line, and that is a success too:
+/* The two programs. Their input is a line that asks, with line end, spaces and numbers as in every text, and right behind it a
+ * network's text; what they print goes to the output. The return value is 0 with the number of bytes printed as answer, which stand at
+ * the output's start, and the rest of it is unchanged; or 12 where the output is shorter than what is to be printed, and then it is
+ * unchanged. For an input that is refused they print one line, and that is a success too:
  *
  *    (refused NUMBER PLACE)
  *

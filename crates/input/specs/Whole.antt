@@ -7,6 +7,11 @@ use mathlib.Core.Path.{_≡_, refl, sym, _∙_, ap}
 use lib.ListN.{length, take}
 use Rattle.definitions.specs.Program.{inputRoom}
 
+-- The bytes that a program takes in at most if its answer rests on the input's last byte too: a million, and one that tells a longer
+-- input. Such a program answers only an input that ended.
+unfoldable pub longInputRoom : ℕ
+longInputRoom = 1000001
+
 -- An input that begins with the bytes read, and is just these if it ended.
 pub record Whole (bytes : List ℕ) (ended : Bool) (whole : List ℕ) : Type 0 where
   pub begins : take (length bytes) whole ≡ bytes

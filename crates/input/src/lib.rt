@@ -1,11 +1,20 @@
-// Reading standard input: into a room of its own, until that is full, the input ends or a read fails.
+// All that a program has to do with the outside: it reads standard input into a room of its own, hands over the text that is due, and
+// complains. The programs name neither read nor write, so that they can hand over nothing else.
 ghost use mathlib.Core.Bool.{false};
 ghost use mathlib.Core.Path.{_≡_};
-ghost use Prim.Native.Nat.{_+_, _≤_};
 ghost use lib.ListN.{length};
 ghost use Rattle.definitions.specs.Program.{inputRoom};
 ghost use Rattle.io.specs.Counts.{Counts};
-use libc::STDIN_FILENO;
+ghost use Rattle.input.specs.Whole.{longInputRoom};
+
+mod arrived;
+mod output;
+
+pub use arrived::Arrived;
+pub use output::Feature;
+pub use output::complain;
+pub use output::complain_of_length;
+pub use output::hand_over;
 
 // Room for every byte that can matter: the longest line in front of a network text has 22, and behind it no reading goes past
 // byte 54,934. So an endless input is answered too, from its first 54,956 bytes.
@@ -17,31 +26,13 @@ pub fn room() -> [u8; ROOM]
     [0u8; ROOM]
 }
 
-// What one read brought: no byte where it failed, and none where the input has ended.
-struct Got {
-    failed: bool,
-    count: usize,
-}
+// Room for a program whose answer rests on the last byte of its input too: a million bytes, and one that tells a longer input.
+const LONG_ROOM: usize = 1000001;
 
-// One read behind the first `size` bytes.
-fn read_more(buffer: &mut [u8], size: usize) -> Got
-    requires { ⌜ size ≤ length (now buffer) ⌝ }
-    ensures { λ r. ⌜ (size + r .count ≤ length (now (buffer .exit))) × (length (now (buffer .exit)) ≡ length (now (buffer .entry))) ⌝ }
+pub fn long_room() -> [u8; LONG_ROOM]
+    ensures { λ r. ⌜ length r ≡ longInputRoom ⌝ }
 {
-    let rest = &mut buffer[size..];
-    let got = libc::read(STDIN_FILENO, rest);
-    let count = io::count(got, rest);
-    Got {
-        failed: got < 0,
-        count,
-    }
-}
-
-// What all the reads brought: whether one failed, whether the input ended, and how many bytes.
-pub struct Arrived {
-    pub failed: bool,
-    pub ended: bool,
-    pub count: usize,
+    [0u8; LONG_ROOM]
 }
 
 // Reads until the buffer is full, the input ends or a read fails.
@@ -51,26 +42,15 @@ pub fn read_all(buffer: &mut [u8]) -> Arrived
 {
     let mut size: usize = 0;
     while size < buffer.len() {
-        let more = read_more(buffer, size);
-        if more.failed {
-            return Arrived {
-                failed: true,
-                ended: false,
-                count: size,
-            };
+        let more = arrived::read_more(buffer, size);
+        if more.is_failure() {
+            return arrived::failed_at(size, more);
         }
-        if more.count == 0 {
-            return Arrived {
-                failed: false,
-                ended: true,
-                count: size,
-            };
+        let count = more.size();
+        if count == 0 {
+            return arrived::ended_at(size, more);
         }
-        size += more.count;
+        size += count;
     }
-    Arrived {
-        failed: false,
-        ended: false,
-        count: size,
-    }
+    arrived::full_at(size, buffer)
 }

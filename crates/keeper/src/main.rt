@@ -1,32 +1,15 @@
 // The keeper: reads a line `(keep K)` and a network text from standard input and prints the list of links, or the refusal.
-ghost use Rattle.definitions.specs.Keep.{keepText};
-ghost use Rattle.input.specs.Whole.{Enough, Answered};
-use libc::STDERR_FILENO;
-use libc::STDOUT_FILENO;
-
-// Hands the list to the write call: it is that of every input that begins with the bytes read, and is just these if it ended.
-fn hand_over(bytes: &[u8], ended: bool, list: &[u8])
-    requires { ⌜ Answered keepText (now bytes) ended (now list) ⌝ }
-{
-    io::write_all(STDOUT_FILENO, list);
-}
-
-// Answers an input from the bytes read, which are all of it or fill the room.
-fn answer(bytes: &[u8], ended: bool)
-    requires { ⌜ Enough (now bytes) ended ⌝ }
-{
-    let mut output = keep::rooms::output();
-    let size = keep::keep(bytes, &mut output);
-    hand_over(bytes, ended, &output[..size]);
-}
+use input::Feature;
 
 fn main() {
     let mut buffer = input::room();
     let arrived = input::read_all(&mut buffer);
-    if arrived.failed {
-        io::write_all(STDERR_FILENO, b"keeper: standard input cannot be read\n");
+    if arrived.is_failure() {
+        input::complain(b"keeper: standard input cannot be read\n");
         return;
     }
-    let count = arrived.count;
-    answer(&buffer[..count], arrived.ended);
+    let count = arrived.size();
+    let mut output = keep::rooms::output();
+    let size = keep::keep(&buffer[..count], &mut output);
+    input::hand_over(Feature::Keep, arrived, &output[..size]);
 }

@@ -1,5 +1,5 @@
-// The C interface: each operation of documents 01 and 02 as a C function, the planner, and the list of links worth keeping. What a
-// code and the two entries of `answer` mean is said in specs/Reported.antt, and for C programs in include/nolkisei.h.
+// The C interface: each operation of documents 01 and 02 as a C function; what programs print is in `printed`. What a code and the two
+// entries of `answer` mean is said in specs/Reported.antt, and for C programs in include/nolkisei.h.
 ghost use mathlib.Core.Path.{_≡_};
 ghost use Rattle.definitions.specs.Network.{pairAnswer, tableCheck};
 ghost use Rattle.definitions.specs.Text.{readAnswer, lowsAfter, highsAfter, statesAfter, writeAnswer, bufferAfter};
@@ -8,19 +8,16 @@ ghost use Rattle.definitions.specs.Order.{orderAnswer, relaysAfter, placesAfter
 ghost use Rattle.definitions.specs.Forests.{splitAnswer, forestsAfter, cutAnswer, marksAfter};
 ghost use Rattle.definitions.specs.Over.{routeLinksAnswer, routeLinksCounts, routeLinksRelays, routeLinksLinks, routeLinksScratch};
 ghost use Rattle.definitions.specs.Route.{routeAnswer, countsAfter, routeRelaysAfter, scratchAfter};
-ghost use Rattle.definitions.specs.Program.{printAnswer, outputAfter};
-ghost use Rattle.definitions.specs.Plan.{planText};
-ghost use Rattle.definitions.specs.Keep.{keepText};
 ghost use Rattle.definitions.specs.SheetTest.{sheetAnswer};
 ghost use Rattle.nolkisei.specs.Reported.{reported};
 
+mod printed;
 mod report;
 
 use forests::CutAnswer;
 use forests::OrderAnswer;
 use forests::SplitAnswer;
 use network::Relay;
-use program::into::PrintAnswer;
 use routes::RouteAnswer;
 use text::WriteAnswer;
 use verify::SheetAnswer;
@@ -254,30 +251,6 @@ pub extern "C" fn nolkisei_route_links(
     ) {
         RouteAnswer::Written(total) => report::give(total as u64, 0, answer),
         RouteAnswer::Refused(refusal) => report::refuse(refusal, answer),
-    }
-}
-
-// The planner: the sheet or the refused line for an input, from the output's first byte on. The answer is its length.
-#[no_mangle]
-pub extern "C" fn nolkisei_plan(input: &[u8], output: &mut [u8], answer: &mut [u64; 2]) -> u32
-    ensures answer { λ r. ⌜ reported (printAnswer (planText (now (input .entry))) (now (output .entry))) ≡ (r, now (answer .exit)) ⌝ }
-    ensures bytes { λ _. ⌜ now (output .exit) ≡ outputAfter (planText (now (input .entry))) (now (output .entry)) ⌝ }
-{
-    match plan::plan_into(input, output) {
-        PrintAnswer::Printed(size) => report::give(size as u64, 0, answer),
-        PrintAnswer::Refused(refusal) => report::refuse(refusal, answer),
-    }
-}
-
-// The list of the links worth keeping, or the refused line, likewise.
-#[no_mangle]
-pub extern "C" fn nolkisei_keep(input: &[u8], output: &mut [u8], answer: &mut [u64; 2]) -> u32
-    ensures answer { λ r. ⌜ reported (printAnswer (keepText (now (input .entry))) (now (output .entry))) ≡ (r, now (answer .exit)) ⌝ }
-    ensures bytes { λ _. ⌜ now (output .exit) ≡ outputAfter (keepText (now (input .entry))) (now (output .entry)) ⌝ }
-{
-    match keep::keep_into(input, output) {
-        PrintAnswer::Printed(size) => report::give(size as u64, 0, answer),
-        PrintAnswer::Refused(refusal) => report::refuse(refusal, answer),
     }
 }
 

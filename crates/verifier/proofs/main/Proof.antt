@@ -1,11 +1,18 @@
--- `verifier::main` meets its contract: it answers only where the input has ended. Assumes nothing.
-use borrow.Author.Tests.{not-false}
+-- `verifier::main` meets its contract: what it hands over is the text of the bytes read, which are all of the input. Assumes nothing.
+use mathlib.Core.Path.{sym, _∙_}
+use native.Mathlib.Omega.{arith}
+use borrow.Author.Tests.{not-false, not-true}
 use borrow.Author.Needs.{needs}
+use lib.ListN.{take}
+use lib.Seq.{length-take-le}
+use Rattle.definitions.specs.Verify.{verifyText}
+use Rattle.input.specs.Due.{due-ended}
+use Rattle.program.specs.Front.{front-within, front-is}
 use Rattle.verifier.proofs.main.Statement.{statement}
 use Rattle.verifier.proofs.main.Tie as tie
 
-room-requires : tie.Need-room-requires
-room-requires c κs = search needs
+long-room-requires : tie.Need-long-room-requires
+long-room-requires c κs = search needs
 
 slice-aggregate-read-all : tie.Need-slice-aggregate-read-all
 slice-aggregate-read-all c = search needs
@@ -13,32 +20,69 @@ slice-aggregate-read-all c = search needs
 read-all-requires : tie.Need-read-all-requires
 read-all-requires c κs = search needs
 
-slice-aggregate-write-all : tie.Need-slice-aggregate-write-all
-slice-aggregate-write-all c = search needs
+is-failure-requires : tie.Need-is-failure-requires
+is-failure-requires c κs = search needs
 
-write-all-requires : tie.Need-write-all-requires
-write-all-requires c κs = search needs
+slice-aggregate-complain : tie.Need-slice-aggregate-complain
+slice-aggregate-complain c = search needs
+
+complain-requires : tie.Need-complain-requires
+complain-requires c κs = search needs
 
 returns : tie.Need-returns
 returns c = search needs
 
-slice-aggregate-write-all-2 : tie.Need-slice-aggregate-write-all-2
-slice-aggregate-write-all-2 c = search needs
+has-ended-requires : tie.Need-has-ended-requires
+has-ended-requires c κs = search needs
 
-write-all-requires-2 : tie.Need-write-all-requires-2
-write-all-requires-2 c κs = search needs
+slice-aggregate-complain-of-length : tie.Need-slice-aggregate-complain-of-length
+slice-aggregate-complain-of-length c = search needs
+
+complain-of-length-requires : tie.Need-complain-of-length-requires
+complain-of-length-requires c κs =
+    let ended = c .before .before in
+    let failed = ended .before .before in
+    let atReadAll = failed .before .before in
+    let said = atReadAll .read-all .ensures .1 (sym (failed .is-failure .ensures) ∙ ended .before .if1 .left)
+    (sym (ended .has-ended .ensures) ∙ not-true _ (c .before .if2 .taken)) in
+    omega (arith, said, atReadAll .before .before .long-room .ensures)
 
 returns-2 : tie.Need-returns-2
 returns-2 c = search needs
 
+size-requires : tie.Need-size-requires
+size-requires c κs = search needs
+
+output-requires : tie.Need-output-requires
+output-requires c κs = search needs
+
 array-share-prefix-buffer : tie.Need-array-share-prefix-buffer
 array-share-prefix-buffer c = search needs
 
-slice-aggregate-answer : tie.Need-slice-aggregate-answer
-slice-aggregate-answer c = search needs
+slice-aggregate-verify : tie.Need-slice-aggregate-verify
+slice-aggregate-verify c =
+    let atSize = c .before .before in
+    let atReadAll = atSize .before .before .before .before .before .before in
+    sym (length-take-le _ _ (omega (arith, atSize .size .ensures, atReadAll .read-all .ensures .0 .0)))
 
-answer-requires : tie.Need-answer-requires
-answer-requires c κs = not-false _ (c .before .if2 .left)
+verify-requires : tie.Need-verify-requires
+verify-requires c κs = search needs
+
+array-share-prefix-output : tie.Need-array-share-prefix-output
+array-share-prefix-output c = front-within _ _ _ _ (c .verify .ensures .0) (c .verify .ensures .1)
+
+slice-aggregate-hand-over : tie.Need-slice-aggregate-hand-over
+slice-aggregate-hand-over c = sym (length-take-le _ _ (front-within _ _ _ _ (c .before .verify .ensures .0) (c .before .verify .ensures .1)))
+
+hand-over-requires : tie.Need-hand-over-requires
+hand-over-requires c κs =
+    let atCall = c .before in
+    let atSize = atCall .before .before .before .before in
+    let atReadAll = atSize .before .before .before .before .before .before in
+    due-ended verifyText (take (atSize .size .result) _) (atReadAll .read-all .result .ended) _ _
+    (length-take-le _ _ (omega (arith, atSize .size .ensures, atReadAll .read-all .ensures .0 .0)) ∙ atSize .size .ensures)
+    (front-is _ _ _ _ (atCall .verify .ensures .0) (atCall .verify .ensures .1))
+    (sym (atSize .before .before .has-ended .ensures) ∙ not-false _ (atSize .before .if2 .left))
 
 returns-3 : tie.Need-returns-3
 returns-3 c = search needs
@@ -47,16 +91,23 @@ pub main-spec : {M : Type 1} → statement M
 main-spec =
     tie.close
     (tie.spec
-    room-requires
+    long-room-requires
     slice-aggregate-read-all
     read-all-requires
-    slice-aggregate-write-all
-    write-all-requires
+    is-failure-requires
+    slice-aggregate-complain
+    complain-requires
     returns
-    slice-aggregate-write-all-2
-    write-all-requires-2
+    has-ended-requires
+    slice-aggregate-complain-of-length
+    complain-of-length-requires
     returns-2
+    size-requires
+    output-requires
     array-share-prefix-buffer
-    slice-aggregate-answer
-    answer-requires
+    slice-aggregate-verify
+    verify-requires
+    array-share-prefix-output
+    slice-aggregate-hand-over
+    hand-over-requires
     returns-3)

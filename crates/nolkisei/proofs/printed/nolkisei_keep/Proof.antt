@@ -1,13 +1,13 @@
--- `nolkisei::nolkisei_plan` meets its contract: the planner's answer is reported, and the output is as it leaves it. Assumes nothing.
+-- `nolkisei::printed::nolkisei_keep` meets its contract: the list's answer is reported, and the output is as it leaves it. Assumes nothing.
 use mathlib.Core.Path.{sym, ap, _∙_}
 use borrow.Author.Needs.{needs}
 use Rattle.program.specs.Into.{printOutcome}
 use Rattle.nolkisei.specs.Reported.{reported, reported-one}
-use Rattle.nolkisei.proofs.nolkisei_plan.Statement.{statement}
-use Rattle.nolkisei.proofs.nolkisei_plan.Tie as tie
+use Rattle.nolkisei.proofs.printed.nolkisei_keep.Statement.{statement}
+use Rattle.nolkisei.proofs.printed.nolkisei_keep.Tie as tie
 
-plan-into-requires : tie.Need-plan-into-requires
-plan-into-requires c κs = search needs
+keep-into-requires : tie.Need-keep-into-requires
+keep-into-requires c κs = search needs
 
 enum-known-size : tie.Need-enum-known-size
 enum-known-size c = search needs
@@ -26,7 +26,7 @@ same-length c = search needs
 
 returns : tie.Need-returns
 returns c =
-    let said = c .before .before .before .before .before .before .before .plan-into .ensures in
+    let said = c .before .before .before .before .before .before .before .keep-into .ensures in
     (reported-one _ _ (sym (said .0) ∙ ap printOutcome (c .before .before .before .size .given .1)) ∙ c .give .ensures, said .1)
 
 same-length-2 : tie.Need-same-length-2
@@ -34,14 +34,14 @@ same-length-2 c = search needs
 
 returns-2 : tie.Need-returns-2
 returns-2 c =
-    let said = c .before .before .before .before .before .before .before .plan-into .ensures in
+    let said = c .before .before .before .before .before .before .before .keep-into .ensures in
     (ap reported (sym (said .0) ∙ ap printOutcome (c .before .before .before .refusal .given .1)) ∙ c .refuse .ensures, said .1)
 
-pub nolkisei-plan-spec : {M : Type 1} → statement M
-nolkisei-plan-spec =
+pub nolkisei-keep-spec : {M : Type 1} → statement M
+nolkisei-keep-spec =
     tie.close
     (tie.spec
-    plan-into-requires
+    keep-into-requires
     enum-known-size
     give-requires
     enum-known-refusal
