@@ -19,7 +19,7 @@ use Rattle.lists.specs.Outcomes.{refuse-not, then-done, if-done}
 use Rattle.text_theory.specs.ImportProof.{import-promise}
 use Rattle.text_theory.specs.Longest.{longest}
 use Rattle.network.specs.Answers.{refusalOf, refusalNumber, refusalPlace}
-use Rattle.network.specs.declared.Refusal.{Refusal}
+use Rattle.network.specs.declared.refusal.Refusal.{Refusal}
 use Rattle.text.specs.Answers.{readOutcome, writeOutcome}
 use Rattle.text.specs.declared.ReadAnswer.{ReadAnswer}
 use Rattle.text.specs.declared.WriteAnswer.{WriteAnswer}

@@ -21,8 +21,8 @@ use Rattle.lists.specs.Cuts.{cut-up, total-lengths}
 use Rattle.text_theory.specs.Forms.{wish-line}
 use Rattle.text.specs.Put.{Put}
 use Rattle.network.specs.Answers.{refusalOf}
-use Rattle.network.specs.declared.Refusal.{Refusal}
-use Rattle.network.specs.declared.Refusal.the-variants.{Wish}
+use Rattle.network.specs.declared.refusal.Refusal.{Refusal}
+use Rattle.network.specs.declared.refusal.Refusal.the-variants.{Wish}
 use Rattle.program.specs.Front.{longer}
 use Rattle.program.specs.CutPassed.{cut-total}
 use Rattle.program.specs.ReadStage.{length-room, networkOf, stage-refused, whole-put, line-departed, line-taken}

@@ -12,8 +12,8 @@ use Rattle.definitions.specs.Outcome.{refused, done, refuseIf}
 use Rattle.definitions.specs.Form.{departs, reads, byteAt, scanForm, onScan}
 use Rattle.definitions.specs.Text.{outForm, withdrawn, allStates, readEnd, readOuts}
 use Rattle.network.specs.Answers.{refusalOf}
-use Rattle.network.specs.declared.Refusal.{Refusal}
-use Rattle.network.specs.declared.Refusal.the-variants.{Form, States}
+use Rattle.network.specs.declared.refusal.Refusal.{Refusal}
+use Rattle.network.specs.declared.refusal.Refusal.the-variants.{Form, States}
 use Rattle.text.specs.Outs.{ServedUpTo, WithdrawnAt, onOut, IfWithdraws, OutRead, OutsLeft, OutsRead, StatesRead}
 use Rattle.text.specs.Read.{take-stored}
 use Rattle.text.specs.Rows.{onStep, EndRead}

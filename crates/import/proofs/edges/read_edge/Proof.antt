@@ -4,7 +4,7 @@ use native.Mathlib.Omega.{arith}
 use borrow.Author.Needs.{needs}
 use denote.Ref.{now}
 use Rattle.network.specs.Seen.{faultOf}
-use Rattle.network.specs.declared.Refusal.the-variants.{RelayRange, NotBelow, Repeated}
+use Rattle.network.specs.declared.refusal.Refusal.the-variants.{RelayRange, NotBelow, Repeated}
 use Rattle.text.specs.Scans.{pairGives}
 use Rattle.import.proofs.EdgeLaws.{fine-ends, read-departs, read-faulty, read-fine}
 use Rattle.import.proofs.edges.read_edge.Statement.{statement}
