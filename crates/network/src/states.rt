@@ -4,18 +4,18 @@ use crate::Relay;
 use crate::refusal::Refusal;
 ghost use mathlib.Core.List.{[]};
 ghost use mathlib.Core.Path.{_≡_};
+ghost use Prim.Native.Nat.{_<_};
+ghost use lib.ListN.{length};
 ghost use Rattle.definitions.specs.Outcome.{done, refuseIf, andThen};
 ghost use Rattle.definitions.specs.Network.{serves, statesFault};
 ghost use Rattle.network.specs.Answers.{checkOutcome};
 
-// Whether a relay is in service; none beyond the list is.
+// Whether a relay is in service.
 pub fn in_service(states: &[u16], relay: Relay) -> bool
+    requires { ⌜ relay .0 < length (now states) ⌝ }
     ensures { λ r. ⌜ r ≡ serves (now (states .entry)) (relay .0) ⌝ }
 {
     let at = relay.0 as usize;
-    if states.len() <= at {
-        return false;
-    }
     states[at] == 1
 }
 
