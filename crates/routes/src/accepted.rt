@@ -93,8 +93,8 @@ fn route_in(
     highs: &[u16],
     states: &[u16],
     k: u16,
-    from: u16,
-    to: u16,
+    from: Relay,
+    to: Relay,
     order: &mut [u16],
     places: &mut [u16],
     numbers: &mut [u16],
@@ -105,18 +105,18 @@ fn route_in(
     links: &mut [u16],
     scratch: &mut [u16],
 ) -> RouteAnswer
-    requires { ⌜ Routable n (now lows) (now highs) (now states) k from to (now counts) (now relays) (now scratch)
+    requires { ⌜ Routable n (now lows) (now highs) (now states) k (from .0) (to .0) (now counts) (now relays) (now scratch)
         × RouteArrays n (now lows) (now order) (now places) (now numbers) (now a) (now b) ⌝ }
     ensures { λ r. ⌜ answered (now (counts .exit)) (now (relays .exit)) (now (links .exit)) (routeOutcome r)
-        ≡ treeAnswer n (now (lows .entry)) (now (highs .entry)) (now (states .entry)) k from to (now (counts .entry))
+        ≡ treeAnswer n (now (lows .entry)) (now (highs .entry)) (now (states .entry)) k (from .0) (to .0) (now (counts .entry))
         (now (relays .entry)) (now (links .entry)) ⌝ }
     ensures { λ _. ⌜ now (scratch .exit) ≡ zeroed (now (scratch .entry)) ⌝ }
 {
     let entries = k as usize * n as usize;
     clear(scratch, entries);
     prepare(n, lows, highs, states, k, order, places, numbers, scratch);
-    let p = place_of(places, Relay(from));
-    let q = place_of(places, Relay(to));
+    let p = place_of(places, from);
+    let q = place_of(places, to);
     let result = answer(
         a,
         b,
@@ -143,17 +143,17 @@ fn route_small(
     highs: &[u16],
     states: &[u16],
     k: u16,
-    from: u16,
-    to: u16,
+    from: Relay,
+    to: Relay,
     counts: &mut [u16],
     relays: &mut [u16],
     links: &mut [u16],
     scratch: &mut [u16],
 ) -> RouteAnswer
-    requires { ⌜ Routable n (now lows) (now highs) (now states) k from to (now counts) (now relays) (now scratch)
+    requires { ⌜ Routable n (now lows) (now highs) (now states) k (from .0) (to .0) (now counts) (now relays) (now scratch)
         × (n ≤ 128) × (length (now lows) ≤ 384) ⌝ }
     ensures { λ r. ⌜ answered (now (counts .exit)) (now (relays .exit)) (now (links .exit)) (routeOutcome r)
-        ≡ treeAnswer n (now (lows .entry)) (now (highs .entry)) (now (states .entry)) k from to (now (counts .entry))
+        ≡ treeAnswer n (now (lows .entry)) (now (highs .entry)) (now (states .entry)) k (from .0) (to .0) (now (counts .entry))
         (now (relays .entry)) (now (links .entry)) ⌝ }
     ensures { λ _. ⌜ now (scratch .exit) ≡ zeroed (now (scratch .entry)) ⌝ }
 {
@@ -189,16 +189,16 @@ fn route_large(
     highs: &[u16],
     states: &[u16],
     k: u16,
-    from: u16,
-    to: u16,
+    from: Relay,
+    to: Relay,
     counts: &mut [u16],
     relays: &mut [u16],
     links: &mut [u16],
     scratch: &mut [u16],
 ) -> RouteAnswer
-    requires { ⌜ Routable n (now lows) (now highs) (now states) k from to (now counts) (now relays) (now scratch) ⌝ }
+    requires { ⌜ Routable n (now lows) (now highs) (now states) k (from .0) (to .0) (now counts) (now relays) (now scratch) ⌝ }
     ensures { λ r. ⌜ answered (now (counts .exit)) (now (relays .exit)) (now (links .exit)) (routeOutcome r)
-        ≡ treeAnswer n (now (lows .entry)) (now (highs .entry)) (now (states .entry)) k from to (now (counts .entry))
+        ≡ treeAnswer n (now (lows .entry)) (now (highs .entry)) (now (states .entry)) k (from .0) (to .0) (now (counts .entry))
         (now (relays .entry)) (now (links .entry)) ⌝ }
     ensures { λ _. ⌜ now (scratch .exit) ≡ zeroed (now (scratch .entry)) ⌝ }
 {
@@ -234,16 +234,16 @@ pub(crate) fn route_accepted(
     highs: &[u16],
     states: &[u16],
     k: u16,
-    from: u16,
-    to: u16,
+    from: Relay,
+    to: Relay,
     counts: &mut [u16],
     relays: &mut [u16],
     links: &mut [u16],
     scratch: &mut [u16],
 ) -> RouteAnswer
-    requires { ⌜ Routable n (now lows) (now highs) (now states) k from to (now counts) (now relays) (now scratch) ⌝ }
+    requires { ⌜ Routable n (now lows) (now highs) (now states) k (from .0) (to .0) (now counts) (now relays) (now scratch) ⌝ }
     ensures { λ r. ⌜ answered (now (counts .exit)) (now (relays .exit)) (now (links .exit)) (routeOutcome r)
-        ≡ treeAnswer n (now (lows .entry)) (now (highs .entry)) (now (states .entry)) k from to (now (counts .entry))
+        ≡ treeAnswer n (now (lows .entry)) (now (highs .entry)) (now (states .entry)) k (from .0) (to .0) (now (counts .entry))
         (now (relays .entry)) (now (links .entry)) ⌝ }
     ensures { λ _. ⌜ now (scratch .exit) ≡ zeroed (now (scratch .entry)) ⌝ }
 {

@@ -18,7 +18,7 @@ prepare-requires c κs =
     let atClear = c .before .before .before .before .before .before in
     let start = atClear .before .before .before .before .before .before .before .before .before .before .before .before .before .before in
     let a = start .args in
-    prepare-asks (a .n) (a .lows .now) (a .highs .now) (a .states .now) (a .k) (a .from) (a .to) (a .counts .now) (a .relays .now) (a .scratch .now)
+    prepare-asks (a .n) (a .lows .now) (a .highs .now) (a .states .now) (a .k) (a .from .0) (a .to .0) (a .counts .now) (a .relays .now) (a .scratch .now)
     (atClear .clear .last .0) (a .order .now) (a .places .now) (a .numbers .now) (a .a .now) (a .b .now) (start .pre .0) (start .pre .1)
     (atClear .clear .ensures) (atClear .clear .kept .0)
 
@@ -43,7 +43,7 @@ answer-requires c κs =
     let start = atClear .before .before .before .before .before .before .before .before .before .before .before .before .before .before in
     let a = start .args in
     let made = atPrepare .prepare in
-    places-some (a .n) (a .lows .now) (a .highs .now) (a .states .now) (a .k) (a .from) (a .to) (a .counts .now) (a .relays .now) (a .links .now) (a .scratch .now)
+    places-some (a .n) (a .lows .now) (a .highs .now) (a .states .now) (a .k) (a .from .0) (a .to .0) (a .counts .now) (a .relays .now) (a .links .now) (a .scratch .now)
     (start .pre .0)
     (a .order .now) (made .last .1 .1 .1 .1 .1 .0) (a .places .now) (made .last .1 .1 .1 .1 .1 .1 .0)
     (a .numbers .now) (made .last .1 .1 .1 .1 .1 .1 .1 .0) (atClear .clear .last .0) (made .last .1 .1 .1 .1 .1 .1 .1 .1 .0) (made .ensures) (a .a .now) (a .b .now) (start .pre .1)
@@ -93,7 +93,7 @@ returns c =
     let start = atClear .before .before .before .before .before .before .before .before .before .before .before .before .before .before in
     let a = start .args in
     let made = atPrepare .prepare in (
-      answers-tree (a .n) (a .lows .now) (a .highs .now) (a .states .now) (a .k) (a .from) (a .to) (a .counts .now) (a .relays .now) (a .links .now) (a .scratch .now)
+      answers-tree (a .n) (a .lows .now) (a .highs .now) (a .states .now) (a .k) (a .from .0) (a .to .0) (a .counts .now) (a .relays .now) (a .links .now) (a .scratch .now)
           (start .pre .0)
           (a .order .now) (made .last .1 .1 .1 .1 .1 .0) (a .places .now) (made .last .1 .1 .1 .1 .1 .1 .0)
           (a .numbers .now) (made .last .1 .1 .1 .1 .1 .1 .1 .0) (atClear .clear .last .0) (made .last .1 .1 .1 .1 .1 .1 .1 .1 .0) (made .ensures)
