@@ -10,6 +10,7 @@ use crate::print::put_sheet;
 use crate::rooms;
 use forests::CutAnswer;
 use forests::cut;
+use network::Relay;
 use program::load::load;
 use program::refusal::put_refusal;
 use routes::RouteAnswer;
@@ -42,8 +43,8 @@ fn plan_routes(
         highs,
         states,
         k,
-        from,
-        to,
+        Relay(from),
+        Relay(to),
         &mut counts,
         &mut relays,
         &mut links,
