@@ -6,11 +6,12 @@ ghost use Rattle.definitions.specs.Program.{printed};
 ghost use Rattle.definitions.specs.SheetTest.{sheetAnswer};
 ghost use Rattle.definitions.specs.Lists.{overwrite};
 ghost use Rattle.definitions.specs.Verify.{networkSize, verdictText, verifyText};
-ghost use Rattle.program.specs.RefusedLine.{LinePut};
+ghost use Rattle.program.specs.RefusedLine.{lineRoom, LinePut};
 ghost use Rattle.verify.specs.Line.{readBackFrom};
 use crate::SheetAnswer;
 use crate::check_sheet;
 use program::load::load;
+use program::refusal::LINE_ROOM;
 use program::refusal::put_any;
 use program::rooms;
 use text::ReadAnswer;
@@ -18,8 +19,8 @@ use text::put;
 use text::scan;
 use text::scan::WordScan;
 
-// The bytes for every line: `(refused NUMBER PLACE)` with two numbers of twenty digits has as many.
-pub const OUTPUT: usize = 52;
+// The bytes for every line.
+pub const OUTPUT: usize = LINE_ROOM;
 
 pub fn output() -> [u8; OUTPUT] {
     [0u8; OUTPUT]
@@ -52,7 +53,7 @@ fn put_line(
     states: &[u16],
     text: &[u8],
 ) -> usize
-    requires { ⌜ 52 ≤ length (now output) ⌝ }
+    requires { ⌜ lineRoom ≤ length (now output) ⌝ }
     ensures { λ r. ⌜ LinePut (now (output .entry))
         (printed verdictText (sheetAnswer n (now (lows .entry)) (now (highs .entry)) (now (states .entry)) (now (text .entry))))
         (now (output .exit)) r ⌝ }
@@ -66,7 +67,7 @@ fn put_line(
 
 // The network is read, and then the sheet.
 pub(crate) fn put_read_back(output: &mut [u8], network: &[u8], text: &[u8]) -> usize
-    requires { ⌜ 52 ≤ length (now output) ⌝ }
+    requires { ⌜ lineRoom ≤ length (now output) ⌝ }
     ensures { λ r. ⌜ LinePut (now (output .entry)) (printed verdictText (readBackFrom (now (network .entry)) (now (text .entry))))
         (now (output .exit)) r ⌝ }
 {
