@@ -3,6 +3,7 @@
 use crate::Wish;
 use crate::show_answer;
 use crate::show_wish;
+use network::Relay;
 use show::show_list;
 
 fn route_links(
@@ -24,8 +25,8 @@ fn route_links(
         highs,
         states,
         wish.k,
-        wish.from,
-        wish.to,
+        Relay(wish.from),
+        Relay(wish.to),
         &mut counts,
         &mut relays,
         links,

@@ -1,6 +1,7 @@
 // Runs Route on document 01's examples, on the networks where planners went astray, with a relay withdrawn, and on bad input, and
 // prints a line for each: the network, the wish, the answer, and the three lent lists afterwards, which held nines before. Then
 // Route with links.
+use network::Relay;
 use routes::RouteAnswer;
 use show::show_list;
 use show::show_number;
@@ -51,8 +52,8 @@ fn route(
         highs,
         states,
         wish.k,
-        wish.from,
-        wish.to,
+        Relay(wish.from),
+        Relay(wish.to),
         counts,
         relays,
         scratch,
