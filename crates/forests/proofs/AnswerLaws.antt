@@ -23,7 +23,7 @@ use Rattle.definitions.specs.Forests.{
 use Rattle.lists.specs.Tests.{or-neither}
 use Rattle.network.specs.Answers.{refusalOf}
 use Rattle.network.specs.Refusals.{refusal-then, refusal-keeps}
-use Rattle.network.specs.declared.Refusal.{Refusal}
+use Rattle.network.specs.declared.refusal.Refusal.{Refusal}
 use Rattle.theory.specs.ForestBound.{forests-length}
 
 -- After a refusal of the table check the refusal stands, and no list changes.

@@ -6,17 +6,17 @@ ghost use lib.ListN.{length};
 ghost use Rattle.forests.specs.Busiest.{keyOf, servingKey, Busiest};
 
 // The key of relay r with so many links: the greater the more they are, of equals the lower r is.
-fn key(r: u16, count: u16) -> u32
-    requires { ⌜ r < 1000 ⌝ }
-    ensures { λ k. ⌜ k ≡ keyOf r count ⌝ }
+fn key(r: Relay, count: u16) -> u32
+    requires { ⌜ r .0 < 1000 ⌝ }
+    ensures { λ k. ⌜ k ≡ keyOf (r .0) count ⌝ }
 {
-    count as u32 * 1024 + (1023 - r as u32)
+    count as u32 * 1024 + (1023 - r.0 as u32)
 }
 
 // The same if relay r is in service, and 0, which is less than any key, if it is withdrawn.
-fn serving_key(r: u16, state: u16, count: u16) -> u32
-    requires { ⌜ r < 1000 ⌝ }
-    ensures { λ k. ⌜ k ≡ servingKey r state count ⌝ }
+fn serving_key(r: Relay, state: u16, count: u16) -> u32
+    requires { ⌜ r .0 < 1000 ⌝ }
+    ensures { λ k. ⌜ k ≡ servingKey (r .0) state count ⌝ }
 {
     let k = key(r, count);
     if state == 1 { k } else { 0 }
@@ -37,8 +37,10 @@ pub(crate) fn busiest(n: u16, states: &[u16], counts: &[u16]) -> Relay
     let mut r = 0;
     while r < n {
         let at = r as usize;
-        best = greater(best, serving_key(r, states[at], counts[at]));
+        best = greater(best, serving_key(Relay(r), states[at], counts[at]));
         r += 1;
     }
-    Relay((1023 - best % 1024) as u16)
+    let left = 1023 - best % 1024;
+    let number = left as u16;
+    Relay(number)
 }

@@ -1,5 +1,6 @@
 // The links at each relay as chains of half-links: half 2 i of link i is at its low end, half 2 i + 1 at its high end. A relay
 // has its first half-link, and each half-link the next one at its relay; twice the number of links stands for none.
+use network::Relay;
 ghost use Prim.Native.Nat.{_+_, _≤_, _<_};
 ghost use mathlib.Core.Path.{_≡_};
 ghost use lib.ListN.{length, getD};
@@ -8,22 +9,23 @@ ghost use Rattle.forests.specs.LinkCounts.{moreLinks, runOn, listOn, Cou
 ghost use Rattle.forests.specs.Counts.{NoneBeyond};
 
 // Relay r has so many links more.
-fn count_links(r: usize, more: u16, counts: &mut [u16])
-    requires { ⌜ (r < length (now counts)) × (getD (now counts) r 0 + more ≤ 3000) ⌝ }
-    ensures { λ _. ⌜ now (counts .exit) ≡ moreLinks r more (now (counts .entry)) ⌝ }
+fn count_links(r: Relay, more: u16, counts: &mut [u16])
+    requires { ⌜ (r .0 < length (now counts)) × (getD (now counts) (r .0) 0 + more ≤ 3000) ⌝ }
+    ensures { λ _. ⌜ now (counts .exit) ≡ moreLinks (r .0) more (now (counts .entry)) ⌝ }
 {
-    let count = counts[r];
-    counts[r] = count + more;
+    let at = r.0 as usize;
+    let count = counts[at];
+    counts[at] = count + more;
 }
 
 // Relay r has one link more, behind a run of links at `last`. Gives the run at r. The links of a table often stand in the order of
 // one end: then a run is counted in hand, and no sum waits for the store of the one before it.
-fn count_on(r: usize, last: usize, run: u16, counts: &mut [u16]) -> u16
-    requires { ⌜ (last < length (now counts)) × (getD (now counts) last 0 + run ≤ 3000) ⌝ }
-    ensures { λ next. ⌜ next ≡ runOn r last run ⌝ }
-    ensures { λ _. ⌜ now (counts .exit) ≡ listOn r last run (now (counts .entry)) ⌝ }
+fn count_on(r: Relay, last: Relay, run: u16, counts: &mut [u16]) -> u16
+    requires { ⌜ (last .0 < length (now counts)) × (getD (now counts) (last .0) 0 + run ≤ 3000) ⌝ }
+    ensures { λ next. ⌜ next ≡ runOn (r .0) (last .0) run ⌝ }
+    ensures { λ _. ⌜ now (counts .exit) ≡ listOn (r .0) (last .0) run (now (counts .entry)) ⌝ }
 {
-    if r == last {
+    if r.0 == last.0 {
         return run + 1;
     }
     count_links(last, run, counts);
@@ -48,19 +50,21 @@ pub(crate) fn link_up(
     let mut run = 0;
     while i > 0 {
         i -= 1;
-        let a = lows[i] as usize;
-        let b = highs[i] as usize;
+        let from = lows[i];
+        let to = highs[i];
+        let a = from as usize;
+        let b = to as usize;
         let low = 2 * i;
         let high = low + 1;
         let here = low as u16;
         let there = high as u16;
-        count_links(a, 1, counts);
-        run = count_on(b, last, run, counts);
-        last = b;
+        count_links(Relay(from), 1, counts);
+        run = count_on(Relay(to), Relay(last), run, counts);
+        last = to;
         nexts[low] = first[a];
         nexts[high] = first[b];
         first[a] = here;
         first[b] = there;
     }
-    count_links(last, run, counts);
+    count_links(Relay(last), run, counts);
 }

@@ -4,6 +4,7 @@ use marks::highest;
 use marks::mark_links;
 use network::Check;
 use network::Refusal;
+use network::limits::ROUTES;
 use network::table_check;
 use results::number_links;
 use results::place_relays;
@@ -141,7 +142,7 @@ pub fn cut(
             if k < 1 {
                 return CutAnswer::Refused(Refusal::RouteCount);
             }
-            if 32 < k {
+            if ROUTES < k {
                 return CutAnswer::Refused(Refusal::RouteCount);
             }
             if marks.len() < m {

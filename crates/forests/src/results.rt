@@ -4,6 +4,8 @@ use crate::arrays::few_relay_copies;
 use crate::arrays::link_zeros;
 use crate::arrays::relay_copies;
 use crate::scan::scan;
+use network::limits::FEW_LINKS;
+use network::limits::FEW_RELAYS;
 ghost use Prim.Native.Nat.{_≤_};
 ghost use mathlib.Core.Path.{_≡_};
 ghost use lib.ListN.{length};
@@ -27,7 +29,7 @@ pub fn place_relays(
     ensures { λ _. ⌜ now (places .exit)
         ≡ overwrite (placesOf n (orderOf n (now (lows .entry)) (now (highs .entry)) (now (states .entry)))) (now (places .entry)) ⌝ }
 {
-    if lows.len() <= 384 {
+    if lows.len() <= FEW_LINKS {
         let mut forests = few_link_zeros();
         scan(n, lows, highs, states, relays, places, &mut forests);
     } else {
@@ -42,7 +44,7 @@ pub(crate) fn number_links(n: u16, lows: &[u16], highs: &[u16], states: &[u16], 
     ensures { λ _. ⌜ now (forests .exit)
         ≡ overwrite (forestsOf n (now (lows .entry)) (now (highs .entry)) (now (states .entry))) (now (forests .entry)) ⌝ }
 {
-    if n <= 128 {
+    if n <= FEW_RELAYS {
         let mut relays = few_relay_copies(0);
         let mut places = few_relay_copies(0);
         scan(n, lows, highs, states, &mut relays, &mut places, forests);

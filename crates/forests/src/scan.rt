@@ -13,6 +13,10 @@ use crate::placing::prepare;
 use crate::placing::scan_in;
 use network::Place;
 use network::Relay;
+use network::limits::FEW_LINKS;
+use network::limits::FEW_RELAYS;
+use network::limits::FEWEST_LINKS;
+use network::limits::FEWEST_RELAYS;
 ghost use Prim.Native.Nat.{_<_, _≤_};
 ghost use mathlib.Core.Bool.{true};
 ghost use mathlib.Core.Path.{_≡_};
@@ -32,14 +36,22 @@ pub fn place_of(places: &[u16], r: Relay) -> Place
 pub fn is_small(n: u16, m: usize) -> bool
     ensures { λ r. ⌜ r ≡ isSmall n m ⌝ }
 {
-    if n <= 128 { m <= 384 } else { false }
+    if n <= FEW_RELAYS {
+        m <= FEW_LINKS
+    } else {
+        false
+    }
 }
 
 // The same for 32 relays and 96 links.
 fn is_tiny(n: u16, m: usize) -> bool
     ensures { λ r. ⌜ (r ≡ true → (n ≤ 32) × (m ≤ 96)) ⌝ }
 {
-    if n <= 32 { m <= 96 } else { false }
+    if n <= FEWEST_RELAYS {
+        m <= FEWEST_LINKS
+    } else {
+        false
+    }
 }
 
 fn scan_tiny(

@@ -20,8 +20,8 @@ use Rattle.network.specs.Answers.{refusalOf}
 use Rattle.network.specs.Seen.{faultOf, LinkChecked, Seen, seen-fault}
 use Rattle.network.specs.declared.LinkCheck.{LinkCheck}
 use Rattle.network.specs.declared.LinkCheck.the-variants as link
-use Rattle.network.specs.declared.Refusal.{Refusal}
-use Rattle.network.specs.declared.Refusal.the-variants.{DrawingForm}
+use Rattle.network.specs.declared.refusal.Refusal.{Refusal}
+use Rattle.network.specs.declared.refusal.Refusal.the-variants.{DrawingForm}
 use Rattle.text.specs.Read.{stopped-link, fine-link}
 use Rattle.text.specs.Rows.{LinkRead}
 use Rattle.text.specs.declared.rows.Step.the-variants.{Next, Refused}

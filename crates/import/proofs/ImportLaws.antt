@@ -20,8 +20,8 @@ use Rattle.definitions.specs.Dimacs.{
   importStates,
 }
 use Rattle.network.specs.Answers.{refusalOf}
-use Rattle.network.specs.declared.Refusal.{Refusal}
-use Rattle.network.specs.declared.Refusal.the-variants.{DrawingForm}
+use Rattle.network.specs.declared.refusal.Refusal.{Refusal}
+use Rattle.network.specs.declared.refusal.Refusal.the-variants.{DrawingForm}
 use Rattle.text.specs.Answers.{readOutcome}
 use Rattle.text.specs.Outs.{ServedUpTo}
 use Rattle.text.specs.Rows.{onStep}

@@ -1,7 +1,7 @@
 // The `e` lines of a drawing into the two lists of a table, numbers one lower and ends in order, and what is behind them.
 ghost use mathlib.Core.List.{[]};
 ghost use mathlib.Core.Path.{_≡_};
-ghost use Prim.Native.Nat.{_≤_, _<_};
+ghost use Prim.Native.Nat.{_-_, _≤_, _<_};
 ghost use lib.ListN.{length, take};
 ghost use Rattle.definitions.specs.Dimacs.{lowEnd, highEnd, readEdges};
 ghost use Rattle.network.specs.RowStarts.{RowsFor};
@@ -11,41 +11,55 @@ ghost use Rattle.import.specs.Edges.{EdgeChecked, LastRead};
 use crate::comments;
 use network::LinkCheck;
 use network::Refusal;
+use network::Relay;
+use network::limits::FEW_RELAYS;
+use network::limits::FEWEST_RELAYS;
 use text::rows::Step;
 use text::scan::PairScan;
 use text::scan::WordScan;
 
-// The lower of the two ends, one lower.
-fn low_end(u: u16, v: u16) -> u16
-    requires { ⌜ (1 ≤ u) × (1 ≤ v) ⌝ }
-    ensures { λ r. ⌜ r ≡ lowEnd u v ⌝ }
+// A vertex of a drawing, from 1 on: its relay is one lower.
+struct Vertex(u16);
+
+// The relay of a vertex.
+fn relay_of(u: Vertex) -> Relay
+    requires { ⌜ 1 ≤ u .0 ⌝ }
+    ensures { λ r. ⌜ r .0 ≡ u .0 - 1 ⌝ }
 {
-    if u < v { u - 1 } else { v - 1 }
+    Relay(u.0 - 1)
+}
+
+// The lower of the two ends, one lower.
+fn low_end(u: Vertex, v: Vertex) -> Relay
+    requires { ⌜ (1 ≤ u .0) × (1 ≤ v .0) ⌝ }
+    ensures { λ r. ⌜ r .0 ≡ lowEnd (u .0) (v .0) ⌝ }
+{
+    if u.0 < v.0 { relay_of(u) } else { relay_of(v) }
 }
 
 // The higher of the two ends, one lower.
-fn high_end(u: u16, v: u16) -> u16
-    requires { ⌜ (1 ≤ u) × (1 ≤ v) ⌝ }
-    ensures { λ r. ⌜ r ≡ highEnd u v ⌝ }
+fn high_end(u: Vertex, v: Vertex) -> Relay
+    requires { ⌜ (1 ≤ u .0) × (1 ≤ v .0) ⌝ }
+    ensures { λ r. ⌜ r .0 ≡ highEnd (u .0) (v .0) ⌝ }
 {
-    if u < v { v - 1 } else { u - 1 }
+    if u.0 < v.0 { relay_of(v) } else { relay_of(u) }
 }
 
 // An edge behind those whose pairs are marked; its own pair is marked if nothing is wrong with it.
-fn check_edge(n: u16, u: u16, v: u16, rows: &[u32], seen: &mut [u64]) -> LinkCheck
+fn check_edge(n: u16, u: Vertex, v: Vertex, rows: &[u32], seen: &mut [u64]) -> LinkCheck
     requires { ⌜ (n ≤ 1000) × RowsFor n (now rows) × RoomFor n (now seen) ⌝ }
-    ensures { λ r. ⌜ EdgeChecked n u v (now (seen .entry)) (now (seen .exit)) r ⌝ }
+    ensures { λ r. ⌜ EdgeChecked n (u .0) (v .0) (now (seen .entry)) (now (seen .exit)) r ⌝ }
 {
-    if u < 1 {
+    if u.0 < 1 {
         return LinkCheck::RelayRange;
     }
-    if n < u {
+    if n < u.0 {
         return LinkCheck::RelayRange;
     }
-    if v < 1 {
+    if v.0 < 1 {
         return LinkCheck::RelayRange;
     }
-    if n < v {
+    if n < v.0 {
         return LinkCheck::RelayRange;
     }
     network::check_link(n, low_end(u, v), high_end(u, v), rows, seen)
@@ -69,13 +83,15 @@ fn read_edge(
 {
     match comments::edge_line(text, at) {
         PairScan::Departs(p) => Step::Refused(Refusal::DrawingForm(p)),
-        PairScan::Reads(u, v, next) => match check_edge(n, u, v, rows, seen) {
+        PairScan::Reads(u, v, next) => match check_edge(n, Vertex(u), Vertex(v), rows, seen) {
             LinkCheck::RelayRange => Step::Refused(Refusal::RelayRange(i)),
             LinkCheck::NotBelow => Step::Refused(Refusal::NotBelow(i)),
             LinkCheck::Repeated => Step::Refused(Refusal::Repeated(i)),
             LinkCheck::Fine => {
-                lows[i] = low_end(u, v);
-                highs[i] = high_end(u, v);
+                let low = low_end(Vertex(u), Vertex(v));
+                let high = high_end(Vertex(u), Vertex(v));
+                lows[i] = low.0;
+                highs[i] = high.0;
                 Step::Next(next)
             }
         },
@@ -127,22 +143,22 @@ pub(crate) fn read_all_edges(
     ensures { λ r. ⌜ LinksRead (readEdges (now (text .entry)) n) m at (now (lows .entry)) (now (highs .entry)) (now (lows .exit))
         (now (highs .exit)) r ⌝ }
 {
-    if n <= 32 {
+    if n <= FEWEST_RELAYS {
         let front = network::row_starts::row_starts_of_32();
-        let mut fewest = network::no_pairs_of_32();
+        let mut fewest = network::pairs::no_pairs_of_32();
         return read_edges(text, n, m, at, lows, highs, &front, &mut fewest);
     }
-    if n <= 128 {
+    if n <= FEW_RELAYS {
         let first = network::row_starts::first_row_starts();
-        let mut few = network::no_pairs_of_128();
+        let mut few = network::pairs::no_pairs_of_128();
         return read_edges(text, n, m, at, lows, highs, &first, &mut few);
     }
     let rows = network::row_starts::row_starts();
     if n <= 512 {
-        let mut more = network::no_pairs_of_512();
+        let mut more = network::pairs::no_pairs_of_512();
         return read_edges(text, n, m, at, lows, highs, &rows, &mut more);
     }
-    let mut seen = network::no_pairs_of_1000();
+    let mut seen = network::pairs::no_pairs_of_1000();
     read_edges(text, n, m, at, lows, highs, &rows, &mut seen)
 }
 

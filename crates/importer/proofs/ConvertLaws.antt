@@ -14,7 +14,7 @@ use Rattle.definitions.specs.Import.{networkText, importText}
 use Rattle.text_theory.specs.ImportProof.{import-promise, import-outcome}
 use Rattle.text_theory.specs.Longest.{longest}
 use Rattle.network.specs.Answers.{refusalOf, refusalNumber, refusalPlace}
-use Rattle.network.specs.declared.Refusal.{Refusal}
+use Rattle.network.specs.declared.refusal.Refusal.{Refusal}
 use Rattle.text.specs.Answers.{readOutcome}
 use Rattle.text.specs.declared.ReadAnswer.{ReadAnswer}
 use Rattle.program.specs.ReadStage.{FrontTable, Loads, reading-loads, whole-put}

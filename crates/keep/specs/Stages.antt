@@ -18,8 +18,8 @@ use Rattle.theory.specs.Accepted.{accepted, accepted-states}
 use Rattle.theory.specs.Columns.{length-marks}
 use Rattle.text.specs.Put.{Put}
 use Rattle.network.specs.Answers.{refusalOf}
-use Rattle.network.specs.declared.Refusal.{Refusal}
-use Rattle.network.specs.declared.Refusal.the-variants.{Wish}
+use Rattle.network.specs.declared.refusal.Refusal.{Refusal}
+use Rattle.network.specs.declared.refusal.Refusal.the-variants.{Wish}
 use Rattle.program.specs.Front.{longer}
 use Rattle.program.specs.CutPassed.{cut-passed}
 use Rattle.program.specs.ReadStage.{whole-put, networkOf, stage-refused, cut-rooms, line-departed, line-taken}

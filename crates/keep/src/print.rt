@@ -11,17 +11,20 @@ ghost use Rattle.text.specs.Put.{Put};
 ghost use Rattle.keep.specs.Lines.{tripleForm, EndsWithin, countLines, listLines};
 use crate::idle::both_serve;
 use crate::idle::idle_links;
+use network::Relay;
 use program::line::put_kept;
 use program::line::put_single;
 use text::put;
 
 // A line of a link's index and its two relays.
-fn put_triple(output: &mut [u8], at: usize, front: &[u8], i: usize, a: usize, b: usize) -> usize
-    requires { ⌜ at + length (writeForm (tripleForm (now front)) (i ∷ a ∷ b ∷ [])) ≤ length (now output) ⌝ }
-    ensures { λ r. ⌜ Put (now (output .entry)) at (writeForm (tripleForm (now (front .entry))) (i ∷ a ∷ b ∷ [])) (now (output .exit)) r ⌝ }
+fn put_triple(output: &mut [u8], at: usize, front: &[u8], i: usize, a: Relay, b: Relay) -> usize
+    requires { ⌜ at + length (writeForm (tripleForm (now front)) (i ∷ a .0 ∷ b .0 ∷ [])) ≤ length (now output) ⌝ }
+    ensures { λ r. ⌜ Put (now (output .entry)) at (writeForm (tripleForm (now (front .entry))) (i ∷ a .0 ∷ b .0 ∷ [])) (now (output .exit)) r ⌝ }
 {
     let p = put::put_word_number(output, at, front, i);
-    put::put_pair(output, p, b" ", a, b" ", b, b")\n")
+    let low = a.0 as usize;
+    let high = b.0 as usize;
+    put::put_pair(output, p, b" ", low, b" ", high, b")\n")
 }
 
 // The line of a link: kept with mark 1; without it dropped if both its ends are in service, and idle if one is withdrawn.
@@ -31,13 +34,13 @@ fn put_link(
     states: &[u16],
     mark: u16,
     i: usize,
-    a: usize,
-    b: usize,
+    a: Relay,
+    b: Relay,
 ) -> usize
-    requires { ⌜ (a < length (now states)) × (b < length (now states)) ⌝ }
-    requires { ⌜ at + length (leaseLine mark (serves (now states) a && serves (now states) b) i a b) ≤ length (now output) ⌝ }
+    requires { ⌜ (a .0 < length (now states)) × (b .0 < length (now states)) ⌝ }
+    requires { ⌜ at + length (leaseLine mark (serves (now states) (a .0) && serves (now states) (b .0)) i (a .0) (b .0)) ≤ length (now output) ⌝ }
     ensures { λ r. ⌜ Put (now (output .entry)) at
-        (leaseLine mark (serves (now (states .entry)) a && serves (now (states .entry)) b) i a b) (now (output .exit)) r ⌝ }
+        (leaseLine mark (serves (now (states .entry)) (a .0) && serves (now (states .entry)) (b .0)) i (a .0) (b .0)) (now (output .exit)) r ⌝ }
 {
     if mark == 1 {
         put_triple(output, at, b"(keep ", i, a, b)
@@ -68,9 +71,9 @@ fn put_links(
     let mut p = at;
     while i < lows.len() {
         let mark = marks[i];
-        let low = lows[i] as usize;
-        let high = highs[i] as usize;
-        p = put_link(output, p, states, mark, i, low, high);
+        let low = lows[i];
+        let high = highs[i];
+        p = put_link(output, p, states, mark, i, Relay(low), Relay(high));
         i += 1;
     }
     p

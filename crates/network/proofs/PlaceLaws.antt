@@ -5,8 +5,8 @@ use mathlib.Core.Path.{_≡_, refl}
 use denote.Enum.Declared.{tagOf}
 use types.Run.{OneOf, miss}
 use Rattle.network.specs.Answers.{refusalPlace}
-use Rattle.network.specs.declared.Refusal.{Refusal}
-use Rattle.network.specs.declared.Refusal.the-variants.{
+use Rattle.network.specs.declared.refusal.Refusal.{Refusal}
+use Rattle.network.specs.declared.refusal.Refusal.the-variants.{
   Wish,
   Form,
   RelayCount,
@@ -26,7 +26,7 @@ use Rattle.network.specs.declared.Refusal.the-variants.{
   Withdrawn,
   DrawingForm,
 }
-use Rattle.network.proofs.Refusal.{the-type}
+use Rattle.network.proofs.refusal.Refusal.{the-type}
 
 -- The refusals without a place, as the enum counts them, from 0.
 abbrev placeless : List ℕ

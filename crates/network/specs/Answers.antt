@@ -3,8 +3,8 @@
 use Prim.Native.Nat.{ℕ}
 use mathlib.Core.List.{[], _∷_}
 use Rattle.definitions.specs.Outcome.{Outcome, refused, done, Answer}
-use Rattle.network.specs.declared.Refusal.{Refusal}
-use Rattle.network.specs.declared.Refusal.the-variants.{
+use Rattle.network.specs.declared.refusal.Refusal.{Refusal}
+use Rattle.network.specs.declared.refusal.Refusal.the-variants.{
   Wish,
   Form,
   RelayCount,
@@ -24,8 +24,8 @@ use Rattle.network.specs.declared.Refusal.the-variants.{
   Withdrawn,
   DrawingForm,
 }
-use Rattle.network.specs.declared.Pair.{Pair}
-use Rattle.network.specs.declared.Pair.the-variants.{Number}
+use Rattle.network.specs.declared.pairs.Pair.{Pair}
+use Rattle.network.specs.declared.pairs.Pair.the-variants.{Number}
 use Rattle.network.specs.declared.Check.{Check}
 use Rattle.network.specs.declared.Check.the-variants.{Accepted}
 

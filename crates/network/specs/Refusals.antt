@@ -2,7 +2,7 @@
 use mathlib.Core.Path.{_≡_, refl}
 use Rattle.definitions.specs.Outcome.{Outcome, andThen, ifDone}
 use Rattle.network.specs.Answers.{refusalOf}
-use Rattle.network.specs.declared.Refusal.{Refusal}
+use Rattle.network.specs.declared.refusal.Refusal.{Refusal}
 
 pub refusal-then : {A B : Type 0} (refusal : Refusal) (next : A → Outcome B) → andThen (refusalOf refusal) next ≡ refusalOf refusal
 unfolding andThen

@@ -1,5 +1,9 @@
 // The row starts as a table of constants, from which every pair number is worked out.
 // The rule of its entries, and the test that shows it, are in specs/RowStarts.antt.
+use crate::Relay;
+use crate::limits::FEW_RELAY_ROOM;
+use crate::limits::FEWEST_RELAY_ROOM;
+use crate::limits::RELAY_ROOM;
 ghost use mathlib.Core.Path.{_≡_};
 ghost use Prim.Native.Nat.{_+_};
 ghost use Rattle.definitions.specs.Network.{rowStart};
@@ -7,7 +11,7 @@ ghost use Rattle.network.specs.RowStarts.{RowsFor};
 
 // Entry b is b × (b − 1) / 2: document 02, #102, "a constant table of 1,000 row starts".
 // Printed by: for ((b = 0; b < 1000; b++)); do echo "    $((b * (b - 1) / 2)),"; done
-const ROW_STARTS: [u32; 1000] = [
+const ROW_STARTS: [u32; RELAY_ROOM] = [
     0,
     0,
     1,
@@ -1011,20 +1015,20 @@ const ROW_STARTS: [u32; 1000] = [
 ];
 
 // The whole table. It is laid out anew at each call, 4,000 bytes, so it is taken once for all links and lent to the look-ups.
-pub fn row_starts() -> [u32; 1000]
+pub fn row_starts() -> [u32; RELAY_ROOM]
     ensures { λ r. ⌜ RowsFor 1000 r ⌝ }
 {
     ROW_STARTS
 }
 
 // The front of the table, for up to 128 relays; the compiler lays out no more than these 512 bytes.
-pub fn first_row_starts() -> [u32; 128]
+pub fn first_row_starts() -> [u32; FEW_RELAY_ROOM]
     ensures { λ r. ⌜ RowsFor 128 r ⌝ }
 {
     let rows = row_starts();
-    let mut first = [0u32; 128];
+    let mut first = [0u32; FEW_RELAY_ROOM];
     let mut b = 0;
-    while b < 128 {
+    while b < FEW_RELAY_ROOM {
         first[b] = rows[b];
         b += 1;
     }
@@ -1032,13 +1036,13 @@ pub fn first_row_starts() -> [u32; 128]
 }
 
 // The front of the table, for up to 32 relays: 128 bytes.
-pub fn row_starts_of_32() -> [u32; 32]
+pub fn row_starts_of_32() -> [u32; FEWEST_RELAY_ROOM]
     ensures { λ r. ⌜ RowsFor 32 r ⌝ }
 {
     let rows = row_starts();
-    let mut front = [0u32; 32];
+    let mut front = [0u32; FEWEST_RELAY_ROOM];
     let mut b = 0;
-    while b < 32 {
+    while b < FEWEST_RELAY_ROOM {
         front[b] = rows[b];
         b += 1;
     }
@@ -1046,9 +1050,9 @@ pub fn row_starts_of_32() -> [u32; 32]
 }
 
 // The first pair number of the links whose high relay is b.
-pub(crate) fn row_start(b: u16, rows: &[u32]) -> u32
-    requires { ⌜ RowsFor (b + 1) (now rows) ⌝ }
-    ensures { λ r. ⌜ r ≡ rowStart b ⌝ }
+pub(crate) fn row_start(b: Relay, rows: &[u32]) -> u32
+    requires { ⌜ RowsFor (b .0 + 1) (now rows) ⌝ }
+    ensures { λ r. ⌜ r ≡ rowStart (b .0) ⌝ }
 {
-    rows[b as usize]
+    rows[b.0 as usize]
 }

@@ -6,7 +6,7 @@ use mathlib.Core.Path.{_≡_}
 use Rattle.definitions.specs.Outcome.{refused, done, Answer}
 use Rattle.definitions.specs.Lists.{overwrite}
 use Rattle.network.specs.Answers.{refusalNumber, refusalPlace, refusalOf}
-use Rattle.network.specs.declared.Refusal.{Refusal}
+use Rattle.network.specs.declared.refusal.Refusal.{Refusal}
 
 -- A refusal gives its number and, as the first entry, its place. Success gives 0 and the values. Entries that are not
 -- named are zeros.

@@ -197,7 +197,18 @@ pub extern "C" fn nolkisei_route(
         ≡ scratchAfter n (now (lows .entry)) (now (highs .entry)) (now (states .entry)) k from to (now (counts .entry)) (now (relays .entry))
         (now (scratch .entry)) ⌝ }
 {
-    match routes::route(n, lows, highs, states, k, from, to, counts, relays, scratch) {
+    match routes::route(
+        n,
+        lows,
+        highs,
+        states,
+        k,
+        Relay(from),
+        Relay(to),
+        counts,
+        relays,
+        scratch,
+    ) {
         RouteAnswer::Written(total) => report::give(total as u64, 0, answer),
         RouteAnswer::Refused(refusal) => report::refuse(refusal, answer),
     }
@@ -242,8 +253,8 @@ pub extern "C" fn nolkisei_route_links(
         highs,
         states,
         k,
-        from,
-        to,
+        Relay(from),
+        Relay(to),
         counts,
         relays,
         links,

@@ -26,8 +26,8 @@ use Rattle.lists.specs.Cuts.{cut-up, total-lengths}
 use Rattle.text_theory.specs.Forms.{wish-line}
 use Rattle.text.specs.Put.{Put}
 use Rattle.network.specs.Answers.{refusalOf}
-use Rattle.network.specs.declared.Refusal.{Refusal}
-use Rattle.network.specs.declared.Refusal.the-variants.{Wish, RouteCount}
+use Rattle.network.specs.declared.refusal.Refusal.{Refusal}
+use Rattle.network.specs.declared.refusal.Refusal.the-variants.{Wish, RouteCount}
 use Rattle.theory.specs.Accepted.{accepted}
 use Rattle.routes.specs.Answers.{countedAnswer}
 use Rattle.program.specs.Front.{longer}

@@ -2,12 +2,13 @@
 ghost use mathlib.Core.Path.{_≡_};
 ghost use Rattle.definitions.specs.Program.{room};
 ghost use Rattle.definitions.specs.Plan.{outputRoom};
+use network::limits::ROUTE_ROOM;
 
 // How many relays each route has.
-pub(crate) fn counts() -> [u16; 32]
+pub(crate) fn counts() -> [u16; ROUTE_ROOM]
     ensures { λ r. ⌜ r ≡ room 32 ⌝ }
 {
-    [0u16; 32]
+    [0u16; ROUTE_ROOM]
 }
 
 // The relays of all the routes: 1,000 − 2 + 2 × 32 of them at most.

@@ -10,6 +10,7 @@ ghost use Rattle.plan.specs.Stages.{cutStage, readStage};
 use crate::print::put_sheet;
 use crate::rooms;
 use forests::CutAnswer;
+use network::Relay;
 use program::load::load;
 use program::refusal::put_refusal;
 use routes::kept::cut_and_route;
@@ -22,13 +23,13 @@ pub fn plan_accepted(
     lows: &[u16],
     highs: &[u16],
     states: &[u16],
-    from: u16,
-    to: u16,
+    from: Relay,
+    to: Relay,
     k: u16,
 ) -> usize
     requires { ⌜ Accepted n (now lows) (now highs) (now states) ⌝ }
-    requires { ⌜ length (printed sheetText (cutStage from to k (networkOf n (now lows) (now highs) (now states)))) ≤ length (now output) ⌝ }
-    ensures { λ r. ⌜ Put (now (output .entry)) 0 (printed sheetText (cutStage from to k (networkOf n (now (lows .entry)) (now (highs .entry)) (now (states .entry)))))
+    requires { ⌜ length (printed sheetText (cutStage (from .0) (to .0) k (networkOf n (now lows) (now highs) (now states)))) ≤ length (now output) ⌝ }
+    ensures { λ r. ⌜ Put (now (output .entry)) 0 (printed sheetText (cutStage (from .0) (to .0) k (networkOf n (now (lows .entry)) (now (highs .entry)) (now (states .entry)))))
         (now (output .exit)) r ⌝ }
 {
     let mut counts = rooms::counts();
@@ -51,8 +52,8 @@ pub fn plan_accepted(
         CutAnswer::Refused(refusal) => put_refusal(output, refusal),
         CutAnswer::Kept(kept) => put_sheet(
             output,
-            from as usize,
-            to as usize,
+            from.0 as usize,
+            to.0 as usize,
             k as usize,
             &counts,
             &relays,
@@ -81,8 +82,8 @@ pub(crate) fn plan_network(output: &mut [u8], text: &[u8], from: u16, to: u16, k
                 &lows[..size],
                 &highs[..size],
                 &states[..relays],
-                from,
-                to,
+                Relay(from),
+                Relay(to),
                 k,
             )
         }

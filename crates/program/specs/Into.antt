@@ -8,7 +8,7 @@ use lib.ListN.{length}
 use Rattle.definitions.specs.Outcome.{done, Answer, refuseIf, ifDone}
 use Rattle.definitions.specs.Program.{printAnswer, outputAfter}
 use Rattle.network.specs.Answers.{refusalOf}
-use Rattle.network.specs.declared.Refusal.the-variants.{Room}
+use Rattle.network.specs.declared.refusal.Refusal.the-variants.{Room}
 use Rattle.text.specs.Put.{Put}
 use Rattle.lists.specs.Stores.{sets-overwrite}
 use Rattle.program.specs.declared.into.PrintAnswer.{PrintAnswer}

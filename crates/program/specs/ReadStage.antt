@@ -24,8 +24,8 @@ use Rattle.text.specs.Put.{Put}
 use Rattle.lists.specs.Stores.{sets-overwrite}
 use Rattle.network.specs.Answers.{refusalOf, refusalNumber, refusalPlace}
 use Rattle.network.specs.Refusals.{refusal-then}
-use Rattle.network.specs.declared.Refusal.{Refusal}
-use Rattle.network.specs.declared.Refusal.the-variants.{Wish}
+use Rattle.network.specs.declared.refusal.Refusal.{Refusal}
+use Rattle.network.specs.declared.refusal.Refusal.the-variants.{Wish}
 use Rattle.text.specs.Answers.{readOutcome}
 use Rattle.text.specs.declared.ReadAnswer.{ReadAnswer}
 use Rattle.text.specs.declared.ReadAnswer.the-variants as reading

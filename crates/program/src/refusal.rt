@@ -6,11 +6,14 @@ ghost use Rattle.definitions.specs.Form.{writeForm};
 ghost use Rattle.definitions.specs.Program.{refusedForm};
 ghost use Rattle.network.specs.Answers.{refusalNumber, refusalPlace};
 ghost use Rattle.text.specs.Put.{Put};
-ghost use Rattle.program.specs.RefusedLine.{LinePut};
+ghost use Rattle.program.specs.RefusedLine.{lineRoom, LinePut};
 use network::Refusal;
 use network::refusal_number;
 use network::refusal_place;
 use text::put;
+
+// The bytes that every refused line fits: with two numbers of twenty digits it has as many.
+pub const LINE_ROOM: usize = 52;
 
 // `(refused NUMBER PLACE)` and its line end, from the output's first byte on.
 pub fn put_refused(output: &mut [u8], number: usize, place: usize) -> usize
@@ -33,7 +36,7 @@ pub fn put_refusal(output: &mut [u8], refusal: Refusal) -> usize
 
 // The same in a room that every number and place fits.
 pub fn put_any(output: &mut [u8], refusal: Refusal) -> usize
-    requires { ⌜ 52 ≤ length (now output) ⌝ }
+    requires { ⌜ lineRoom ≤ length (now output) ⌝ }
     ensures { λ r. ⌜ LinePut (now (output .entry)) (writeForm refusedForm (refusalNumber refusal ∷ refusalPlace refusal ∷ []))
         (now (output .exit)) r ⌝ }
 {

@@ -8,6 +8,14 @@ use Rattle.definitions.specs.Outcome.{pick}
 use Rattle.definitions.specs.Order.{relayAt}
 use Rattle.routes.specs.Side.{endIn, secondIn, priorIn}
 
+-- No route is written from further on: the 31 before it have 2,001 entries each at most. Nor is its second half, which begins 1,001
+-- entries further on at most.
+abbrev pub lastStart : ℕ
+lastStart = 70000
+
+abbrev pub lastTurn : ℕ
+lastTurn = 80000
+
 -- How many relays there are from x back to the start of its path, `fuel` at most.
 unfoldable pub chainLength : List ℕ → ℕ → ℕ → ℕ
 chainLength side zero x = 0

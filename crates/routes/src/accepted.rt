@@ -70,8 +70,8 @@ pub(crate) fn route_over(
     lows: &[u16],
     highs: &[u16],
     k: u16,
-    from: u16,
-    to: u16,
+    from: Relay,
+    to: Relay,
     order: &[u16],
     places: &[u16],
     numbers: &mut [u16],
@@ -82,9 +82,9 @@ pub(crate) fn route_over(
     links: &mut [u16],
     scratch: &mut [u16],
 ) -> RouteAnswer
-    requires { ⌜ OverSome n (now lows) (now highs) k from to (now order) (now places) (now numbers) (now a) (now b) (now counts)
+    requires { ⌜ OverSome n (now lows) (now highs) k (from .0) (to .0) (now order) (now places) (now numbers) (now a) (now b) (now counts)
         (now relays) (now scratch) ⌝ }
-    ensures { λ r. ⌜ OverEach n (now (lows .entry)) (now (highs .entry)) k from to (now (order .entry)) (now (places .entry))
+    ensures { λ r. ⌜ OverEach n (now (lows .entry)) (now (highs .entry)) k (from .0) (to .0) (now (order .entry)) (now (places .entry))
         (now (numbers .entry)) (now (a .entry)) (now (b .entry)) (now (counts .entry)) (now (relays .entry)) (now (links .entry))
         (now (scratch .entry)) (answered (now (counts .exit)) (now (relays .exit)) (now (links .exit)) (routeOutcome r)) ⌝ }
     ensures { λ _. ⌜ now (scratch .exit) ≡ zeroed (now (scratch .entry)) ⌝ }
@@ -92,8 +92,8 @@ pub(crate) fn route_over(
     let entries = k as usize * n as usize;
     clear(scratch, entries);
     left_table(scratch, n, k, lows, highs, places, numbers);
-    let p = place_of(places, Relay(from));
-    let q = place_of(places, Relay(to));
+    let p = place_of(places, from);
+    let q = place_of(places, to);
     let result = answer(
         a,
         b,
@@ -120,8 +120,8 @@ fn route_in(
     highs: &[u16],
     states: &[u16],
     k: u16,
-    from: u16,
-    to: u16,
+    from: Relay,
+    to: Relay,
     order: &mut [u16],
     places: &mut [u16],
     numbers: &mut [u16],
@@ -132,10 +132,10 @@ fn route_in(
     links: &mut [u16],
     scratch: &mut [u16],
 ) -> RouteAnswer
-    requires { ⌜ Routable n (now lows) (now highs) (now states) k from to (now counts) (now relays) (now scratch)
+    requires { ⌜ Routable n (now lows) (now highs) (now states) k (from .0) (to .0) (now counts) (now relays) (now scratch)
         × RouteArrays n (now lows) (now order) (now places) (now numbers) (now a) (now b) ⌝ }
     ensures { λ r. ⌜ answered (now (counts .exit)) (now (relays .exit)) (now (links .exit)) (routeOutcome r)
-        ≡ treeAnswer n (now (lows .entry)) (now (highs .entry)) (now (states .entry)) k from to (now (counts .entry))
+        ≡ treeAnswer n (now (lows .entry)) (now (highs .entry)) (now (states .entry)) k (from .0) (to .0) (now (counts .entry))
         (now (relays .entry)) (now (links .entry)) ⌝ }
     ensures { λ _. ⌜ now (scratch .exit) ≡ zeroed (now (scratch .entry)) ⌝ }
 {
@@ -166,17 +166,17 @@ fn route_small(
     highs: &[u16],
     states: &[u16],
     k: u16,
-    from: u16,
-    to: u16,
+    from: Relay,
+    to: Relay,
     counts: &mut [u16],
     relays: &mut [u16],
     links: &mut [u16],
     scratch: &mut [u16],
 ) -> RouteAnswer
-    requires { ⌜ Routable n (now lows) (now highs) (now states) k from to (now counts) (now relays) (now scratch)
+    requires { ⌜ Routable n (now lows) (now highs) (now states) k (from .0) (to .0) (now counts) (now relays) (now scratch)
         × (n ≤ 128) × (length (now lows) ≤ 384) ⌝ }
     ensures { λ r. ⌜ answered (now (counts .exit)) (now (relays .exit)) (now (links .exit)) (routeOutcome r)
-        ≡ treeAnswer n (now (lows .entry)) (now (highs .entry)) (now (states .entry)) k from to (now (counts .entry))
+        ≡ treeAnswer n (now (lows .entry)) (now (highs .entry)) (now (states .entry)) k (from .0) (to .0) (now (counts .entry))
         (now (relays .entry)) (now (links .entry)) ⌝ }
     ensures { λ _. ⌜ now (scratch .exit) ≡ zeroed (now (scratch .entry)) ⌝ }
 {
@@ -212,16 +212,16 @@ fn route_large(
     highs: &[u16],
     states: &[u16],
     k: u16,
-    from: u16,
-    to: u16,
+    from: Relay,
+    to: Relay,
     counts: &mut [u16],
     relays: &mut [u16],
     links: &mut [u16],
     scratch: &mut [u16],
 ) -> RouteAnswer
-    requires { ⌜ Routable n (now lows) (now highs) (now states) k from to (now counts) (now relays) (now scratch) ⌝ }
+    requires { ⌜ Routable n (now lows) (now highs) (now states) k (from .0) (to .0) (now counts) (now relays) (now scratch) ⌝ }
     ensures { λ r. ⌜ answered (now (counts .exit)) (now (relays .exit)) (now (links .exit)) (routeOutcome r)
-        ≡ treeAnswer n (now (lows .entry)) (now (highs .entry)) (now (states .entry)) k from to (now (counts .entry))
+        ≡ treeAnswer n (now (lows .entry)) (now (highs .entry)) (now (states .entry)) k (from .0) (to .0) (now (counts .entry))
         (now (relays .entry)) (now (links .entry)) ⌝ }
     ensures { λ _. ⌜ now (scratch .exit) ≡ zeroed (now (scratch .entry)) ⌝ }
 {
@@ -257,16 +257,16 @@ pub(crate) fn route_accepted(
     highs: &[u16],
     states: &[u16],
     k: u16,
-    from: u16,
-    to: u16,
+    from: Relay,
+    to: Relay,
     counts: &mut [u16],
     relays: &mut [u16],
     links: &mut [u16],
     scratch: &mut [u16],
 ) -> RouteAnswer
-    requires { ⌜ Routable n (now lows) (now highs) (now states) k from to (now counts) (now relays) (now scratch) ⌝ }
+    requires { ⌜ Routable n (now lows) (now highs) (now states) k (from .0) (to .0) (now counts) (now relays) (now scratch) ⌝ }
     ensures { λ r. ⌜ answered (now (counts .exit)) (now (relays .exit)) (now (links .exit)) (routeOutcome r)
-        ≡ treeAnswer n (now (lows .entry)) (now (highs .entry)) (now (states .entry)) k from to (now (counts .entry))
+        ≡ treeAnswer n (now (lows .entry)) (now (highs .entry)) (now (states .entry)) k (from .0) (to .0) (now (counts .entry))
         (now (relays .entry)) (now (links .entry)) ⌝ }
     ensures { λ _. ⌜ now (scratch .exit) ≡ zeroed (now (scratch .entry)) ⌝ }
 {

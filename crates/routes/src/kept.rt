@@ -9,6 +9,7 @@ use forests::arrays::relay_copies;
 use forests::marks::kept_links;
 use forests::scan::scan;
 use network::Check;
+use network::Relay;
 ghost use mathlib.Core.List.{[], _∷_};
 ghost use mathlib.Core.Path.{_≡_};
 ghost use Rattle.definitions.specs.Lists.{zeroed};
@@ -35,15 +36,15 @@ fn route_counted(
     highs: &[u16],
     states: &[u16],
     k: u16,
-    from: u16,
-    to: u16,
+    from: Relay,
+    to: Relay,
     counts: &mut [u16],
     relays: &mut [u16],
     links: &mut [u16],
     scratch: &mut [u16],
 ) -> CutAnswer
-    requires { ⌜ Routable n (now lows) (now highs) (now states) k from to (now counts) (now relays) (now scratch) ⌝ }
-    ensures { λ r. ⌜ Counted n (now (lows .entry)) (now (highs .entry)) (now (states .entry)) k from to (now (counts .entry))
+    requires { ⌜ Routable n (now lows) (now highs) (now states) k (from .0) (to .0) (now counts) (now relays) (now scratch) ⌝ }
+    ensures { λ r. ⌜ Counted n (now (lows .entry)) (now (highs .entry)) (now (states .entry)) k (from .0) (to .0) (now (counts .entry))
         (now (relays .entry)) (now (links .entry)) (now (counts .exit)) (now (relays .exit)) (now (links .exit)) (cutOutcome r) ⌝ }
     ensures { λ _. ⌜ now (scratch .exit) ≡ zeroed (now (scratch .entry)) ⌝ }
 {
@@ -89,27 +90,27 @@ pub fn cut_and_route(
     highs: &[u16],
     states: &[u16],
     k: u16,
-    from: u16,
-    to: u16,
+    from: Relay,
+    to: Relay,
     counts: &mut [u16],
     relays: &mut [u16],
     links: &mut [u16],
     scratch: &mut [u16],
 ) -> CutAnswer
     requires { ⌜ Accepted n (now lows) (now highs) (now states) ⌝ }
-    ensures { λ r. ⌜ cutOutcome r ≡ countedAnswer n (now (lows .entry)) (now (highs .entry)) (now (states .entry)) k from to
+    ensures { λ r. ⌜ cutOutcome r ≡ countedAnswer n (now (lows .entry)) (now (highs .entry)) (now (states .entry)) k (from .0) (to .0)
         (now (counts .entry)) (now (relays .entry)) (now (links .entry)) (now (scratch .entry)) ⌝ }
     ensures { λ _. ⌜ now (counts .exit)
-        ≡ routeLinksCounts n (now (lows .entry)) (now (highs .entry)) (now (states .entry)) k from to (now (counts .entry))
+        ≡ routeLinksCounts n (now (lows .entry)) (now (highs .entry)) (now (states .entry)) k (from .0) (to .0) (now (counts .entry))
         (now (relays .entry)) (now (links .entry)) (now (scratch .entry)) ⌝ }
     ensures { λ _. ⌜ now (relays .exit)
-        ≡ routeLinksRelays n (now (lows .entry)) (now (highs .entry)) (now (states .entry)) k from to (now (counts .entry))
+        ≡ routeLinksRelays n (now (lows .entry)) (now (highs .entry)) (now (states .entry)) k (from .0) (to .0) (now (counts .entry))
         (now (relays .entry)) (now (links .entry)) (now (scratch .entry)) ⌝ }
     ensures { λ _. ⌜ now (links .exit)
-        ≡ routeLinksLinks n (now (lows .entry)) (now (highs .entry)) (now (states .entry)) k from to (now (counts .entry))
+        ≡ routeLinksLinks n (now (lows .entry)) (now (highs .entry)) (now (states .entry)) k (from .0) (to .0) (now (counts .entry))
         (now (relays .entry)) (now (links .entry)) (now (scratch .entry)) ⌝ }
     ensures { λ _. ⌜ now (scratch .exit)
-        ≡ routeLinksScratch n (now (lows .entry)) (now (highs .entry)) (now (states .entry)) k from to (now (counts .entry))
+        ≡ routeLinksScratch n (now (lows .entry)) (now (highs .entry)) (now (states .entry)) k (from .0) (to .0) (now (counts .entry))
         (now (relays .entry)) (now (links .entry)) (now (scratch .entry)) ⌝ }
 {
     match wish_check(

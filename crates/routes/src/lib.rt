@@ -3,6 +3,7 @@
 use accepted::route_accepted;
 use network::Check;
 use network::Refusal;
+use network::Relay;
 use network::table_check;
 use wish::wish_check;
 ghost use mathlib.Core.Path.{_≡_};
@@ -33,27 +34,27 @@ fn route_core(
     highs: &[u16],
     states: &[u16],
     k: u16,
-    from: u16,
-    to: u16,
+    from: Relay,
+    to: Relay,
     asked: bool,
     counts: &mut [u16],
     relays: &mut [u16],
     links: &mut [u16],
     scratch: &mut [u16],
 ) -> RouteAnswer
-    ensures { λ r. ⌜ routeOutcome r ≡ coreAnswer asked n (now (lows .entry)) (now (highs .entry)) (now (states .entry)) k from to
+    ensures { λ r. ⌜ routeOutcome r ≡ coreAnswer asked n (now (lows .entry)) (now (highs .entry)) (now (states .entry)) k (from .0) (to .0)
         (now (counts .entry)) (now (relays .entry)) (now (links .entry)) (now (scratch .entry)) ⌝ }
     ensures { λ _. ⌜ now (counts .exit)
-        ≡ coreCounts asked n (now (lows .entry)) (now (highs .entry)) (now (states .entry)) k from to (now (counts .entry))
+        ≡ coreCounts asked n (now (lows .entry)) (now (highs .entry)) (now (states .entry)) k (from .0) (to .0) (now (counts .entry))
         (now (relays .entry)) (now (links .entry)) (now (scratch .entry)) ⌝ }
     ensures { λ _. ⌜ now (relays .exit)
-        ≡ coreRelays asked n (now (lows .entry)) (now (highs .entry)) (now (states .entry)) k from to (now (counts .entry))
+        ≡ coreRelays asked n (now (lows .entry)) (now (highs .entry)) (now (states .entry)) k (from .0) (to .0) (now (counts .entry))
         (now (relays .entry)) (now (links .entry)) (now (scratch .entry)) ⌝ }
     ensures { λ _. ⌜ now (links .exit)
-        ≡ coreLinks asked n (now (lows .entry)) (now (highs .entry)) (now (states .entry)) k from to (now (counts .entry))
+        ≡ coreLinks asked n (now (lows .entry)) (now (highs .entry)) (now (states .entry)) k (from .0) (to .0) (now (counts .entry))
         (now (relays .entry)) (now (links .entry)) (now (scratch .entry)) ⌝ }
     ensures { λ _. ⌜ now (scratch .exit)
-        ≡ coreScratch asked n (now (lows .entry)) (now (highs .entry)) (now (states .entry)) k from to (now (counts .entry))
+        ≡ coreScratch asked n (now (lows .entry)) (now (highs .entry)) (now (states .entry)) k (from .0) (to .0) (now (counts .entry))
         (now (relays .entry)) (now (links .entry)) (now (scratch .entry)) ⌝ }
 {
     match table_check(n, lows, highs, states) {
@@ -99,22 +100,22 @@ pub fn route(
     highs: &[u16],
     states: &[u16],
     k: u16,
-    from: u16,
-    to: u16,
+    from: Relay,
+    to: Relay,
     counts: &mut [u16],
     relays: &mut [u16],
     scratch: &mut [u16],
 ) -> RouteAnswer
-    ensures answer { λ r. ⌜ routeOutcome r ≡ routeAnswer n (now (lows .entry)) (now (highs .entry)) (now (states .entry)) k from to
+    ensures answer { λ r. ⌜ routeOutcome r ≡ routeAnswer n (now (lows .entry)) (now (highs .entry)) (now (states .entry)) k (from .0) (to .0)
         (now (counts .entry)) (now (relays .entry)) (now (scratch .entry)) ⌝ }
     ensures counts { λ _. ⌜ now (counts .exit)
-        ≡ countsAfter n (now (lows .entry)) (now (highs .entry)) (now (states .entry)) k from to (now (counts .entry))
+        ≡ countsAfter n (now (lows .entry)) (now (highs .entry)) (now (states .entry)) k (from .0) (to .0) (now (counts .entry))
         (now (relays .entry)) (now (scratch .entry)) ⌝ }
     ensures relays { λ _. ⌜ now (relays .exit)
-        ≡ routeRelaysAfter n (now (lows .entry)) (now (highs .entry)) (now (states .entry)) k from to (now (counts .entry))
+        ≡ routeRelaysAfter n (now (lows .entry)) (now (highs .entry)) (now (states .entry)) k (from .0) (to .0) (now (counts .entry))
         (now (relays .entry)) (now (scratch .entry)) ⌝ }
     ensures scratch { λ _. ⌜ now (scratch .exit)
-        ≡ scratchAfter n (now (lows .entry)) (now (highs .entry)) (now (states .entry)) k from to (now (counts .entry))
+        ≡ scratchAfter n (now (lows .entry)) (now (highs .entry)) (now (states .entry)) k (from .0) (to .0) (now (counts .entry))
         (now (relays .entry)) (now (scratch .entry)) ⌝ }
 {
     let mut none = [0u16; 0];
@@ -141,26 +142,26 @@ pub fn route_links(
     highs: &[u16],
     states: &[u16],
     k: u16,
-    from: u16,
-    to: u16,
+    from: Relay,
+    to: Relay,
     counts: &mut [u16],
     relays: &mut [u16],
     links: &mut [u16],
     scratch: &mut [u16],
 ) -> RouteAnswer
-    ensures answer { λ r. ⌜ routeOutcome r ≡ routeLinksAnswer n (now (lows .entry)) (now (highs .entry)) (now (states .entry)) k from to
+    ensures answer { λ r. ⌜ routeOutcome r ≡ routeLinksAnswer n (now (lows .entry)) (now (highs .entry)) (now (states .entry)) k (from .0) (to .0)
         (now (counts .entry)) (now (relays .entry)) (now (links .entry)) (now (scratch .entry)) ⌝ }
     ensures counts { λ _. ⌜ now (counts .exit)
-        ≡ routeLinksCounts n (now (lows .entry)) (now (highs .entry)) (now (states .entry)) k from to (now (counts .entry))
+        ≡ routeLinksCounts n (now (lows .entry)) (now (highs .entry)) (now (states .entry)) k (from .0) (to .0) (now (counts .entry))
         (now (relays .entry)) (now (links .entry)) (now (scratch .entry)) ⌝ }
     ensures relays { λ _. ⌜ now (relays .exit)
-        ≡ routeLinksRelays n (now (lows .entry)) (now (highs .entry)) (now (states .entry)) k from to (now (counts .entry))
+        ≡ routeLinksRelays n (now (lows .entry)) (now (highs .entry)) (now (states .entry)) k (from .0) (to .0) (now (counts .entry))
         (now (relays .entry)) (now (links .entry)) (now (scratch .entry)) ⌝ }
     ensures links { λ _. ⌜ now (links .exit)
-        ≡ routeLinksLinks n (now (lows .entry)) (now (highs .entry)) (now (states .entry)) k from to (now (counts .entry))
+        ≡ routeLinksLinks n (now (lows .entry)) (now (highs .entry)) (now (states .entry)) k (from .0) (to .0) (now (counts .entry))
         (now (relays .entry)) (now (links .entry)) (now (scratch .entry)) ⌝ }
     ensures scratch { λ _. ⌜ now (scratch .exit)
-        ≡ routeLinksScratch n (now (lows .entry)) (now (highs .entry)) (now (states .entry)) k from to (now (counts .entry))
+        ≡ routeLinksScratch n (now (lows .entry)) (now (highs .entry)) (now (states .entry)) k (from .0) (to .0) (now (counts .entry))
         (now (relays .entry)) (now (links .entry)) (now (scratch .entry)) ⌝ }
 {
     route_core(

@@ -2,7 +2,7 @@
 ghost use mathlib.Core.Path.{_≡_};
 ghost use Prim.Native.Nat.{_+_, _≤_};
 ghost use Rattle.routes.specs.Side.{secondIn, linkIn};
-ghost use Rattle.routes.specs.Writing.{countIn};
+ghost use Rattle.routes.specs.Writing.{lastStart, lastTurn, countIn};
 ghost use Rattle.routes.specs.WrittenLinks.{linksDown, linksUp, routeLinks, linksFrom};
 use crate::side::link_of;
 use crate::side::prior_link_of;
@@ -13,7 +13,7 @@ use crate::write::count;
 
 // The `count` links of path i, written downwards to `from`.
 fn links_down(links: &mut [u16], side: &[u16], i: u16, count: usize, from: usize)
-    requires { ⌜ (count ≤ 1000) × (from ≤ 70000) ⌝ }
+    requires { ⌜ (count ≤ 1000) × (from ≤ lastStart) ⌝ }
     ensures { λ _. ⌜ now (links .exit) ≡ linksDown (now (side .entry)) from count (linkIn (now (side .entry)) i)
         (secondIn (now (side .entry)) i) (now (links .entry)) ⌝ }
 {
@@ -30,7 +30,7 @@ fn links_down(links: &mut [u16], side: &[u16], i: u16, count: usize, from: usize
 
 // The `count` links of path i, written upwards from `at`.
 fn links_up(links: &mut [u16], side: &[u16], i: u16, count: usize, at: usize)
-    requires { ⌜ (count ≤ 1000) × (at ≤ 80000) ⌝ }
+    requires { ⌜ (count ≤ 1000) × (at ≤ lastTurn) ⌝ }
     ensures { λ _. ⌜ now (links .exit) ≡ linksUp (now (side .entry)) at count (linkIn (now (side .entry)) i)
         (secondIn (now (side .entry)) i) (now (links .entry)) ⌝ }
 {
@@ -49,7 +49,7 @@ fn links_up(links: &mut [u16], side: &[u16], i: u16, count: usize, at: usize)
 
 // The links of route i, written from `from` on: those of the front side's path, then those of the back side's. Gives their number.
 fn write_route_links(links: &mut [u16], front: &[u16], back: &[u16], i: u16, from: usize) -> usize
-    requires { ⌜ from ≤ 70000 ⌝ }
+    requires { ⌜ from ≤ lastStart ⌝ }
     ensures { λ r. ⌜ r ≡ countIn (now (front .entry)) i + countIn (now (back .entry)) i ⌝ }
     ensures { λ _. ⌜ now (links .exit) ≡ routeLinks (now (front .entry)) (now (back .entry)) i from (now (links .entry)) ⌝ }
 {

@@ -1,20 +1,24 @@
 // The wish of Route and the room for its answer.
-use crate::side::get;
 use network::Check;
 use network::Refusal;
+use network::Relay;
+use network::in_service;
+use network::limits::ROUTES;
 ghost use mathlib.Core.Bool.{_&&_, not};
 ghost use mathlib.Core.Path.{_≡_};
-ghost use Prim.Native.Nat.{_≤_};
+ghost use Prim.Native.Nat.{_≤_, _<_};
+ghost use lib.ListN.{length};
 ghost use Rattle.definitions.specs.Network.{serves};
 ghost use Rattle.network.specs.Answers.{checkOutcome};
 ghost use Rattle.routes.specs.Answers.{wishCheck};
 
 // One of the two is withdrawn.
-fn withdrawn_end(states: &[u16], from: u16, to: u16) -> bool
-    ensures { λ r. ⌜ r ≡ not (serves (now (states .entry)) from && serves (now (states .entry)) to) ⌝ }
+fn withdrawn_end(states: &[u16], from: Relay, to: Relay) -> bool
+    requires { ⌜ (from .0 < length (now states)) × (to .0 < length (now states)) ⌝ }
+    ensures { λ r. ⌜ r ≡ not (serves (now (states .entry)) (from .0) && serves (now (states .entry)) (to .0)) ⌝ }
 {
-    if get(states, from as usize) == 1 {
-        get(states, to as usize) != 1
+    if in_service(states, from) {
+        !in_service(states, to)
     } else {
         true
     }
@@ -24,8 +28,8 @@ fn withdrawn_end(states: &[u16], from: u16, to: u16) -> bool
 pub(crate) fn wish_check(
     n: u16,
     k: u16,
-    from: u16,
-    to: u16,
+    from: Relay,
+    to: Relay,
     states: &[u16],
     asked: bool,
     counts_length: usize,
@@ -33,23 +37,25 @@ pub(crate) fn wish_check(
     links_length: usize,
     scratch_length: usize,
 ) -> Check
-    requires { ⌜ n ≤ 1000 ⌝ }
-    ensures { λ r. ⌜ checkOutcome r ≡ wishCheck n k from to (now (states .entry)) asked «counts_length» «relays_length»
+    requires { ⌜ (n ≤ 1000) × (length (now states) ≡ n) ⌝ }
+    ensures { λ r. ⌜ checkOutcome r ≡ wishCheck n k (from .0) (to .0) (now (states .entry)) asked «counts_length» «relays_length»
         «links_length» «scratch_length» ⌝ }
 {
+    let source = from.0;
+    let goal = to.0;
     if k < 1 {
         return Check::Refused(Refusal::RouteCount);
     }
-    if 32 < k {
+    if ROUTES < k {
         return Check::Refused(Refusal::RouteCount);
     }
-    if n <= from {
+    if n <= source {
         return Check::Refused(Refusal::EndRange);
     }
-    if n <= to {
+    if n <= goal {
         return Check::Refused(Refusal::EndRange);
     }
-    if from == to {
+    if source == goal {
         return Check::Refused(Refusal::SameEnds);
     }
     if withdrawn_end(states, from, to) {

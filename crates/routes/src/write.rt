@@ -3,7 +3,7 @@ ghost use mathlib.Core.Path.{_≡_};
 ghost use Prim.Native.Nat.{_≤_};
 ghost use Rattle.definitions.specs.Order.{relayAt};
 ghost use Rattle.routes.specs.Side.{secondIn};
-ghost use Rattle.routes.specs.Writing.{countIn, writeDown, writeUp, routeLength, writeRoute, written, writeFrom};
+ghost use Rattle.routes.specs.Writing.{lastStart, lastTurn, countIn, writeDown, writeUp, routeLength, writeRoute, written, writeFrom};
 use crate::side::end_of;
 use crate::side::get;
 use crate::side::prior_of;
@@ -11,6 +11,7 @@ use crate::side::put;
 use crate::side::second_of;
 use network::Place;
 use network::Relay;
+use network::limits::RELAY_ROOM;
 
 // The relay at a place of the order.
 fn relay_at(order: &[u16], p: Place) -> Relay
@@ -30,7 +31,7 @@ pub(crate) fn count(side: &[u16], i: u16) -> usize
 {
     let mut x = second_of(side, i);
     let mut c = 0;
-    while c < 1000 {
+    while c < RELAY_ROOM {
         if x.0 == 0 {
             return c;
         }
@@ -42,7 +43,7 @@ pub(crate) fn count(side: &[u16], i: u16) -> usize
 
 // The `count` relays of path i before its end, written downwards to `from`.
 fn write_down(relays: &mut [u16], side: &[u16], order: &[u16], i: u16, count: usize, from: usize)
-    requires { ⌜ (count ≤ 1000) × (from ≤ 70000) ⌝ }
+    requires { ⌜ (count ≤ 1000) × (from ≤ lastStart) ⌝ }
     ensures { λ _. ⌜ now (relays .exit) ≡ writeDown (now (side .entry)) (now (order .entry)) from count
         (secondIn (now (side .entry)) i) (now (relays .entry)) ⌝ }
 {
@@ -57,7 +58,7 @@ fn write_down(relays: &mut [u16], side: &[u16], order: &[u16], i: u16, count: us
 
 // The `count` relays of path i before its end, written upwards from `at`.
 fn write_up(relays: &mut [u16], side: &[u16], order: &[u16], i: u16, count: usize, at: usize)
-    requires { ⌜ (count ≤ 1000) × (at ≤ 80000) ⌝ }
+    requires { ⌜ (count ≤ 1000) × (at ≤ lastTurn) ⌝ }
     ensures { λ _. ⌜ now (relays .exit) ≡ writeUp (now (side .entry)) (now (order .entry)) at count (secondIn (now (side .entry)) i)
         (now (relays .entry)) ⌝ }
 {
@@ -82,7 +83,7 @@ fn write_route(
     i: u16,
     from: usize,
 ) -> usize
-    requires { ⌜ from ≤ 70000 ⌝ }
+    requires { ⌜ from ≤ lastStart ⌝ }
     ensures { λ r. ⌜ r ≡ routeLength (now (front .entry)) (now (back .entry)) i ⌝ }
     ensures { λ _. ⌜ now (relays .exit) ≡ writeRoute (now (front .entry)) (now (back .entry)) (now (order .entry)) i from
         (now (relays .entry)) ⌝ }

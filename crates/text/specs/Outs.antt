@@ -27,12 +27,12 @@ pub record WithdrawnAt (next relay : ℕ) (states statesThen : List ℕ) : Type 
 
 -- The refusal, or what follows from the line's relay and the offset behind it.
 abbrev pub onOut : {A : Type 0} → OutLine → (ℕ → ℕ → Outcome A) → Outcome A
-onOut (out.Withdraws relay p) next = next relay p
+onOut (out.Withdraws relay p) next = next (relay .0) p
 onOut (out.Refused refusal) next = refusalOf refusal
 
 -- What holds of the relay of a line that was taken.
 abbrev pub IfWithdraws : OutLine → (ℕ → Type 0) → Type 0
-IfWithdraws (out.Withdraws relay p) claim = claim relay
+IfWithdraws (out.Withdraws relay p) claim = claim (relay .0)
 IfWithdraws (out.Refused refusal) claim = Unit {0}
 
 -- An `out` line where one is due, behind the states of the relays below `next`: the reading of what is left goes on behind it, with

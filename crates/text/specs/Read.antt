@@ -14,8 +14,8 @@ use Rattle.definitions.specs.Text.{linkForm, endForm, Network, allStates, readE
 use Rattle.network.specs.Answers.{refusalOf}
 use Rattle.network.specs.Seen.{faultOf, LinkChecked, Seen, seen-fault, seen-snoc}
 use Rattle.network.specs.declared.LinkCheck.{LinkCheck}
-use Rattle.network.specs.declared.Refusal.{Refusal}
-use Rattle.network.specs.declared.Refusal.the-variants.{Form}
+use Rattle.network.specs.declared.refusal.Refusal.{Refusal}
+use Rattle.network.specs.declared.refusal.Refusal.the-variants.{Form}
 use Rattle.text.specs.Rows.{onStep, IfRead, LineReading, LinkRead, clearedFrom}
 use Rattle.text.specs.declared.rows.Step.{Step}
 use Rattle.text.specs.declared.rows.Step.the-variants.{Next, Refused}

@@ -12,8 +12,9 @@ use Rattle.definitions.specs.Outcome.{refused, done, refuseIf}
 use Rattle.definitions.specs.Form.{departs, reads, byteAt, scanForm, onScan}
 use Rattle.definitions.specs.Text.{outForm, withdrawn, allStates, readEnd, readOuts}
 use Rattle.network.specs.Answers.{refusalOf}
-use Rattle.network.specs.declared.Refusal.{Refusal}
-use Rattle.network.specs.declared.Refusal.the-variants.{Form, States}
+use Rattle.network.specs.declared.Relay.{Relay}
+use Rattle.network.specs.declared.refusal.Refusal.{Refusal}
+use Rattle.network.specs.declared.refusal.Refusal.the-variants.{Form, States}
 use Rattle.text.specs.Outs.{ServedUpTo, WithdrawnAt, onOut, IfWithdraws, OutRead, OutsLeft, OutsRead, StatesRead}
 use Rattle.text.specs.Read.{take-stored}
 use Rattle.text.specs.Rows.{onStep, EndRead}
@@ -73,7 +74,7 @@ module _ (text : List ℕ) (n next at : ℕ) where
           rises = tt;
         }
 
-    pub out-line-taken : relay < n → next ≤ relay → OutRead text n next at (out.Withdraws relay p)
+    pub out-line-taken : relay < n → next ≤ relay → OutRead text n next at (out.Withdraws (record { 0 = relay }) p)
     out-line-taken h k =
         record {
           follows = λ lows highs states most due room.
@@ -125,8 +126,8 @@ unfolding readEnd
 end-same text n p lows highs one other e = rw e
 
 -- The relay of a line that was taken.
-pub out-rises : (text : List ℕ) (n next at : ℕ) (r : OutLine) → OutRead text n next at r → (relay p : ℕ) → r ≡ out.Withdraws relay p
-    → (next ≤ relay) × (relay < n)
+pub out-rises : (text : List ℕ) (n next at : ℕ) (r : OutLine) → OutRead text n next at r → (relay : Relay) (p : ℕ) → r ≡ out.Withdraws relay p
+    → (next ≤ relay .0) × (relay .0 < n)
 out-rises text n next at r line relay p e =
     subst (λ (s : OutLine). IfWithdraws s (λ relay. (next ≤ relay) × (relay < n))) e (line .rises)
 
@@ -151,8 +152,8 @@ module _ (text : List ℕ) (n at : ℕ) where
           ∙ ap (readOuts text n lows highs (take next states) p) more
           ∙ line .follows lows highs (take next states) (left .most - 1) due told
 
-      pub out-next : (relay q : ℕ) (statesThen : List ℕ) → r ≡ out.Withdraws relay q → WithdrawnAt next relay states statesThen
-          → OutsLeft text n at statesThen (relay + 1) q
+      pub out-next : (relay : Relay) (q : ℕ) (statesThen : List ℕ) → r ≡ out.Withdraws relay q
+          → WithdrawnAt next (relay .0) states statesThen → OutsLeft text n at statesThen (relay .0 + 1) q
       out-next relay q statesThen e w =
           let rises = out-rises text n next p r line relay q e in
           record {

@@ -13,7 +13,7 @@ use Rattle.text_theory.specs.Sized.{sized-passed}
 use Rattle.network.specs.Answers.{refusalOf}
 use Rattle.network.specs.declared.Check.{Check}
 use Rattle.network.specs.declared.Check.the-variants.{Accepted, Refused}
-use Rattle.network.specs.declared.Refusal.{Refusal}
+use Rattle.network.specs.declared.refusal.Refusal.{Refusal}
 
 -- The refusal, or what follows.
 abbrev pub onCheck : {A : Type 0} → Check → Outcome A → Outcome A

@@ -23,8 +23,8 @@ use Rattle.definitions.specs.Text.{
 }
 use Rattle.network.specs.Answers.{refusalOf}
 use Rattle.network.specs.Refusals.{refusal-then}
-use Rattle.network.specs.declared.Refusal.{Refusal}
-use Rattle.network.specs.declared.Refusal.the-variants.{Form}
+use Rattle.network.specs.declared.refusal.Refusal.{Refusal}
+use Rattle.network.specs.declared.refusal.Refusal.the-variants.{Form}
 use Rattle.text.specs.Answers.{readOutcome}
 use Rattle.text.specs.Outs.{StatesRead}
 use Rattle.text.specs.Rows.{onStep, LineReading, LinksRead, clearedFrom, Cleared}

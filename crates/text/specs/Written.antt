@@ -12,7 +12,7 @@ use Rattle.definitions.specs.Text.{linkForm, linkLines, textOf, writeAnswer, bu
 use Rattle.lists.specs.Stores.{sets-overwrite}
 use Rattle.network.specs.Answers.{refusalOf}
 use Rattle.network.specs.Refusals.{refusal-then, refusal-keeps}
-use Rattle.network.specs.declared.Refusal.{Refusal}
+use Rattle.network.specs.declared.refusal.Refusal.{Refusal}
 use Rattle.text_theory.specs.Writes.{write-done}
 
 pub links-step : (lows highs : List ℕ) (i m : ℕ) → i < m

@@ -32,6 +32,8 @@ pub mod scan;
 
 use network::Check;
 use network::Refusal;
+use network::limits::LINKS;
+use network::limits::RELAYS;
 use put::WriteMark;
 use rows::Step;
 use scan::Due;
@@ -125,10 +127,10 @@ pub fn size_check(n: u16, m: u16, lows: usize, highs: usize, states: usize) -> C
     if n < 1 {
         return Check::Refused(Refusal::RelayCount);
     }
-    if 1000 < n {
+    if RELAYS < n {
         return Check::Refused(Refusal::RelayCount);
     }
-    if 3000 < m {
+    if LINKS < m {
         return Check::Refused(Refusal::LinkCount);
     }
     let size = m as usize;

@@ -9,10 +9,11 @@ use crate::rows::Step;
 use crate::scan::Due;
 use crate::scan::PairScan;
 use network::Refusal;
+use network::Relay;
 
 // An `out` line read: its relay and the offset behind it, or a refusal.
 enum OutLine {
-    Withdraws(u16, usize),
+    Withdraws(Relay, usize),
     Refused(Refusal),
 }
 
@@ -27,8 +28,8 @@ fn out_due(text: &[u8], at: usize) -> bool
 }
 
 // The `out` line due, where the relays below `next` have their states.
-fn read_out(text: &[u8], n: u16, next: u16, at: usize) -> OutLine
-    ensures { λ r. ⌜ OutRead (now (text .entry)) n next at r ⌝ }
+fn read_out(text: &[u8], n: u16, next: Relay, at: usize) -> OutLine
+    ensures { λ r. ⌜ OutRead (now (text .entry)) n (next .0) at r ⌝ }
 {
     match crate::mark::form_at(text, at, Due::Out) {
         PairScan::Departs(p) => OutLine::Refused(Refusal::Form(p)),
@@ -36,10 +37,10 @@ fn read_out(text: &[u8], n: u16, next: u16, at: usize) -> OutLine
             if n <= relay {
                 return OutLine::Refused(Refusal::States);
             }
-            if relay < next {
+            if relay < next.0 {
                 return OutLine::Refused(Refusal::States);
             }
-            OutLine::Withdraws(relay, p)
+            OutLine::Withdraws(Relay(relay), p)
         }
     }
 }
@@ -57,12 +58,13 @@ pub fn serve(states: &mut [u16], from: usize, to: usize)
 }
 
 // The relays from `next` on are in service up to one that is withdrawn.
-fn withdraw(states: &mut [u16], next: usize, relay: usize)
-    requires { ⌜ (next ≤ relay) × (relay < length (now states)) ⌝ }
-    ensures { λ _. ⌜ WithdrawnAt next relay (now (states .entry)) (now (states .exit)) ⌝ }
+fn withdraw(states: &mut [u16], next: Relay, relay: Relay)
+    requires { ⌜ (next .0 ≤ relay .0) × (relay .0 < length (now states)) ⌝ }
+    ensures { λ _. ⌜ WithdrawnAt (next .0) (relay .0) (now (states .entry)) (now (states .exit)) ⌝ }
 {
-    serve(states, next, relay);
-    states[relay] = 0;
+    let at = relay.0 as usize;
+    serve(states, next.0 as usize, at);
+    states[at] = 0;
 }
 
 // All `out` lines, and ones for the relays behind the last of them.
@@ -73,13 +75,13 @@ fn read_outs(text: &[u8], n: u16, at: usize, states: &mut [u16]) -> Step
     let mut p = at;
     let mut next: u16 = 0;
     while out_due(text, p) {
-        match read_out(text, n, next, p) {
+        match read_out(text, n, Relay(next), p) {
             OutLine::Refused(refusal) => {
                 return Step::Refused(refusal);
             }
             OutLine::Withdraws(relay, behind) => {
-                withdraw(states, next as usize, relay as usize);
-                next = relay + 1;
+                withdraw(states, Relay(next), relay);
+                next = relay.0 + 1;
                 p = behind;
             }
         }

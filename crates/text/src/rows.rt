@@ -11,6 +11,9 @@ use crate::scan::Due;
 use crate::scan::PairScan;
 use network::LinkCheck;
 use network::Refusal;
+use network::Relay;
+use network::limits::FEW_RELAYS;
+use network::limits::FEWEST_RELAYS;
 
 // A part of a text read: the offset behind it, or a refusal.
 pub enum Step {
@@ -36,7 +39,13 @@ fn read_link(
 {
     match crate::mark::form_at(text, at, Due::Link) {
         PairScan::Departs(p) => Step::Refused(Refusal::Form(p)),
-        PairScan::Reads(a, b, next) => match network::check_link(n, a, b, rows, seen) {
+        PairScan::Reads(a, b, next) => match network::check_link(
+            n,
+            Relay(a),
+            Relay(b),
+            rows,
+            seen,
+        ) {
             LinkCheck::RelayRange => Step::Refused(Refusal::RelayRange(i)),
             LinkCheck::NotBelow => Step::Refused(Refusal::NotBelow(i)),
             LinkCheck::Repeated => Step::Refused(Refusal::Repeated(i)),
@@ -94,22 +103,22 @@ pub(crate) fn read_all_links(
     ensures { λ r. ⌜ LinksRead (readLinks (now (text .entry)) n) m at (now (lows .entry)) (now (highs .entry)) (now (lows .exit))
         (now (highs .exit)) r ⌝ }
 {
-    if n <= 32 {
+    if n <= FEWEST_RELAYS {
         let front = network::row_starts::row_starts_of_32();
-        let mut fewest = network::no_pairs_of_32();
+        let mut fewest = network::pairs::no_pairs_of_32();
         return read_links(text, n, m, at, lows, highs, &front, &mut fewest);
     }
-    if n <= 128 {
+    if n <= FEW_RELAYS {
         let first = network::row_starts::first_row_starts();
-        let mut few = network::no_pairs_of_128();
+        let mut few = network::pairs::no_pairs_of_128();
         return read_links(text, n, m, at, lows, highs, &first, &mut few);
     }
     let rows = network::row_starts::row_starts();
     if n <= 512 {
-        let mut more = network::no_pairs_of_512();
+        let mut more = network::pairs::no_pairs_of_512();
         return read_links(text, n, m, at, lows, highs, &rows, &mut more);
     }
-    let mut seen = network::no_pairs_of_1000();
+    let mut seen = network::pairs::no_pairs_of_1000();
     read_links(text, n, m, at, lows, highs, &rows, &mut seen)
 }
 

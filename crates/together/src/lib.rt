@@ -10,6 +10,7 @@ ghost use Rattle.together.specs.Together.{Together};
 use forests::CutAnswer;
 use forests::OrderAnswer;
 use forests::SplitAnswer;
+use network::Relay;
 use routes::RouteAnswer;
 
 // The four answers.
@@ -27,8 +28,8 @@ pub fn all_four(
     highs: &[u16],
     states: &[u16],
     k: u16,
-    from: u16,
-    to: u16,
+    from: Relay,
+    to: Relay,
     relays: &mut [u16],
     places: &mut [u16],
     forests: &mut [u16],
@@ -52,18 +53,18 @@ pub fn all_four(
     ensures marks { λ _. ⌜ now (marks .exit)
         ≡ marksAfter n (now (lows .entry)) (now (highs .entry)) (now (states .entry)) k (now (marks .entry)) ⌝ }
     ensures route { λ r. ⌜ routeOutcome (r .route)
-        ≡ routeAnswer n (now (lows .entry)) (now (highs .entry)) (now (states .entry)) k from to (now (counts .entry))
+        ≡ routeAnswer n (now (lows .entry)) (now (highs .entry)) (now (states .entry)) k (from .0) (to .0) (now (counts .entry))
         (now (written .entry)) (now (scratch .entry)) ⌝ }
     ensures counts { λ _. ⌜ now (counts .exit)
-        ≡ countsAfter n (now (lows .entry)) (now (highs .entry)) (now (states .entry)) k from to (now (counts .entry))
+        ≡ countsAfter n (now (lows .entry)) (now (highs .entry)) (now (states .entry)) k (from .0) (to .0) (now (counts .entry))
         (now (written .entry)) (now (scratch .entry)) ⌝ }
     ensures written { λ _. ⌜ now (written .exit)
-        ≡ routeRelaysAfter n (now (lows .entry)) (now (highs .entry)) (now (states .entry)) k from to (now (counts .entry))
+        ≡ routeRelaysAfter n (now (lows .entry)) (now (highs .entry)) (now (states .entry)) k (from .0) (to .0) (now (counts .entry))
         (now (written .entry)) (now (scratch .entry)) ⌝ }
     ensures scratch { λ _. ⌜ now (scratch .exit)
-        ≡ scratchAfter n (now (lows .entry)) (now (highs .entry)) (now (states .entry)) k from to (now (counts .entry))
+        ≡ scratchAfter n (now (lows .entry)) (now (highs .entry)) (now (states .entry)) k (from .0) (to .0) (now (counts .entry))
         (now (written .entry)) (now (scratch .entry)) ⌝ }
-    ensures demand { λ r. ⌜ Together n (now (lows .entry)) (now (highs .entry)) (now (states .entry)) k from to (now (relays .entry))
+    ensures demand { λ r. ⌜ Together n (now (lows .entry)) (now (highs .entry)) (now (states .entry)) k (from .0) (to .0) (now (relays .entry))
         (now (places .entry)) (now (forests .entry)) (now (marks .entry)) (now (counts .entry)) (now (written .entry))
         (now (scratch .entry)) (now (relays .exit)) (now (places .exit)) (now (forests .exit)) (now (marks .exit))
         (now (counts .exit)) (now (written .exit)) (routeOutcome (r .route)) ⌝ }

@@ -29,7 +29,7 @@ use Rattle.lists.specs.Parts.{part-start}
 use Rattle.text_theory.specs.Forms.{noZero, goodWord, wellFormedBehind, wellFormed, endsInNumber, Line, Fits}
 use Rattle.text_theory.specs.NetworkLines.{line-read}
 use Rattle.network.specs.Answers.{refusalOf}
-use Rattle.network.specs.declared.Refusal.the-variants.{Wish}
+use Rattle.network.specs.declared.refusal.Refusal.the-variants.{Wish}
 use Rattle.program.specs.ReadStage.{line-departed, line-taken}
 
 -- A sheet's text read back with a network's text.

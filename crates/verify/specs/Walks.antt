@@ -45,7 +45,7 @@ SomeNumber text p = (x : ℕ) × (q : ℕ) × ANumber text p x q
 abbrev pub NextHolds : (text : List ℕ) (p q : ℕ) → NextStep → Type 0
 NextHolds text p q End = NoNumber text p × NoNumber text q
 NextHolds text p q Uneven = (NoNumber text p × SomeNumber text q) ⊎ (SomeNumber text p × NoNumber text q)
-NextHolds text p q (Step b s l t) = ANumber text p b s × ANumber text q l t
+NextHolds text p q (Step b s l t) = ANumber text p (b .0) s × ANumber text q (l .0) t
 
 -- The two ends of every link of the table have a state.
 pub record EndsKnown (lows highs states : List ℕ) : Type 0 where

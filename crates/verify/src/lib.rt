@@ -11,6 +11,8 @@ use form::Form;
 use form::sheet_form;
 use network::Check;
 use network::Refusal;
+use network::Relay;
+use network::limits::ROUTES;
 use network::table_check;
 use program::rooms;
 use walk::routes_hold;
@@ -43,8 +45,8 @@ fn judge(
     highs: &[u16],
     states: &[u16],
     text: &[u8],
-    from: u16,
-    to: u16,
+    from: Relay,
+    to: Relay,
     k: u16,
     routes: usize,
     kept: u16,
@@ -52,12 +54,12 @@ fn judge(
 ) -> SheetAnswer
     requires { ⌜ Accepted n (now lows) (now highs) (now states) ⌝ }
     ensures { λ r. ⌜ Judged n (now (lows .entry)) (now (highs .entry)) (now (states .entry)) (now (text .entry))
-        from to k routes kept first (sheetOutcome r) ⌝ }
+        (from .0) (to .0) k routes kept first (sheetOutcome r) ⌝ }
 {
     if k < 1 {
         return SheetAnswer::Refused(Refusal::SheetCount);
     }
-    if 32 < k {
+    if ROUTES < k {
         return SheetAnswer::Refused(Refusal::SheetCount);
     }
     if routes != k as usize {
@@ -86,8 +88,8 @@ fn read_sheet(n: u16, lows: &[u16], highs: &[u16], states: &[u16], text: &[u8]) 
                 highs,
                 states,
                 text,
-                from,
-                to,
+                Relay(from),
+                Relay(to),
                 k,
                 routes,
                 kept,

@@ -9,12 +9,13 @@ ghost use Rattle.definitions.specs.Network.{Accepted};
 ghost use Rattle.definitions.specs.Program.{printed};
 ghost use Rattle.definitions.specs.SheetTest.{sheetAnswer};
 ghost use Rattle.definitions.specs.Verify.{networkSize, verdictText, verifyText};
-ghost use Rattle.program.specs.RefusedLine.{LinePut};
+ghost use Rattle.program.specs.RefusedLine.{lineRoom, LinePut};
 ghost use Rattle.verify.specs.Line.{readBackFrom, readBackAt, Border};
 use crate::SheetAnswer;
 use crate::read_sheet;
 use network::Refusal;
 use program::load::load;
+use program::refusal::LINE_ROOM;
 use program::refusal::put_any;
 use program::rooms;
 use text::ReadAnswer;
@@ -22,8 +23,8 @@ use text::put;
 use text::scan;
 use text::scan::PairScan;
 
-// The bytes for every line: `(refused NUMBER PLACE)` with two numbers of twenty digits has as many.
-pub const OUTPUT: usize = 52;
+// The bytes for every line.
+pub const OUTPUT: usize = LINE_ROOM;
 
 pub fn output() -> [u8; OUTPUT] {
     [0u8; OUTPUT]
@@ -50,7 +51,7 @@ fn put_line(
     text: &[u8],
 ) -> usize
     requires { ⌜ Accepted n (now lows) (now highs) (now states) ⌝ }
-    requires { ⌜ 52 ≤ length (now output) ⌝ }
+    requires { ⌜ lineRoom ≤ length (now output) ⌝ }
     ensures { λ r. ⌜ LinePut (now (output .entry))
         (printed verdictText (sheetAnswer n (now (lows .entry)) (now (highs .entry)) (now (states .entry)) (now (text .entry))))
         (now (output .exit)) r ⌝ }
@@ -64,7 +65,7 @@ fn put_line(
 
 // The network is read, and then the sheet.
 fn put_read_back(output: &mut [u8], network: &[u8], text: &[u8]) -> usize
-    requires { ⌜ 52 ≤ length (now output) ⌝ }
+    requires { ⌜ lineRoom ≤ length (now output) ⌝ }
     ensures { λ r. ⌜ LinePut (now (output .entry)) (printed verdictText (readBackFrom (now (network .entry)) (now (text .entry))))
         (now (output .exit)) r ⌝ }
 {
@@ -90,7 +91,7 @@ fn put_read_back(output: &mut [u8], network: &[u8], text: &[u8]) -> usize
 
 // Both texts, with the border that the line in front tells.
 fn put_both(output: &mut [u8], text: &[u8], a: u16, b: u16) -> usize
-    requires { ⌜ 52 ≤ length (now output) ⌝ }
+    requires { ⌜ lineRoom ≤ length (now output) ⌝ }
     ensures { λ r. ⌜ LinePut (now (output .entry)) (printed verdictText (readBackAt (networkSize (a ∷ b ∷ [])) (now (text .entry))))
         (now (output .exit)) r ⌝ }
 {

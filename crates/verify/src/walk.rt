@@ -10,8 +10,10 @@ ghost use Rattle.lists.specs.Bitmap.{marked, mark};
 ghost use Rattle.verify.specs.Walks.{NextHolds, EndsKnown, MarkRoom, Stepped, Walked, RouteWalked, RoutesWalked, walkFrom};
 use crate::form::TwoLines;
 use crate::form::two_lines;
+use crate::link::Link;
 use crate::link::link_joins;
 use crate::link::link_serves;
+use network::Relay;
 use text::scan;
 use text::scan::NumberScan;
 use text::scan::WordScan;
@@ -20,7 +22,7 @@ use text::scan::WordScan;
 enum NextStep {
     End,
     Uneven,
-    Step(u16, usize, u16, usize),
+    Step(Relay, usize, Link, usize),
 }
 
 // No relay is marked yet: a bit for every number of 16 bits.
@@ -31,12 +33,12 @@ fn no_relays() -> [u64; 1024]
 }
 
 // Marks a relay, and tells whether it was not marked before.
-fn meet(relay: u16, marks: &mut [u64]) -> bool
+fn meet(relay: Relay, marks: &mut [u64]) -> bool
     requires { ⌜ MarkRoom (now marks) ⌝ }
-    ensures fresh { λ r. ⌜ r ≡ not (marked (now (marks .entry)) relay) ⌝ }
-    ensures marks { λ _. ⌜ now (marks .exit) ≡ mark (now (marks .entry)) relay ⌝ }
+    ensures fresh { λ r. ⌜ r ≡ not (marked (now (marks .entry)) (relay .0)) ⌝ }
+    ensures marks { λ _. ⌜ now (marks .exit) ≡ mark (now (marks .entry)) (relay .0) ⌝ }
 {
-    let number = relay as usize;
+    let number = relay.0 as usize;
     let word = number / 64;
     let bit = number % 64;
     let bits = marks[word];
@@ -50,15 +52,15 @@ fn step(
     lows: &[u16],
     highs: &[u16],
     states: &[u16],
-    to: u16,
-    a: u16,
-    b: u16,
-    l: u16,
+    to: Relay,
+    a: Relay,
+    b: Relay,
+    l: Link,
     marks: &mut [u64],
 ) -> bool
     requires { ⌜ EndsKnown (now lows) (now highs) (now states) ⌝ }
     requires { ⌜ MarkRoom (now marks) ⌝ }
-    ensures { λ r. ⌜ Stepped n (now (lows .entry)) (now (highs .entry)) (now (states .entry)) to a b l
+    ensures { λ r. ⌜ Stepped n (now (lows .entry)) (now (highs .entry)) (now (states .entry)) (to .0) (a .0) (b .0) (l .0)
         (now (marks .entry)) (now (marks .exit)) r ⌝ }
 {
     if !link_joins(lows, highs, a, b, l) {
@@ -67,13 +69,16 @@ fn step(
     if !link_serves(lows, highs, states, l) {
         return false;
     }
-    if a == to {
+    let here = a.0;
+    let next = b.0;
+    let end = to.0;
+    if here == end {
         return false;
     }
-    if n <= b {
+    if n <= next {
         return false;
     }
-    if b == to {
+    if next == end {
         return true;
     }
     meet(b, marks)
@@ -90,16 +95,16 @@ fn next_step(text: &[u8], relays: usize, links: usize) -> NextStep
         },
         NumberScan::Reads(b, p) => match scan::word_number(text, b" ", links) {
             NumberScan::Departs(_) => NextStep::Uneven,
-            NumberScan::Reads(l, q) => NextStep::Step(b, p, l, q),
+            NumberScan::Reads(l, q) => NextStep::Step(Relay(b), p, Link(l), q),
         },
     }
 }
 
 // The steps at relay a: they count if it is the end, else the walk has failed.
-fn steps_at(a: u16, to: u16, steps: usize) -> usize
-    ensures { λ r. ⌜ r ≡ pick (eqb a to) steps 0 ⌝ }
+fn steps_at(a: Relay, to: Relay, steps: usize) -> usize
+    ensures { λ r. ⌜ r ≡ pick (eqb (a .0) (to .0)) steps 0 ⌝ }
 {
-    if a == to { steps } else { 0 }
+    if a.0 == to.0 { steps } else { 0 }
 }
 
 // The walk from relay `first` on, whose next relays and links stand from these offsets on.
@@ -109,41 +114,41 @@ fn walk(
     highs: &[u16],
     states: &[u16],
     text: &[u8],
-    to: u16,
-    first: u16,
+    to: Relay,
+    first: Relay,
     relays: usize,
     links: usize,
     marks: &mut [u64],
 ) -> usize
     requires { ⌜ EndsKnown (now lows) (now highs) (now states) ⌝ }
     requires { ⌜ MarkRoom (now marks) ⌝ }
-    ensures { λ r. ⌜ Walked (walkFrom n (now (lows .entry)) (now (highs .entry)) (now (states .entry)) (now (text .entry)) to
-        (marked (now (marks .entry))) 0 first relays links) r (now (marks .exit)) ⌝ }
+    ensures { λ r. ⌜ Walked (walkFrom n (now (lows .entry)) (now (highs .entry)) (now (states .entry)) (now (text .entry)) (to .0)
+        (marked (now (marks .entry))) 0 (first .0) relays links) r (now (marks .exit)) ⌝ }
 {
-    let mut a = first;
+    let mut a = first.0;
     let mut p = relays;
     let mut q = links;
     let mut steps: usize = 0;
     while steps <= text.len() {
         match next_step(text, p, q) {
             NextStep::End => {
-                return steps_at(a, to, steps);
+                return steps_at(Relay(a), to, steps);
             }
             NextStep::Uneven => {
                 return 0;
             }
             NextStep::Step(b, s, l, t) => {
-                if !step(n, lows, highs, states, to, a, b, l, marks) {
+                if !step(n, lows, highs, states, to, Relay(a), b, l, marks) {
                     return 0;
                 }
-                a = b;
+                a = b.0;
                 p = s;
                 q = t;
                 steps += 1;
             }
         }
     }
-    steps_at(a, to, steps)
+    steps_at(Relay(a), to, steps)
 }
 
 // The walk along a route whose two lines stand at these offsets: its steps, 0 where it fails.
@@ -153,15 +158,15 @@ fn route_steps(
     highs: &[u16],
     states: &[u16],
     text: &[u8],
-    from: u16,
-    to: u16,
+    from: Relay,
+    to: Relay,
     relays: usize,
     links: usize,
     marks: &mut [u64],
 ) -> usize
     requires { ⌜ EndsKnown (now lows) (now highs) (now states) ⌝ }
     requires { ⌜ MarkRoom (now marks) ⌝ }
-    ensures { λ r. ⌜ RouteWalked n (now (lows .entry)) (now (highs .entry)) (now (states .entry)) (now (text .entry)) from to relays links
+    ensures { λ r. ⌜ RouteWalked n (now (lows .entry)) (now (highs .entry)) (now (states .entry)) (now (text .entry)) (from .0) (to .0) relays links
         (now (marks .entry)) (now (marks .exit)) r ⌝ }
 {
     match scan::word_number(text, b"(route ", relays) {
@@ -169,8 +174,8 @@ fn route_steps(
         NumberScan::Reads(first, p) => match scan::word(text, b"(over", links) {
             WordScan::Departs(_) => 0,
             WordScan::Reads(q) => {
-                if first == from {
-                    walk(n, lows, highs, states, text, to, first, p, q, marks)
+                if first == from.0 {
+                    walk(n, lows, highs, states, text, to, Relay(first), p, q, marks)
                 } else {
                     0
                 }
@@ -209,15 +214,15 @@ fn all_routes(
     highs: &[u16],
     states: &[u16],
     text: &[u8],
-    from: u16,
-    to: u16,
+    from: Relay,
+    to: Relay,
     count: usize,
     at: usize,
     marks: &mut [u64],
 ) -> bool
     requires { ⌜ EndsKnown (now lows) (now highs) (now states) ⌝ }
     requires { ⌜ MarkRoom (now marks) ⌝ }
-    ensures { λ r. ⌜ RoutesWalked n (now (lows .entry)) (now (highs .entry)) (now (states .entry)) (now (text .entry)) from to
+    ensures { λ r. ⌜ RoutesWalked n (now (lows .entry)) (now (highs .entry)) (now (states .entry)) (now (text .entry)) (from .0) (to .0)
         (marked (now (marks .entry))) count at r ⌝ }
 {
     let mut p = at;
@@ -249,14 +254,14 @@ pub(crate) fn routes_hold(
     highs: &[u16],
     states: &[u16],
     text: &[u8],
-    from: u16,
-    to: u16,
+    from: Relay,
+    to: Relay,
     count: usize,
     at: usize,
 ) -> bool
     requires { ⌜ EndsKnown (now lows) (now highs) (now states) ⌝ }
-    ensures { λ r. ⌜ RoutesWalked n (now (lows .entry)) (now (highs .entry)) (now (states .entry)) (now (text .entry)) from to
-        (eqb from) count at r ⌝ }
+    ensures { λ r. ⌜ RoutesWalked n (now (lows .entry)) (now (highs .entry)) (now (states .entry)) (now (text .entry)) (from .0) (to .0)
+        (eqb (from .0)) count at r ⌝ }
 {
     let mut marks = no_relays();
     meet(from, &mut marks);

@@ -20,9 +20,9 @@ number-fault-requires c κs = search needs
 
 returns-2 : tie.Need-returns-2
 returns-2 c =
-    let a = c .before .before .before .before .args in
-    unfit (a .n) (a .a) (a .b) (a .seen .now) (c .number-fault .result) (c .number-fault .ensures)
-    (⊎-elim (λ w less within. omega (arith, w .1 .left)) (λ w less within. omega (arith, w .left)) (c .before .if1 .came))
+    let a = c .before .before .before .before .before .before .args in
+    unfit (a .n) (a .a .0) (a .b .0) (a .seen .now) (c .number-fault .result) (c .number-fault .ensures)
+    (⊎-elim (λ w less within. omega (arith, w .2 .left)) (λ w less within. omega (arith, w .left)) (c .before .if1 .came))
 
 pub check-link-spec : {M : Type 1} → statement M
 check-link-spec = tie.close (tie.spec mark-pair-requires same-length returns number-fault-requires returns-2)

@@ -27,17 +27,17 @@ abbrev μ-loop : tie.MeasureT-loop
 loop-holds : tie.Need-loop-holds Inv-loop μ-loop
 loop-holds c = (omega arith, c .before .before .before .before .pre .1 .1, refl, ap (linksCheck _ _ _ 0) (omega arith))
 
-mul-check-link : tie.Need-mul-check-link Inv-loop μ-loop
-mul-check-link c = omega arith
+mul-a : tie.Need-mul-a Inv-loop μ-loop
+mul-a c = omega arith
 
-shared-slice-read-check-link : tie.Need-shared-slice-read-check-link Inv-loop μ-loop
-shared-slice-read-check-link c = omega arith
+shared-slice-read-a : tie.Need-shared-slice-read-a Inv-loop μ-loop
+shared-slice-read-a c = omega arith
 
-mul-check-link-2 : tie.Need-mul-check-link-2 Inv-loop μ-loop
-mul-check-link-2 c = omega arith
+mul-b : tie.Need-mul-b Inv-loop μ-loop
+mul-b c = omega arith
 
-shared-slice-read-check-link-2 : tie.Need-shared-slice-read-check-link-2 Inv-loop μ-loop
-shared-slice-read-check-link-2 c = omega arith
+shared-slice-read-b : tie.Need-shared-slice-read-b Inv-loop μ-loop
+shared-slice-read-b c = omega arith
 
 check-link-requires : tie.Need-check-link-requires Inv-loop μ-loop
 check-link-requires c κs =
@@ -133,10 +133,10 @@ links-check-spec =
     Inv-loop
     μ-loop
     loop-holds
-    mul-check-link
-    shared-slice-read-check-link
-    mul-check-link-2
-    shared-slice-read-check-link-2
+    mul-a
+    shared-slice-read-a
+    mul-b
+    shared-slice-read-b
     check-link-requires
     enum-told
     enum-told-2

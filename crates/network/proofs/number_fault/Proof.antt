@@ -18,7 +18,7 @@ returns c =
     let a = c .before .before .before .args in
     let range = c .before .before .range-fault in
     let rise = c .before .rise-fault in
-    numbers-first (a .n) (a .a) (a .b) (range .result) (rise .result) (c .first-fault .result)
+    numbers-first (a .n) (a .a .0) (a .b .0) (range .result) (rise .result) (c .first-fault .result)
     (range .ensures) (rise .ensures) (c .first-fault .ensures)
 
 pub number-fault-spec : {M : Type 1} → statement M

@@ -7,7 +7,7 @@ use native.Mathlib.Omega.{arith}
 use denote.Ref.{now}
 use lib.ListN.{length, take, drop}
 use Rattle.network.specs.Answers.{refusalOf}
-use Rattle.network.specs.declared.Refusal.the-variants.{Wish}
+use Rattle.network.specs.declared.refusal.Refusal.the-variants.{Wish}
 use Rattle.definitions.specs.Program.{printed}
 use Rattle.definitions.specs.Plan.{outputRoom, planned, sheetText, planText}
 use Rattle.plan.specs.Wish.{wishGives}

@@ -19,8 +19,8 @@ use Rattle.lists.specs.Tests.{or-false, and-both}
 use Rattle.lists.specs.Outcomes.{not-refused, then-done}
 use Rattle.network.specs.Answers.{refusalNumber, refusalPlace, refusalOf}
 use Rattle.network.specs.Refusals.{refusal-then}
-use Rattle.network.specs.declared.Refusal.{Refusal}
-use Rattle.network.specs.declared.Refusal.the-variants.{NotOneTree}
+use Rattle.network.specs.declared.refusal.Refusal.{Refusal}
+use Rattle.network.specs.declared.refusal.Refusal.the-variants.{NotOneTree}
 use Rattle.routes.specs.Answers.{wishCheck, Answered, answered, treeAnswer, shortFor, coreAnswer, coreCounts, coreRelays, coreLinks, coreScratch, Routable}
 
 -- Not refused by the test of one tree, which comes last and alone uses scratch.

@@ -24,12 +24,12 @@ returns : tie.Need-returns
 returns c =
     let called = c .before .before .before .before .before .before .before .route-core in
     let a = c .before .before .before .before .before .before .before .before .before .before .before .before .before .before .before .before .before .before .args in (
-      called .ensures .0 ∙ alone-answer (a .n) (a .lows .now) (a .highs .now) (a .states .now) (a .k) (a .from) (a .to) (a .counts .now) (a .relays .now) (a .scratch .now) _,
+      called .ensures .0 ∙ alone-answer (a .n) (a .lows .now) (a .highs .now) (a .states .now) (a .k) (a .from .0) (a .to .0) (a .counts .now) (a .relays .now) (a .scratch .now) _,
       (
-        called .ensures .1 .0 ∙ alone-counts (a .n) (a .lows .now) (a .highs .now) (a .states .now) (a .k) (a .from) (a .to) (a .counts .now) (a .relays .now) (a .scratch .now) _,
+        called .ensures .1 .0 ∙ alone-counts (a .n) (a .lows .now) (a .highs .now) (a .states .now) (a .k) (a .from .0) (a .to .0) (a .counts .now) (a .relays .now) (a .scratch .now) _,
         (
-          called .ensures .1 .1 .0 ∙ alone-relays (a .n) (a .lows .now) (a .highs .now) (a .states .now) (a .k) (a .from) (a .to) (a .counts .now) (a .relays .now) (a .scratch .now) _,
-          called .ensures .1 .1 .1 .1 ∙ alone-scratch (a .n) (a .lows .now) (a .highs .now) (a .states .now) (a .k) (a .from) (a .to) (a .counts .now) (a .relays .now) (a .scratch .now) _,
+          called .ensures .1 .1 .0 ∙ alone-relays (a .n) (a .lows .now) (a .highs .now) (a .states .now) (a .k) (a .from .0) (a .to .0) (a .counts .now) (a .relays .now) (a .scratch .now) _,
+          called .ensures .1 .1 .1 .1 ∙ alone-scratch (a .n) (a .lows .now) (a .highs .now) (a .states .now) (a .k) (a .from .0) (a .to .0) (a .counts .now) (a .relays .now) (a .scratch .now) _,
         ),
       ),
     )

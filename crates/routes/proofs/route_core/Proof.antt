@@ -2,7 +2,7 @@
 use Rattle.routes.proofs.Answers.Refusals.{table-refused, wish-refused, wish-passed, route-answered}
 use Rattle.routes.specs.Answers.{routeOutcome}
 use Rattle.network.specs.Answers.{checkOutcome}
-use Rattle.theory.specs.Accepted.{accepted}
+use Rattle.theory.specs.Accepted.{accepted, accepted-states}
 use mathlib.Core.Path.{sym, _∙_, ap}
 use borrow.Author.Needs.{needs}
 use Rattle.routes.proofs.route_core.Statement.{statement}
@@ -21,8 +21,10 @@ wish-check-requires : tie.Need-wish-check-requires
 wish-check-requires c κs =
     let start = c .before .before .before .before .before .before .before .before .before .before in
     let a = start .args in
-    accepted (a .n) (a .lows .now) (a .highs .now) (a .states .now)
-    (sym (c .before .before .table-check .ensures) ∙ ap checkOutcome (c .enum-told .given .1)) .few
+    let passes = sym (c .before .before .table-check .ensures) ∙ ap checkOutcome (c .enum-told .given .1) in (
+      accepted (a .n) (a .lows .now) (a .highs .now) (a .states .now) passes .few,
+      accepted-states (a .n) (a .lows .now) (a .highs .now) (a .states .now) passes .long,
+    )
 
 enum-known-refusal-2 : tie.Need-enum-known-refusal-2
 enum-known-refusal-2 c = search needs
@@ -38,7 +40,7 @@ route-accepted-requires c κs =
     let atTableCheck = atEnumTold .before .before in
     let start = atTableCheck .before .before .before .before .before .before .before .before in
     let a = start .args in
-    wish-passed (a .asked) (a .n) (a .lows .now) (a .highs .now) (a .states .now) (a .k) (a .from) (a .to) (a .counts .now) (a .relays .now)
+    wish-passed (a .asked) (a .n) (a .lows .now) (a .highs .now) (a .states .now) (a .k) (a .from .0) (a .to .0) (a .counts .now) (a .relays .now)
     (a .links .now) (a .scratch .now)
     (sym (atTableCheck .table-check .ensures) ∙ ap checkOutcome (atEnumTold .enum-told .given .1))
     (sym (atWishCheck .wish-check .ensures) ∙ ap checkOutcome (atEnumTold2 .enum-told2 .given .1))
@@ -48,7 +50,7 @@ returns c =
     let atTableCheck = c .before .before .before in
     let start = atTableCheck .before .before .before .before .before .before .before .before in
     let a = start .args in
-    table-refused (a .asked) (a .n) (a .lows .now) (a .highs .now) (a .states .now) (a .k) (a .from) (a .to) (a .counts .now) (a .relays .now)
+    table-refused (a .asked) (a .n) (a .lows .now) (a .highs .now) (a .states .now) (a .k) (a .from .0) (a .to .0) (a .counts .now) (a .relays .now)
     (a .links .now) (a .scratch .now)
     (c .before .refusal .given .0 .0) (sym (ap checkOutcome (c .before .refusal .given .1)) ∙ atTableCheck .table-check .ensures)
 
@@ -59,7 +61,7 @@ returns-2 c =
     let atTableCheck = atEnumTold .before .before in
     let start = atTableCheck .before .before .before .before .before .before .before .before in
     let a = start .args in
-    wish-refused (a .asked) (a .n) (a .lows .now) (a .highs .now) (a .states .now) (a .k) (a .from) (a .to) (a .counts .now) (a .relays .now)
+    wish-refused (a .asked) (a .n) (a .lows .now) (a .highs .now) (a .states .now) (a .k) (a .from .0) (a .to .0) (a .counts .now) (a .relays .now)
     (a .links .now) (a .scratch .now)
     (sym (atTableCheck .table-check .ensures) ∙ ap checkOutcome (atEnumTold .enum-told .given .1))
     (c .before .refusal2 .given .0 .0) (sym (ap checkOutcome (c .before .refusal2 .given .1)) ∙ atWishCheck .wish-check .ensures)
@@ -86,7 +88,7 @@ returns-3 c =
     let start = atTableCheck .before .before .before .before .before .before .before .before in
     let a = start .args in
     let called = atRouteAccepted .route-accepted in
-    route-answered (a .asked) (a .n) (a .lows .now) (a .highs .now) (a .states .now) (a .k) (a .from) (a .to) (a .counts .now) (a .relays .now)
+    route-answered (a .asked) (a .n) (a .lows .now) (a .highs .now) (a .states .now) (a .k) (a .from .0) (a .to .0) (a .counts .now) (a .relays .now)
     (a .links .now) (a .scratch .now)
     (sym (atTableCheck .table-check .ensures) ∙ ap checkOutcome (atEnumTold .enum-told .given .1))
     (sym (atWishCheck .wish-check .ensures) ∙ ap checkOutcome (atEnumTold2 .enum-told2 .given .1))

@@ -24,14 +24,14 @@ returns : tie.Need-returns
 returns c =
     let called = c .before .before .before .before .before .before .before .before .route-core in
     let a = c .before .before .before .before .before .before .before .before .before .before .before .before .before .before .before .before .before .before .before .before .args in (
-      called .ensures .0 ∙ lent-answer (a .n) (a .lows .now) (a .highs .now) (a .states .now) (a .k) (a .from) (a .to) (a .counts .now) (a .relays .now) (a .scratch .now) (a .links .now),
+      called .ensures .0 ∙ lent-answer (a .n) (a .lows .now) (a .highs .now) (a .states .now) (a .k) (a .from .0) (a .to .0) (a .counts .now) (a .relays .now) (a .scratch .now) (a .links .now),
       (
-        called .ensures .1 .0 ∙ lent-counts (a .n) (a .lows .now) (a .highs .now) (a .states .now) (a .k) (a .from) (a .to) (a .counts .now) (a .relays .now) (a .scratch .now) (a .links .now),
+        called .ensures .1 .0 ∙ lent-counts (a .n) (a .lows .now) (a .highs .now) (a .states .now) (a .k) (a .from .0) (a .to .0) (a .counts .now) (a .relays .now) (a .scratch .now) (a .links .now),
         (
-          called .ensures .1 .1 .0 ∙ lent-relays (a .n) (a .lows .now) (a .highs .now) (a .states .now) (a .k) (a .from) (a .to) (a .counts .now) (a .relays .now) (a .scratch .now) (a .links .now),
+          called .ensures .1 .1 .0 ∙ lent-relays (a .n) (a .lows .now) (a .highs .now) (a .states .now) (a .k) (a .from .0) (a .to .0) (a .counts .now) (a .relays .now) (a .scratch .now) (a .links .now),
           (
-            called .ensures .1 .1 .1 .0 ∙ lent-links (a .n) (a .lows .now) (a .highs .now) (a .states .now) (a .k) (a .from) (a .to) (a .counts .now) (a .relays .now) (a .scratch .now) (a .links .now),
-            called .ensures .1 .1 .1 .1 ∙ lent-scratch (a .n) (a .lows .now) (a .highs .now) (a .states .now) (a .k) (a .from) (a .to) (a .counts .now) (a .relays .now) (a .scratch .now) (a .links .now),
+            called .ensures .1 .1 .1 .0 ∙ lent-links (a .n) (a .lows .now) (a .highs .now) (a .states .now) (a .k) (a .from .0) (a .to .0) (a .counts .now) (a .relays .now) (a .scratch .now) (a .links .now),
+            called .ensures .1 .1 .1 .1 ∙ lent-scratch (a .n) (a .lows .now) (a .highs .now) (a .states .now) (a .k) (a .from .0) (a .to .0) (a .counts .now) (a .relays .now) (a .scratch .now) (a .links .now),
           ),
         ),
       ),

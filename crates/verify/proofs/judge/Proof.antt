@@ -10,20 +10,20 @@ use Rattle.verify.proofs.judge.Tie as tie
 returns : tie.Need-returns
 returns c =
     let a = c .before .before .before .before .before .args in
-    λ said. too-few (a .n) (now (a .lows)) (now (a .highs)) (now (a .states)) (now (a .text)) (a .from) (a .to)
+    λ said. too-few (a .n) (now (a .lows)) (now (a .highs)) (now (a .states)) (now (a .text)) (a .from .0) (a .to .0)
     (a .k) (a .routes) (a .kept) (a .first) said (c .if1 .taken)
 
 returns-2 : tie.Need-returns-2
 returns-2 c =
     let a = c .before .before .before .before .before .before .args in
-    λ said. too-many (a .n) (now (a .lows)) (now (a .highs)) (now (a .states)) (now (a .text)) (a .from) (a .to)
+    λ said. too-many (a .n) (now (a .lows)) (now (a .highs)) (now (a .states)) (now (a .text)) (a .from .0) (a .to .0)
     (a .k) (a .routes) (a .kept) (a .first) said (omega (arith, c .before .if1 .left)) (c .if2 .taken)
 
 returns-3 : tie.Need-returns-3
 returns-3 c =
     let a = c .before .before .before .before .before .before .before .args in
     λ said.
-    other-count (a .n) (now (a .lows)) (now (a .highs)) (now (a .states)) (now (a .text)) (a .from) (a .to)
+    other-count (a .n) (now (a .lows)) (now (a .highs)) (now (a .states)) (now (a .text)) (a .from .0) (a .to .0)
     (a .k) (a .routes) (a .kept) (a .first) said
     (omega (arith, c .before .before .if1 .left)) (omega (arith, c .before .if2 .left)) (c .if3 .taken)
 
@@ -38,7 +38,7 @@ returns-4 c =
     let atRoutes = c .before in
     let a = atRoutes .before .before .before .before .before .before .before .before .args in
     λ said.
-    routes-fail (a .n) (now (a .lows)) (now (a .highs)) (now (a .states)) (now (a .text)) (a .from) (a .to)
+    routes-fail (a .n) (now (a .lows)) (now (a .highs)) (now (a .states)) (now (a .text)) (a .from .0) (a .to .0)
     (a .k) (a .routes) (a .kept) (a .first) said
     (omega (arith, atRoutes .before .before .before .if1 .left)) (omega (arith, atRoutes .before .before .if2 .left)) (atRoutes .before .if3 .left)
     _ (atRoutes .routes-hold .ensures) (not-true _ (c .if4 .taken))
@@ -52,7 +52,7 @@ returns-5 c =
     let atRoutes = atIf .before in
     let a = atRoutes .before .before .before .before .before .before .before .before .args in
     λ said.
-    other-kept (a .n) (now (a .lows)) (now (a .highs)) (now (a .states)) (now (a .text)) (a .from) (a .to)
+    other-kept (a .n) (now (a .lows)) (now (a .highs)) (now (a .states)) (now (a .text)) (a .from .0) (a .to .0)
     (a .k) (a .routes) (a .kept) (a .first) said
     (omega (arith, atRoutes .before .before .before .if1 .left)) (omega (arith, atRoutes .before .before .if2 .left)) (atRoutes .before .if3 .left)
     _ (atRoutes .routes-hold .ensures) (not-false _ (atIf .if4 .left)) _ (c .before .kept-count .ensures) (c .if5 .taken)
@@ -63,7 +63,7 @@ returns-6 c =
     let atRoutes = atIf .before in
     let a = atRoutes .before .before .before .before .before .before .before .before .args in
     λ said.
-    all-hold (a .n) (now (a .lows)) (now (a .highs)) (now (a .states)) (now (a .text)) (a .from) (a .to)
+    all-hold (a .n) (now (a .lows)) (now (a .highs)) (now (a .states)) (now (a .text)) (a .from .0) (a .to .0)
     (a .k) (a .routes) (a .kept) (a .first) said
     (omega (arith, atRoutes .before .before .before .if1 .left)) (omega (arith, atRoutes .before .before .if2 .left)) (atRoutes .before .if3 .left)
     _ (atRoutes .routes-hold .ensures) (not-false _ (atIf .if4 .left)) _ (c .before .kept-count .ensures) (c .if5 .left)

@@ -53,11 +53,11 @@ loop-again c =
           (best-more (lent .states .now) (lent .counts .now) (at .r) (at .best) (at .inv .1)),
     )
 
-sub-t16 : tie.Need-sub-t16 Inv-loop μ-loop
-sub-t16 c = omega arith
+sub-left : tie.Need-sub-left Inv-loop μ-loop
+sub-left c = omega arith
 
-cast-t17 : tie.Need-cast-t17 Inv-loop μ-loop
-cast-t17 c = omega arith
+cast-number : tie.Need-cast-number Inv-loop μ-loop
+cast-number c = omega arith
 
 returns : tie.Need-returns Inv-loop μ-loop
 returns c =
@@ -84,6 +84,6 @@ busiest-spec =
     add-r
     loop-less
     loop-again
-    sub-t16
-    cast-t17
+    sub-left
+    cast-number
     returns)

@@ -12,12 +12,12 @@ key-requires c κs = search needs
 returns : tie.Need-returns
 returns c =
     let lent = c .before .before .args in
-    c .before .key .ensures ∙ sym (key-serving (lent .r) (lent .state) (lent .count) (c .if1 .taken))
+    c .before .key .ensures ∙ sym (key-serving (lent .r .0) (lent .state) (lent .count) (c .if1 .taken))
 
 returns-2 : tie.Need-returns-2
 returns-2 c =
     let lent = c .before .before .args in
-    sym (key-withdrawn (lent .r) (lent .state) (lent .count) (λ e. omega arith))
+    sym (key-withdrawn (lent .r .0) (lent .state) (lent .count) (λ e. omega arith))
 
 pub serving-key-spec : {M : Type 1} → statement M
 serving-key-spec = tie.close (tie.spec key-requires returns returns-2)

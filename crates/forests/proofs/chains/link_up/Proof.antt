@@ -59,20 +59,20 @@ loop-holds c =
 sub-i : tie.Need-sub-i Inv-loop μ-loop
 sub-i c = omega arith
 
-mul-a : tie.Need-mul-a Inv-loop μ-loop
-mul-a c = omega arith
+mul-from : tie.Need-mul-from Inv-loop μ-loop
+mul-from c = omega arith
 
-shared-slice-read-a : tie.Need-shared-slice-read-a Inv-loop μ-loop
-shared-slice-read-a c = omega arith
+shared-slice-read-from : tie.Need-shared-slice-read-from Inv-loop μ-loop
+shared-slice-read-from c = omega arith
+
+mul-to : tie.Need-mul-to Inv-loop μ-loop
+mul-to c = omega arith
+
+shared-slice-read-to : tie.Need-shared-slice-read-to Inv-loop μ-loop
+shared-slice-read-to c = omega arith
 
 cast-a : tie.Need-cast-a Inv-loop μ-loop
-cast-a c = omega (arith, ends (c .before))
-
-mul-b : tie.Need-mul-b Inv-loop μ-loop
-mul-b c = omega arith
-
-shared-slice-read-b : tie.Need-shared-slice-read-b Inv-loop μ-loop
-shared-slice-read-b c = omega arith
+cast-a c = omega (arith, ends (c .before .before))
 
 cast-b : tie.Need-cast-b Inv-loop μ-loop
 cast-b c = omega (arith, ends (c .before .before))
@@ -216,11 +216,11 @@ link-up-spec =
     μ-loop
     loop-holds
     sub-i
-    mul-a
-    shared-slice-read-a
+    mul-from
+    shared-slice-read-from
+    mul-to
+    shared-slice-read-to
     cast-a
-    mul-b
-    shared-slice-read-b
     cast-b
     mul-low
     add-high

@@ -33,7 +33,11 @@ returns-5 : tie.Need-returns-5
 returns-5 c =
     let atLink = c .before .before in
     let atHigh = atLink .before .before in
-    edge-inside _ _ _ _ _ _ _ _ (omega arith) (omega arith) (omega arith) (omega arith) (atHigh .before .low-end .ensures)
+    let atFour = atHigh .before .before in
+    let atThree = atFour .before .before in
+    let atTwo = atThree .before .before in
+    let atOne = atTwo .before .before in
+    edge-inside _ _ _ _ _ _ _ _ (omega (arith, atOne .if1 .left)) (atTwo .if2 .left) (omega (arith, atThree .if3 .left)) (atFour .if4 .left) (atHigh .before .low-end .ensures)
     (atHigh .high-end .ensures) (atLink .check-link .ensures)
 
 pub check-edge-spec : {M : Type 1} → statement M

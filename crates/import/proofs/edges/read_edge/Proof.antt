@@ -4,7 +4,7 @@ use native.Mathlib.Omega.{arith}
 use borrow.Author.Needs.{needs}
 use denote.Ref.{now}
 use Rattle.network.specs.Seen.{faultOf}
-use Rattle.network.specs.declared.Refusal.the-variants.{RelayRange, NotBelow, Repeated}
+use Rattle.network.specs.declared.refusal.Refusal.the-variants.{RelayRange, NotBelow, Repeated}
 use Rattle.text.specs.Scans.{pairGives}
 use Rattle.import.proofs.EdgeLaws.{fine-ends, read-departs, read-faulty, read-fine}
 use Rattle.import.proofs.edges.read_edge.Statement.{statement}
@@ -40,16 +40,16 @@ low-end-requires : tie.Need-low-end-requires
 low-end-requires c κs =
     fine-ends _ _ _ _ _ _ (c .before .before .before .before .check-edge .ensures) (ap faultOf (c .enum-told4 .given .1))
 
+high-end-requires : tie.Need-high-end-requires
+high-end-requires c κs =
+    let atTold = c .before in
+    fine-ends _ _ _ _ _ _ (atTold .before .before .before .before .check-edge .ensures) (ap faultOf (atTold .enum-told4 .given .1))
+
 mul-lows : tie.Need-mul-lows
 mul-lows c = search needs
 
 slice-write-lows : tie.Need-slice-write-lows
 slice-write-lows c = search needs
-
-high-end-requires : tie.Need-high-end-requires
-high-end-requires c κs =
-    let atTold = c .before in
-    fine-ends _ _ _ _ _ _ (atTold .before .before .before .before .check-edge .ensures) (ap faultOf (atTold .enum-told4 .given .1))
 
 mul-highs : tie.Need-mul-highs
 mul-highs c = search needs
@@ -144,9 +144,9 @@ read-edge-spec =
     enum-told-3
     enum-told-4
     low-end-requires
+    high-end-requires
     mul-lows
     slice-write-lows
-    high-end-requires
     mul-highs
     slice-write-highs
     returns

@@ -31,17 +31,11 @@ mul-low c = search needs
 shared-slice-read-low : tie.Need-shared-slice-read-low Inv-loop μ-loop
 shared-slice-read-low c = omega arith
 
-cast-low : tie.Need-cast-low Inv-loop μ-loop
-cast-low c = omega (arith, c .shared-slice-known4 .given (c .before .before .loop .i))
-
 mul-high : tie.Need-mul-high Inv-loop μ-loop
 mul-high c = search needs
 
 shared-slice-read-high : tie.Need-shared-slice-read-high Inv-loop μ-loop
 shared-slice-read-high c = omega (arith, c .before .before .before .before .before .before .before .pre .0)
-
-cast-high : tie.Need-cast-high Inv-loop μ-loop
-cast-high c = omega (arith, c .shared-slice-known5 .given (c .before .before .before .loop .i))
 
 idle-link-requires : tie.Need-idle-link-requires Inv-loop μ-loop
 idle-link-requires c κs =
@@ -93,10 +87,8 @@ idle-links-spec =
     loop-holds
     mul-low
     shared-slice-read-low
-    cast-low
     mul-high
     shared-slice-read-high
-    cast-high
     idle-link-requires
     add-idle
     add-i

@@ -19,8 +19,8 @@ put-triple-requires c κs =
     let atIf = c .before .before in
     let start = atIf .before .before .before in
     let a = start .args in
-    let serving = serves (now (a .states)) (a .a) && serves (now (a .states)) (a .b) in
-    omega (arith, start .pre .1, ap length (kept-line (a .mark) (a .i) (a .a) (a .b) serving (eq-eqb _ _ (atIf .if1 .taken))))
+    let serving = serves (now (a .states)) (a .a .0) && serves (now (a .states)) (a .b .0) in
+    omega (arith, start .pre .1, ap length (kept-line (a .mark) (a .i) (a .a .0) (a .b .0) serving (eq-eqb _ _ (atIf .if1 .taken))))
 
 both-serve-requires : tie.Need-both-serve-requires
 both-serve-requires c κs = c .before .before .before .pre .0
@@ -35,7 +35,7 @@ put-triple-requires-2 c κs =
     let start = atIf .before .before .before in
     let a = start .args in
     let both = sym (atServe .both-serve .ensures) ∙ c .before .before .if2 .taken in
-    omega (arith, start .pre .1, ap length (dropped-line (a .mark) (a .i) (a .a) (a .b) _ (ne-eqb _ _ (atIf .if1 .left)) both))
+    omega (arith, start .pre .1, ap length (dropped-line (a .mark) (a .i) (a .a .0) (a .b .0) _ (ne-eqb _ _ (atIf .if1 .left)) both))
 
 slice-aggregate-put-triple-3 : tie.Need-slice-aggregate-put-triple-3
 slice-aggregate-put-triple-3 c = search needs
@@ -47,7 +47,7 @@ put-triple-requires-3 c κs =
     let start = atIf .before .before .before in
     let a = start .args in
     let one = sym (atServe .both-serve .ensures) ∙ c .before .before .if2 .left in
-    omega (arith, start .pre .1, ap length (idle-line (a .mark) (a .i) (a .a) (a .b) _ (ne-eqb _ _ (atIf .if1 .left)) one))
+    omega (arith, start .pre .1, ap length (idle-line (a .mark) (a .i) (a .a .0) (a .b .0) _ (ne-eqb _ _ (atIf .if1 .left)) one))
 
 same-length : tie.Need-same-length
 same-length c = search needs
@@ -56,7 +56,7 @@ returns : tie.Need-returns
 returns c =
     let atIf = c .before .before .before .before .before in
     let a = atIf .before .before .before .args in
-    rw (kept-line (a .mark) (a .i) (a .a) (a .b) _ (eq-eqb _ _ (atIf .if1 .taken))) (c .before .before .put-triple .ensures)
+    rw (kept-line (a .mark) (a .i) (a .a .0) (a .b .0) _ (eq-eqb _ _ (atIf .if1 .taken))) (c .before .before .put-triple .ensures)
 
 same-length-2 : tie.Need-same-length-2
 same-length-2 c = search needs
@@ -68,7 +68,7 @@ returns-2 c =
     let atIf = atServe .before in
     let a = atIf .before .before .before .args in
     let both = sym (atServe .both-serve .ensures) ∙ atTriple .before .before .before .if2 .taken in
-    rw (dropped-line (a .mark) (a .i) (a .a) (a .b) _ (ne-eqb _ _ (atIf .if1 .left)) both) (atTriple .put-triple2 .ensures)
+    rw (dropped-line (a .mark) (a .i) (a .a .0) (a .b .0) _ (ne-eqb _ _ (atIf .if1 .left)) both) (atTriple .put-triple2 .ensures)
 
 same-length-3 : tie.Need-same-length-3
 same-length-3 c = search needs
@@ -80,7 +80,7 @@ returns-3 c =
     let atIf = atServe .before in
     let a = atIf .before .before .before .args in
     let one = sym (atServe .both-serve .ensures) ∙ atTriple .before .before .before .if2 .left in
-    rw (idle-line (a .mark) (a .i) (a .a) (a .b) _ (ne-eqb _ _ (atIf .if1 .left)) one) (atTriple .put-triple3 .ensures)
+    rw (idle-line (a .mark) (a .i) (a .a .0) (a .b .0) _ (ne-eqb _ _ (atIf .if1 .left)) one) (atTriple .put-triple3 .ensures)
 
 pub put-link-spec : {M : Type 1} → statement M
 put-link-spec =

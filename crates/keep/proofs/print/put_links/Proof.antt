@@ -39,17 +39,11 @@ mul-low c = search needs
 shared-slice-read-low : tie.Need-shared-slice-read-low Inv-loop μ-loop
 shared-slice-read-low c = omega arith
 
-cast-low : tie.Need-cast-low Inv-loop μ-loop
-cast-low c = omega (arith, c .shared-slice-known6 .given (c .before .before .before .loop .i))
-
 mul-high : tie.Need-mul-high Inv-loop μ-loop
 mul-high c = search needs
 
 shared-slice-read-high : tie.Need-shared-slice-read-high Inv-loop μ-loop
 shared-slice-read-high c = omega (arith, c .before .before .before .before .before .before .before .before .before .before .pre .0 .0)
-
-cast-high : tie.Need-cast-high Inv-loop μ-loop
-cast-high c = omega (arith, c .shared-slice-known7 .given (c .before .before .before .before .loop .i))
 
 put-link-requires : tie.Need-put-link-requires Inv-loop μ-loop
 put-link-requires c κs =
@@ -107,10 +101,8 @@ put-links-spec =
     shared-slice-read-mark
     mul-low
     shared-slice-read-low
-    cast-low
     mul-high
     shared-slice-read-high
-    cast-high
     put-link-requires
     add-i
     loop-less

@@ -17,7 +17,7 @@ use Rattle.plan.proofs.stages.plan_accepted.Tie as tie
 
 refused : (c : tie.After-refusal)
     → let a = c .before .before .before .before .before .before .before .before .before .before .before .before .before .before .before .before .before .before .before .args in
-    cutStage (a .from) (a .to) (a .k) (networkOf (a .n) (now (a .lows)) (now (a .highs)) (now (a .states))) ≡ refusalOf (c .refusal .given .0 .0)
+    cutStage (a .from .0) (a .to .0) (a .k) (networkOf (a .n) (now (a .lows)) (now (a .highs)) (now (a .states))) ≡ refusalOf (c .refusal .given .0 .0)
 refused c =
     let atRoute = c .before .before .before .before .before .before in
     let atScratch = atRoute .before .before .before .before .before in
@@ -26,14 +26,14 @@ refused c =
     let atCounts = atRelays .before in
     let start = atCounts .before .before .before .before .before in
     let a = start .args in
-    routes-refused (a .n) (now (a .lows)) (now (a .highs)) (now (a .states)) (a .from) (a .to) (a .k) (start .pre .0) _ _ _ _
+    routes-refused (a .n) (now (a .lows)) (now (a .highs)) (now (a .states)) (a .from .0) (a .to .0) (a .k) (start .pre .0) _ _ _ _
     (atCounts .counts .ensures) (atRelays .relays .ensures) (atLinks .route-links .ensures) (atScratch .scratch .ensures)
     (c .refusal .given .0 .0) (sym (atRoute .cut-and-route .ensures .0) ∙ ap cutOutcome (c .refusal .given .1))
 
 routed : (c : tie.After-kept)
     → let a = c .before .before .before .before .before .before .before .before .before .before .before .before .before .before .before .before .before .before .before .args in
     let made = c .before .before .before .before .before .before .cut-and-route in
-    Routed (a .from) (a .to) (a .k) (a .n) (now (a .lows)) (now (a .highs)) (now (a .states)) (c .kept .given .0 .0)
+    Routed (a .from .0) (a .to .0) (a .k) (a .n) (now (a .lows)) (now (a .highs)) (now (a .states)) (c .kept .given .0 .0)
     (made .last .1 .1 .1 .1 .1 .1 .1 .0) (made .last .1 .1 .1 .1 .1 .1 .1 .1 .0) (made .last .1 .1 .1 .1 .1 .1 .1 .1 .1 .0)
 routed c =
     let atRoute = c .before .before .before .before .before .before in
@@ -44,7 +44,7 @@ routed c =
     let start = atCounts .before .before .before .before .before in
     let a = start .args in
     let made = atRoute .cut-and-route in
-    routes-written (a .n) (now (a .lows)) (now (a .highs)) (now (a .states)) (a .from) (a .to) (a .k) (start .pre .0) _ _ _ _
+    routes-written (a .n) (now (a .lows)) (now (a .highs)) (now (a .states)) (a .from .0) (a .to .0) (a .k) (start .pre .0) _ _ _ _
     (atCounts .counts .ensures) (atRelays .relays .ensures) (atLinks .route-links .ensures) (atScratch .scratch .ensures)
     (c .kept .given .0 .0) _ _ _ (sym (made .ensures .0) ∙ ap cutOutcome (c .kept .given .1))
     (made .ensures .1 .0) (made .ensures .1 .1 .0) (made .ensures .1 .1 .1 .0)

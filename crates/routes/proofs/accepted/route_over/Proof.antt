@@ -12,17 +12,17 @@ use Rattle.routes.proofs.accepted.route_over.Tie as tie
 -- What the left table is made from, once the front of scratch is cleared; and what it makes ready.
 input : (c : tie.After-clear) (states : List ℕ)
     → let a = c .before .before .before .before .before .before .before .before .before .before .before .before .before .args in
-    Routable (a .n) (a .lows .now) (a .highs .now) states (a .k) (a .from) (a .to) (a .counts .now) (a .relays .now) (a .scratch .now)
+    Routable (a .n) (a .lows .now) (a .highs .now) states (a .k) (a .from .0) (a .to .0) (a .counts .now) (a .relays .now) (a .scratch .now)
     → ScanGave (a .n) (a .lows .now) (a .highs .now) states (a .order .now) (a .places .now) (a .numbers .now) (a .a .now) (a .b .now)
     → LeftInput (a .n) (a .k) (a .lows .now) (a .highs .now) states (a .places .now) (a .numbers .now) (c .clear .last .0)
 input c states asked gave =
     let a = c .before .before .before .before .before .before .before .before .before .before .before .before .before .args in
-    table-input (a .n) (a .lows .now) (a .highs .now) states (a .k) (a .from) (a .to) (a .counts .now) (a .relays .now) (a .scratch .now) (c .clear .last .0)
+    table-input (a .n) (a .lows .now) (a .highs .now) states (a .k) (a .from .0) (a .to .0) (a .counts .now) (a .relays .now) (a .scratch .now) (c .clear .last .0)
     (a .order .now) (a .places .now) (a .numbers .now) (a .a .now) (a .b .now) asked gave (c .clear .ensures) (c .clear .kept .0)
 
 made : (c : tie.After-left-table) (states : List ℕ)
     → let a = c .before .before .before .before .before .before .before .before .before .before .before .before .before .before .before .before .before .before .args in
-    Routable (a .n) (a .lows .now) (a .highs .now) states (a .k) (a .from) (a .to) (a .counts .now) (a .relays .now) (a .scratch .now)
+    Routable (a .n) (a .lows .now) (a .highs .now) states (a .k) (a .from .0) (a .to .0) (a .counts .now) (a .relays .now) (a .scratch .now)
     → (gave : ScanGave (a .n) (a .lows .now) (a .highs .now) states (a .order .now) (a .places .now) (a .numbers .now) (a .a .now) (a .b .now))
     → Prepared (a .n) (a .k) (a .lows .now) (a .highs .now) states (gave .orderBefore) (a .order .now) (gave .placesBefore) (a .places .now)
     (gave .numbersBefore) (c .left-table .last .1 .1 .1 .1 .1 .1 .0) (c .before .before .before .before .before .clear .last .0) (c .left-table .last .0)
@@ -56,7 +56,7 @@ answer-requires c κs =
     let atLeft = atPlaceOf .before .before .before .before .before in
     let start = atLeft .before .before .before .before .before .before .before .before .before .before .before .before .before .before .before .before .before .before in
     let a = start .args in
-    places-some (a .n) (a .lows .now) (a .highs .now) (start .pre .0) (a .k) (a .from) (a .to) (a .counts .now) (a .relays .now) (a .links .now) (a .scratch .now)
+    places-some (a .n) (a .lows .now) (a .highs .now) (start .pre .0) (a .k) (a .from .0) (a .to .0) (a .counts .now) (a .relays .now) (a .links .now) (a .scratch .now)
     (start .pre .1 .0) (start .pre .1 .1 .orderBefore) (a .order .now) (start .pre .1 .1 .placesBefore) (a .places .now) (start .pre .1 .1 .numbersBefore) _ _ _ (made atLeft (start .pre .0) (start .pre .1 .0) (start .pre .1 .1))
     (a .a .now) (a .b .now) (start .pre .1 .1 .arrays)
     (atPlaceOf .place-of .result .0) (atPlaceOf2 .place-of2 .result .0) (atPlaceOf .place-of .ensures) (atPlaceOf2 .place-of2 .ensures)
@@ -95,7 +95,7 @@ returns c =
     let atLeft = atPlaceOf .before .before .before .before .before in
     let start = atLeft .before .before .before .before .before .before .before .before .before .before .before .before .before .before .before .before .before .before in
     let a = start .args in (
-      λ states asked gave. answers-tree (a .n) (a .lows .now) (a .highs .now) states (a .k) (a .from) (a .to) (a .counts .now) (a .relays .now) (a .links .now) (a .scratch .now)
+      λ states asked gave. answers-tree (a .n) (a .lows .now) (a .highs .now) states (a .k) (a .from .0) (a .to .0) (a .counts .now) (a .relays .now) (a .links .now) (a .scratch .now)
           asked (gave .orderBefore) (a .order .now) (gave .placesBefore) (a .places .now) (gave .numbersBefore) _ _ _ (made atLeft states asked (gave))
           (a .a .now) (a .b .now) (gave .arrays)
           (atPlaceOf .place-of .result .0) (atPlaceOf2 .place-of2 .result .0)

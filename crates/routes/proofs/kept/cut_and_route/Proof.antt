@@ -28,7 +28,7 @@ route-counted-requires c κs =
     let atWish = c .before .before .before .before .before .before in
     let start = atWish .before .before .before .before .before .before .before .before in
     let a = start .args in
-    wish-passed true (a .n) (a .lows .now) (a .highs .now) (a .states .now) (a .k) (a .from) (a .to) (a .counts .now) (a .relays .now)
+    wish-passed true (a .n) (a .lows .now) (a .highs .now) (a .states .now) (a .k) (a .from .0) (a .to .0) (a .counts .now) (a .relays .now)
     (a .links .now) (a .scratch .now) (start .pre)
     (sym (atWish .wish-check .ensures) ∙ ap checkOutcome (c .before .before .before .before .enum-told .given .1))
 
@@ -38,9 +38,9 @@ returns c =
     let start = atWish .before .before .before .before .before .before .before .before in
     let a = start .args in
     let refusal = c .before .refusal .given in
-    counted-links (a .n) (a .lows .now) (a .highs .now) (a .states .now) (a .k) (a .from) (a .to) (a .counts .now) (a .relays .now) (a .scratch .now)
+    counted-links (a .n) (a .lows .now) (a .highs .now) (a .states .now) (a .k) (a .from .0) (a .to .0) (a .counts .now) (a .relays .now) (a .scratch .now)
     (a .links .now) (refusalOf (refusal .0 .0)) (refusalOf (refusal .0 .0)) _ _ _ _
-    (wish-refused true (a .n) (a .lows .now) (a .highs .now) (a .states .now) (a .k) (a .from) (a .to) (a .counts .now) (a .relays .now)
+    (wish-refused true (a .n) (a .lows .now) (a .highs .now) (a .states .now) (a .k) (a .from .0) (a .to .0) (a .counts .now) (a .relays .now)
     (a .links .now) (a .scratch .now) (start .pre) (refusal .0 .0)
     (sym (ap checkOutcome (refusal .1)) ∙ atWish .wish-check .ensures)) (sym (refusal-then (refusal .0 .0) _))
 
@@ -63,9 +63,9 @@ returns-2 c =
     let start = atWish .before .before .before .before .before .before .before .before in
     let a = start .args in
     let made = called .ensures .0 in
-    counted-links (a .n) (a .lows .now) (a .highs .now) (a .states .now) (a .k) (a .from) (a .to) (a .counts .now) (a .relays .now) (a .scratch .now)
+    counted-links (a .n) (a .lows .now) (a .highs .now) (a .states .now) (a .k) (a .from .0) (a .to .0) (a .counts .now) (a .relays .now) (a .scratch .now)
     (a .links .now) (made .answer) (cutOutcome (called .result)) _ _ _ _
-    (route-answered true (a .n) (a .lows .now) (a .highs .now) (a .states .now) (a .k) (a .from) (a .to) (a .counts .now) (a .relays .now)
+    (route-answered true (a .n) (a .lows .now) (a .highs .now) (a .states .now) (a .k) (a .from .0) (a .to .0) (a .counts .now) (a .relays .now)
     (a .links .now) (a .scratch .now) (start .pre)
     (sym (atWish .wish-check .ensures) ∙ ap checkOutcome (c .before .before .before .before .before .before .before .before .before .before .before .before .before .enum-told .given .1))
     (made .answer) (called .last .1 .1 .1 .1 .1 .1 .1 .0) (called .last .1 .1 .1 .1 .1 .1 .1 .1 .0) (called .last .1 .1 .1 .1 .1 .1 .1 .1 .1 .0) (called .last .1 .1 .1 .1 .1 .1 .1 .1 .1 .1 .0) (made .routed)

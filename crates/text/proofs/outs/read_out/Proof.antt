@@ -24,28 +24,28 @@ returns c =
     let atFormAt = c .before .before .before .before in
     let a = atFormAt .before .before .args in
     let read = pair-reads-out _ _ _ _ (sym (ap pairGives (c .before .before .relay .given .1)) ∙ atFormAt .form-at .ensures) in
-    out-line-beyond (now (a .text)) (a .n) (a .next) (a .at) (read .0) _ _ (read .1) (read .2) (c .if1 .taken)
+    out-line-beyond (now (a .text)) (a .n) (a .next .0) (a .at) (read .0) _ _ (read .1) (read .2) (c .if1 .taken)
 
 returns-2 : tie.Need-returns-2
 returns-2 c =
-    let atFormAt = c .before .before .before .before .before in
+    let atFormAt = c .before .before .before .before .before .before in
     let a = atFormAt .before .before .args in
-    let read = pair-reads-out _ _ _ _ (sym (ap pairGives (c .before .before .before .relay .given .1)) ∙ atFormAt .form-at .ensures) in
-    out-line-again (now (a .text)) (a .n) (a .next) (a .at) (read .0) _ _ (read .1) (read .2) (omega arith) (c .if2 .taken)
+    let read = pair-reads-out _ _ _ _ (sym (ap pairGives (c .before .before .before .before .relay .given .1)) ∙ atFormAt .form-at .ensures) in
+    out-line-again (now (a .text)) (a .n) (a .next .0) (a .at) (read .0) _ _ (read .1) (read .2) (omega arith) (c .if2 .taken)
 
 returns-3 : tie.Need-returns-3
 returns-3 c =
     let atFormAt = c .before .before .before in
     let a = atFormAt .before .before .args in
-    out-line-departs (now (a .text)) (a .n) (a .next) (a .at) _
+    out-line-departs (now (a .text)) (a .n) (a .next .0) (a .at) _
     (pair-departs-out _ _ (sym (ap pairGives (c .before .p .given .1)) ∙ atFormAt .form-at .ensures))
 
 returns-4 : tie.Need-returns-4
 returns-4 c =
-    let atFormAt = c .before .before .before .before .before in
+    let atFormAt = c .before .before .before .before .before .before in
     let a = atFormAt .before .before .args in
-    let read = pair-reads-out _ _ _ _ (sym (ap pairGives (c .before .before .before .relay .given .1)) ∙ atFormAt .form-at .ensures) in
-    out-line-taken (now (a .text)) (a .n) (a .next) (a .at) (read .0) _ _ (read .1) (read .2) (c .before .if1 .left) (c .if2 .left)
+    let read = pair-reads-out _ _ _ _ (sym (ap pairGives (c .before .before .before .before .relay .given .1)) ∙ atFormAt .form-at .ensures) in
+    out-line-taken (now (a .text)) (a .n) (a .next .0) (a .at) (read .0) _ _ (read .1) (read .2) (c .before .before .if1 .left) (c .if2 .left)
 
 pub read-out-spec : {M : Type 1} → statement M
 read-out-spec =

@@ -49,12 +49,6 @@ returns c =
 enum-known-relay : tie.Need-enum-known-relay Inv-loop μ-loop
 enum-known-relay c = search needs
 
-cast-withdraw : tie.Need-cast-withdraw Inv-loop μ-loop
-cast-withdraw c = search needs
-
-cast-withdraw-2 : tie.Need-cast-withdraw-2 Inv-loop μ-loop
-cast-withdraw-2 c = search needs
-
 withdraw-requires : tie.Need-withdraw-requires Inv-loop μ-loop
 withdraw-requires c κs =
     let rises = out-rises _ _ _ _ _ (c .before .before .before .before .read-out .ensures) _ _ (c .before .before .relay .given .1) in
@@ -62,24 +56,24 @@ withdraw-requires c κs =
 
 add-next : tie.Need-add-next Inv-loop μ-loop
 add-next c =
-    let atRelay = c .before .before .before .before .before in
+    let atRelay = c .before .before .before .before .before .before in
     let rises = out-rises _ _ _ _ _ (atRelay .before .before .read-out .ensures) _ _ (atRelay .relay .given .1) in
     omega (arith, rises)
 
 loop-less : tie.Need-loop-less Inv-loop μ-loop
 loop-less c =
-    let atRelay = c .before .before .before .before .before in
+    let atRelay = c .before .before .before .before .before .before in
     let rises = out-rises _ _ _ _ _ (atRelay .before .before .read-out .ensures) _ _ (atRelay .relay .given .1) in
     omega (arith, rises)
 
 loop-again : tie.Need-loop-again Inv-loop μ-loop
 loop-again c =
-    let atRelay = c .before .before .before .before .before in
+    let atRelay = c .before .before .before .before .before .before in
     let atDue = atRelay .before .before .before .before in
     let l = atDue .before .loop in
     let due = sym (atDue .out-due .ensures) ∙ atRelay .before .before .before .if1 .taken in
     let line = atRelay .before .before .read-out .ensures in
-    let told = c .before .before .withdraw .ensures in (
+    let told = c .before .before .before .withdraw .ensures in (
       told .same ∙ l .inv .0,
       out-next _ _ _ (l .states) _ _ (l .inv .1) (omega arith) _ line due _ _ _ (atRelay .relay .given .1) told,
     )
@@ -117,8 +111,6 @@ read-outs-spec =
     same-length
     returns
     enum-known-relay
-    cast-withdraw
-    cast-withdraw-2
     withdraw-requires
     add-next
     loop-less

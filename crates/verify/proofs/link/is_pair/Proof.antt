@@ -6,13 +6,13 @@ use Rattle.verify.proofs.link.is_pair.Tie as tie
 
 returns : tie.Need-returns
 returns c =
-    let a = c .before .args in
-    sym (rw (ne-eqb (a .low) (a .a) (c .if1 .taken)))
+    let a = c .before .before .before .args in
+    sym (rw (ne-eqb (a .low .0) (a .a .0) (c .if1 .taken)))
 
 returns-2 : tie.Need-returns-2
 returns-2 c =
-    let a = c .before .args in
-    sym (rw (eq-eqb (a .low) (a .a) (c .if1 .left)))
+    let a = c .before .before .before .before .before .args in
+    sym (rw (eq-eqb (a .low .0) (a .a .0) (c .before .before .if1 .left)))
 
 pub is-pair-spec : {M : Type 1} → statement M
 is-pair-spec = tie.close (tie.spec returns returns-2)

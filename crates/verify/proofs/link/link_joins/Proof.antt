@@ -11,10 +11,13 @@ use borrow.Author.Needs.{needs}
 use Rattle.verify.proofs.link.link_joins.Statement.{statement}
 use Rattle.verify.proofs.link.link_joins.Tie as tie
 
+cast-i : tie.Need-cast-i
+cast-i c = search needs
+
 returns : tie.Need-returns
 returns c =
-    let a = c .before .before .before .args in
-    sym (rw (le-ltb (a .l) (length (now (a .lows))) (c .if1 .taken)))
+    let a = c .before .before .before .before .args in
+    sym (rw (le-ltb (a .l .0) (length (now (a .lows))) (c .if1 .taken)))
 
 mul-low : tie.Need-mul-low
 mul-low c = search needs
@@ -35,10 +38,10 @@ returns-2 : tie.Need-returns-2
 unfolding joins isPair
 returns-2 c =
     let atPair = c .before in
-    let a = atPair .before .before .before .before .before .before .args in
-    let first : (eqb (getD (now (a .lows)) (a .l) 0) (a .a) && eqb (getD (now (a .highs)) (a .l) 0) (a .b)) ≡ true =
+    let a = atPair .before .before .before .before .before .before .before .args in
+    let first : (eqb (getD (now (a .lows)) (a .l .0) 0) (a .a .0) && eqb (getD (now (a .highs)) (a .l .0) 0) (a .b .0)) ≡ true =
     sym (atPair .is-pair .ensures) ∙ c .if2 .taken in
-    sym (rw (lt-ltb (a .l) (length (now (a .lows))) (omega arith), first))
+    sym (rw (lt-ltb (a .l .0) (length (now (a .lows))) (omega arith), first))
 
 is-pair-requires-2 : tie.Need-is-pair-requires-2
 is-pair-requires-2 c κs = search needs
@@ -47,16 +50,17 @@ returns-3 : tie.Need-returns-3
 unfolding joins isPair
 returns-3 c =
     let atPair = c .before .before in
-    let a = atPair .before .before .before .before .before .before .args in
-    let first : (eqb (getD (now (a .lows)) (a .l) 0) (a .a) && eqb (getD (now (a .highs)) (a .l) 0) (a .b)) ≡ false =
+    let a = atPair .before .before .before .before .before .before .before .args in
+    let first : (eqb (getD (now (a .lows)) (a .l .0) 0) (a .a .0) && eqb (getD (now (a .highs)) (a .l .0) 0) (a .b .0)) ≡ false =
     sym (atPair .is-pair .ensures) ∙ c .before .if2 .left in
     c .is-pair2 .ensures
-    ∙ sym (rw (lt-ltb (a .l) (length (now (a .lows))) (omega arith), first))
+    ∙ sym (rw (lt-ltb (a .l .0) (length (now (a .lows))) (omega arith), first))
 
 pub link-joins-spec : {M : Type 1} → statement M
 link-joins-spec =
     tie.close
     (tie.spec
+    cast-i
     returns
     mul-low
     shared-slice-read-low

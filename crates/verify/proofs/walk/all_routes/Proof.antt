@@ -22,8 +22,8 @@ Inv-loop n lows highs states text from to count at marks₀ p₀ direct₀ i₀ 
     MarkRoom marks
     × (i ≤ count)
     × ((routes overs : List (List ℕ)) → length routes ≡ count → LinesAt text at routes overs
-    → RoutesLeft n lows highs states text from to (marked marks) direct p (count - i)
-    (routesHold n lows highs states from to (marked marks₀) false routes overs))
+    → RoutesLeft n lows highs states text (from .0) (to .0) (marked marks) direct p (count - i)
+    (routesHold n lows highs states (from .0) (to .0) (marked marks₀) false routes overs))
 
 abbrev μ-loop : tie.MeasureT-loop
 μ-loop n lows highs states text from to count at marks₀ p₀ direct₀ i₀ marks p direct i = count - i
@@ -51,7 +51,7 @@ returns c =
     let a = l .before .before .before .before .before .before .args in
     λ routes overs many lines.
     absurd
-    (left-reads (a .n) (now (a .lows)) (now (a .highs)) (now (a .states)) (now (a .text)) (a .from) (a .to)
+    (left-reads (a .n) (now (a .lows)) (now (a .highs)) (now (a .states)) (now (a .text)) (a .from .0) (a .to .0)
     (marked (l .loop .marks)) (l .loop .direct) (l .loop .p)
     (a .count - l .loop .i) _
     (l .loop .inv .2 routes overs many lines) (omega (arith, atTwo .before .loop-test .taken)) _
@@ -80,7 +80,7 @@ returns-2 c =
     let a = l .before .before .before .before .before .before .args in
     λ routes overs many lines.
     sym
-    (left-fails (a .n) (now (a .lows)) (now (a .highs)) (now (a .states)) (now (a .text)) (a .from) (a .to)
+    (left-fails (a .n) (now (a .lows)) (now (a .highs)) (now (a .states)) (now (a .text)) (a .from .0) (a .to .0)
     (marked (l .loop .marks)) (l .loop .direct) (l .loop .p)
     (a .count - l .loop .i) _
     (l .loop .marks) refl (l .loop .inv .2 routes overs many lines) (omega (arith, atTwo .before .loop-test .taken)) _ _
@@ -109,7 +109,7 @@ loop-again c =
       omega (arith, atTwo .before .loop-test .taken),
       λ routes overs many lines.
           turned (c .direct-with .ensures) fewer
-          (left-next (a .n) (now (a .lows)) (now (a .highs)) (now (a .states)) (now (a .text)) (a .from) (a .to)
+          (left-next (a .n) (now (a .lows)) (now (a .highs)) (now (a .states)) (now (a .text)) (a .from .0) (a .to .0)
           (marked (l .loop .marks)) (l .loop .direct) (l .loop .p)
           (a .count - l .loop .i) _
           (l .loop .marks) refl (l .loop .inv .2 routes overs many lines) (omega (arith, atTwo .before .loop-test .taken)) _ _
@@ -126,7 +126,7 @@ returns-3 c =
     let a = l .before .before .before .before .before .before .args in
     λ routes overs many lines.
     sym
-    (none-left (a .n) (now (a .lows)) (now (a .highs)) (now (a .states)) (now (a .text)) (a .from) (a .to)
+    (none-left (a .n) (now (a .lows)) (now (a .highs)) (now (a .states)) (now (a .text)) (a .from .0) (a .to .0)
     (marked (l .loop .marks)) (l .loop .direct) (l .loop .p)
     (a .count - l .loop .i) _
     (l .loop .inv .2 routes overs many lines) (omega (arith, c .loop-test .left)))

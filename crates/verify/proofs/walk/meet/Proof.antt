@@ -9,6 +9,9 @@ use borrow.Author.Needs.{needs}
 use Rattle.verify.proofs.walk.meet.Statement.{statement}
 use Rattle.verify.proofs.walk.meet.Tie as tie
 
+cast-number : tie.Need-cast-number
+cast-number c = search needs
+
 mul-bits : tie.Need-mul-bits
 mul-bits c = search needs
 
@@ -33,13 +36,14 @@ same-length c = search needs
 returns : tie.Need-returns
 unfolding marked bitOf mark
 returns c =
-    let a = c .before .args in
-    (refl, ap (λ (x : ℕ). set (now (a .marks)) (a .relay / 64) (bitOr (getD (now (a .marks)) (a .relay / 64) 0) x)) (one-bit (a .relay)))
+    let a = c .before .before .args in
+    (refl, ap (λ (x : ℕ). set (now (a .marks)) (a .relay .0 / 64) (bitOr (getD (now (a .marks)) (a .relay .0 / 64) 0) x)) (one-bit (a .relay .0)))
 
 pub meet-spec : {M : Type 1} → statement M
 meet-spec =
     tie.close
     (tie.spec
+    cast-number
     mul-bits
     slice-read-bits
     shl-marks

@@ -42,7 +42,7 @@ returns c =
     let atFirst = c .before .before in
     let start = atFirst .before .before .before .before .before .before .before in
     let a = start .args in
-    no-route (a .n) (now (a .lows)) (now (a .highs)) (now (a .states)) (now (a .text)) (a .from) (a .to)
+    no-route (a .n) (now (a .lows)) (now (a .highs)) (now (a .states)) (now (a .text)) (a .from .0) (a .to .0)
     (a .relays) (a .links) (now (a .marks)) _
     (sym (atFirst .word-number .ensures) ∙ ap numberGives (c .enum-told .given .1)) (start .pre .1)
 
@@ -51,7 +51,7 @@ returns-2 c =
     let atWord = c .before .before in
     let start = atWord .before .before .before .before .before .before .before .before .before .before .before .before in
     let a = start .args in
-    no-links (a .n) (now (a .lows)) (now (a .highs)) (now (a .states)) (now (a .text)) (a .from) (a .to)
+    no-links (a .n) (now (a .lows)) (now (a .highs)) (now (a .states)) (now (a .text)) (a .from .0) (a .to .0)
     (a .relays) (a .links) (now (a .marks)) _
     (sym (atWord .word .ensures) ∙ ap wordGives (c .enum-told2 .given .1)) (start .pre .1)
 
@@ -62,27 +62,27 @@ returns-3 : tie.Need-returns-3
 returns-3 c =
     let atWalk = c .before .before in
     let atIf = atWalk .before .before in
-    let atWord = atIf .before .before .before .before in
+    let atWord = atIf .before .before .before .before .before in
     let atRelay = atWord .before .before .before in
     let atFirst = atRelay .before .before in
     let start = atFirst .before .before .before .before .before .before .before in
     let a = start .args in
-    starts-here (a .n) (now (a .lows)) (now (a .highs)) (now (a .states)) (now (a .text)) (a .from) (a .to)
+    starts-here (a .n) (now (a .lows)) (now (a .highs)) (now (a .states)) (now (a .text)) (a .from .0) (a .to .0)
     (a .relays) (a .links) (now (a .marks)) _ _ _
     (sym (atFirst .word-number .ensures) ∙ ap numberGives (atRelay .first .given .1))
-    (sym (atWord .word .ensures) ∙ ap wordGives (atIf .before .before .q .given .1)) (atIf .if1 .taken) _ _ (atWalk .walk .ensures)
+    (sym (atWord .word .ensures) ∙ ap wordGives (atIf .before .before .before .q .given .1)) (atIf .if1 .taken) _ _ (atWalk .walk .ensures)
 
 returns-4 : tie.Need-returns-4
 returns-4 c =
-    let atWord = c .before .before .before .before in
+    let atWord = c .before .before .before .before .before in
     let atRelay = atWord .before .before .before in
     let atFirst = atRelay .before .before in
     let start = atFirst .before .before .before .before .before .before .before in
     let a = start .args in
-    starts-elsewhere (a .n) (now (a .lows)) (now (a .highs)) (now (a .states)) (now (a .text)) (a .from) (a .to)
+    starts-elsewhere (a .n) (now (a .lows)) (now (a .highs)) (now (a .states)) (now (a .text)) (a .from .0) (a .to .0)
     (a .relays) (a .links) (now (a .marks)) _ _ _
     (sym (atFirst .word-number .ensures) ∙ ap numberGives (atRelay .first .given .1))
-    (sym (atWord .word .ensures) ∙ ap wordGives (c .before .before .q .given .1)) (c .if1 .left) (start .pre .1)
+    (sym (atWord .word .ensures) ∙ ap wordGives (c .before .before .before .q .given .1)) (c .if1 .left) (start .pre .1)
 
 pub route-steps-spec : {M : Type 1} → statement M
 route-steps-spec =

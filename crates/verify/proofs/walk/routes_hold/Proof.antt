@@ -32,10 +32,10 @@ returns c =
     let atMeet = atAll .before .before .before in
     let start = atMeet .before .before .before .before .before .before .before in
     let a = start .args in
-    subst (λ (met : ℕ → Bool). RoutesWalked (a .n) (now (a .lows)) (now (a .highs)) (now (a .states)) (now (a .text)) (a .from) (a .to)
+    subst (λ (met : ℕ → Bool). RoutesWalked (a .n) (now (a .lows)) (now (a .highs)) (now (a .states)) (now (a .text)) (a .from .0) (a .to .0)
     met (a .count) (a .at)
     (atAll .all-routes .result))
-    (ap marked (atMeet .meet .ensures .1) ∙ from-met _ (a .from) (atMeet .before .before .no-relays .ensures) (omega (arith, start .good)))
+    (ap marked (atMeet .meet .ensures .1) ∙ from-met _ (a .from .0) (atMeet .before .before .no-relays .ensures) (omega (arith, start .good)))
     (atAll .all-routes .ensures)
 
 pub routes-hold-spec : {M : Type 1} → statement M

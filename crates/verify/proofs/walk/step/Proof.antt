@@ -16,7 +16,7 @@ returns c =
     let atJoins = c .before in
     let start = atJoins .before .before .before .before .before in
     let a = start .args in
-    not-joined (a .n) (now (a .lows)) (now (a .highs)) (now (a .states)) (a .to) (a .a) (a .b) (a .l) (now (a .marks)) (start .pre .1)
+    not-joined (a .n) (now (a .lows)) (now (a .highs)) (now (a .states)) (a .to .0) (a .a .0) (a .b .0) (a .l .0) (now (a .marks)) (start .pre .1)
     (sym (atJoins .link-joins .ensures) ∙ not-true _ (c .if1 .taken))
 
 link-serves-requires : tie.Need-link-serves-requires
@@ -25,7 +25,7 @@ link-serves-requires c κs =
     let start = atJoins .before .before .before .before .before in
     let a = start .args in (
       start .pre .0,
-      link-there (a .n) (now (a .lows)) (now (a .highs)) (now (a .states)) (a .to) (a .a) (a .b) (a .l) (now (a .marks)) (start .pre .1)
+      link-there (a .n) (now (a .lows)) (now (a .highs)) (now (a .states)) (a .to .0) (a .a .0) (a .b .0) (a .l .0) (now (a .marks)) (start .pre .1)
           (sym (atJoins .link-joins .ensures) ∙ not-false _ (c .if1 .left)),
     )
 
@@ -35,7 +35,7 @@ returns-2 c =
     let atJoins = atServes .before .before in
     let start = atJoins .before .before .before .before .before in
     let a = start .args in
-    not-serving (a .n) (now (a .lows)) (now (a .highs)) (now (a .states)) (a .to) (a .a) (a .b) (a .l) (now (a .marks)) (start .pre .1)
+    not-serving (a .n) (now (a .lows)) (now (a .highs)) (now (a .states)) (a .to .0) (a .a .0) (a .b .0) (a .l .0) (now (a .marks)) (start .pre .1)
     (sym (atJoins .link-joins .ensures) ∙ not-false _ (atServes .before .if1 .left))
     (sym (atServes .link-serves .ensures) ∙ not-true _ (c .if2 .taken))
 
@@ -46,7 +46,7 @@ returns-3 c =
     let atJoins = atServes .before .before in
     let start = atJoins .before .before .before .before .before in
     let a = start .args in
-    from-end (a .n) (now (a .lows)) (now (a .highs)) (now (a .states)) (a .to) (a .a) (a .b) (a .l) (now (a .marks)) (start .pre .1)
+    from-end (a .n) (now (a .lows)) (now (a .highs)) (now (a .states)) (a .to .0) (a .a .0) (a .b .0) (a .l .0) (now (a .marks)) (start .pre .1)
     (sym (atJoins .link-joins .ensures) ∙ not-false _ (atServes .before .if1 .left))
     (sym (atServes .link-serves .ensures) ∙ not-false _ (atTwo .if2 .left))
     (c .if3 .taken)
@@ -58,7 +58,7 @@ returns-4 c =
     let atJoins = atServes .before .before in
     let start = atJoins .before .before .before .before .before in
     let a = start .args in
-    not-below (a .n) (now (a .lows)) (now (a .highs)) (now (a .states)) (a .to) (a .a) (a .b) (a .l) (now (a .marks)) (start .pre .1)
+    not-below (a .n) (now (a .lows)) (now (a .highs)) (now (a .states)) (a .to .0) (a .a .0) (a .b .0) (a .l .0) (now (a .marks)) (start .pre .1)
     (sym (atJoins .link-joins .ensures) ∙ not-false _ (atServes .before .if1 .left))
     (sym (atServes .link-serves .ensures) ∙ not-false _ (atTwo .if2 .left))
     (c .before .if3 .left) (c .if4 .taken)
@@ -70,7 +70,7 @@ returns-5 c =
     let atJoins = atServes .before .before in
     let start = atJoins .before .before .before .before .before in
     let a = start .args in
-    to-end (a .n) (now (a .lows)) (now (a .highs)) (now (a .states)) (a .to) (a .a) (a .b) (a .l) (now (a .marks)) (start .pre .1)
+    to-end (a .n) (now (a .lows)) (now (a .highs)) (now (a .states)) (a .to .0) (a .a .0) (a .b .0) (a .l .0) (now (a .marks)) (start .pre .1)
     (sym (atJoins .link-joins .ensures) ∙ not-false _ (atServes .before .if1 .left))
     (sym (atServes .link-serves .ensures) ∙ not-false _ (atTwo .if2 .left))
     (c .before .before .if3 .left) (omega (arith, c .before .if4 .left)) (c .if5 .taken)
@@ -90,7 +90,7 @@ returns-6 c =
     let atJoins = atServes .before .before in
     let start = atJoins .before .before .before .before .before in
     let a = start .args in
-    to-relay (a .n) (now (a .lows)) (now (a .highs)) (now (a .states)) (a .to) (a .a) (a .b) (a .l) (now (a .marks)) (start .pre .1)
+    to-relay (a .n) (now (a .lows)) (now (a .highs)) (now (a .states)) (a .to .0) (a .a .0) (a .b .0) (a .l .0) (now (a .marks)) (start .pre .1)
     (sym (atJoins .link-joins .ensures) ∙ not-false _ (atServes .before .if1 .left))
     (sym (atServes .link-serves .ensures) ∙ not-false _ (atTwo .if2 .left))
     (atFive .before .before .if3 .left) (omega (arith, atFive .before .if4 .left)) (atFive .if5 .left) (omega arith) _ _

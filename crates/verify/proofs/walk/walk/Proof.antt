@@ -14,12 +14,13 @@ use Rattle.verify.proofs.walk.walk.Statement.{statement}
 use Rattle.verify.proofs.walk.walk.Tie as tie
 
 abbrev Inv-loop : tie.InvT-loop
-Inv-loop n lows highs states text to first relays links marks₀ a₀ p₀ q₀ steps₀ marks a p q steps =
+Inv-loop n lows highs states text to relays links marks₀ a₀ p₀ q₀ steps₀ marks a p q steps =
     MarkRoom marks
-    × (walkFrom n lows highs states text to (marked marks₀) 0 first relays links ≡ walkFrom n lows highs states text to (marked marks) steps a p q)
+    × (walkFrom n lows highs states text (to .0) (marked marks₀) 0 a₀ relays links
+    ≡ walkFrom n lows highs states text (to .0) (marked marks) steps a p q)
 
 abbrev μ-loop : tie.MeasureT-loop
-μ-loop n lows highs states text to first relays links marks₀ a₀ p₀ q₀ steps₀ marks a p q steps = suc (length text) - steps
+μ-loop n lows highs states text to relays links marks₀ a₀ p₀ q₀ steps₀ marks a p q steps = suc (length text) - steps
 
 loop-holds : tie.Need-loop-holds Inv-loop μ-loop
 loop-holds c = (c .before .before .before .before .before .pre .1, refl)
@@ -44,7 +45,7 @@ returns c =
     let none = subst (NextHolds (now (a .text)) (l .loop .p) (l .loop .q)) (c .before .enum-told .given .1) (atNext .next-step .ensures) in
     walked-to
     (l .loop .inv .1
-    ∙ walk-ends (a .n) (now (a .lows)) (now (a .highs)) (now (a .states)) (now (a .text)) (a .to)
+    ∙ walk-ends (a .n) (now (a .lows)) (now (a .highs)) (now (a .states)) (now (a .text)) (a .to .0)
     (marked (l .loop .marks)) (l .loop .steps) (l .loop .a)
     (l .loop .p) (l .loop .q) (none .0) (none .1))
     (c .steps-at .ensures) (l .loop .inv .0)
@@ -63,7 +64,7 @@ returns-2 c =
     let uneven = subst (NextHolds (now (a .text)) (l .loop .p) (l .loop .q)) (c .enum-told2 .given .1) (atNext .next-step .ensures) in
     walked-to
     (l .loop .inv .1
-    ∙ walk-uneven (a .n) (now (a .lows)) (now (a .highs)) (now (a .states)) (now (a .text)) (a .to)
+    ∙ walk-uneven (a .n) (now (a .lows)) (now (a .highs)) (now (a .states)) (now (a .text)) (a .to .0)
     (marked (l .loop .marks)) (l .loop .steps) (l .loop .a)
     (l .loop .p) (l .loop .q) (atNext .before .loop-test .taken) uneven)
     refl (l .loop .inv .0)
@@ -90,7 +91,7 @@ returns-3 c =
     let stepped = atStep .step .ensures in
     walk-failed
     (l .loop .inv .1
-    ∙ walk-fails (a .n) (now (a .lows)) (now (a .highs)) (now (a .states)) (now (a .text)) (a .to)
+    ∙ walk-fails (a .n) (now (a .lows)) (now (a .highs)) (now (a .states)) (now (a .text)) (a .to .0)
     (marked (l .loop .marks)) (l .loop .steps) (l .loop .a)
     (l .loop .p) (l .loop .q) (atNext .before .loop-test .taken) _ _ _ _ (next .0) (next .1)
     (sym (stepped .holds) ∙ not-true _ (c .if1 .taken)))
@@ -114,7 +115,7 @@ loop-again c =
     let holds = not-false _ (c .if1 .left) in (
       stepped .room,
       l .loop .inv .1
-          ∙ walk-steps (a .n) (now (a .lows)) (now (a .highs)) (now (a .states)) (now (a .text)) (a .to)
+          ∙ walk-steps (a .n) (now (a .lows)) (now (a .highs)) (now (a .states)) (now (a .text)) (a .to .0)
           (marked (l .loop .marks)) (l .loop .steps) (l .loop .a)
           (l .loop .p) (l .loop .q) (atNext .before .loop-test .taken) _ _ _ _ (next .0) (next .1) _ (stepped .met holds) (sym (stepped .holds) ∙ holds),
     )
@@ -131,7 +132,7 @@ returns-4 c =
     let a = l .before .before .before .before .before .before .args in
     walked-to
     (l .loop .inv .1
-    ∙ walk-last (a .n) (now (a .lows)) (now (a .highs)) (now (a .states)) (now (a .text)) (a .to)
+    ∙ walk-last (a .n) (now (a .lows)) (now (a .highs)) (now (a .states)) (now (a .text)) (a .to .0)
     (marked (l .loop .marks)) (l .loop .steps) (l .loop .a)
     (l .loop .p) (l .loop .q) (omega (arith, c .before .loop-test .left)))
     (c .steps-at2 .ensures) (l .loop .inv .0)

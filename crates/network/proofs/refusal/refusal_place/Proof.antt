@@ -1,8 +1,8 @@
--- `network::refusal_place` meets its contract. Assumes nothing.
+-- `network::refusal::refusal_place` meets its contract. Assumes nothing.
 use borrow.Author.Needs.{needs}
 use Rattle.network.proofs.PlaceLaws.{no-place}
-use Rattle.network.proofs.refusal_place.Statement.{statement}
-use Rattle.network.proofs.refusal_place.Tie as tie
+use Rattle.network.proofs.refusal.refusal_place.Statement.{statement}
+use Rattle.network.proofs.refusal.refusal_place.Tie as tie
 
 enum-known-refusal : tie.Need-enum-known-refusal
 enum-known-refusal c = search needs

@@ -1,4 +1,4 @@
--- `network::pair_number` meets its contract: the tests on the way to each answer are those of the definition.
+-- `network::pairs::pair_number` meets its contract: the tests on the way to each answer are those of the definition.
 -- Assumes nothing.
 use native.Mathlib.Omega.{arith}
 use borrow.Author.Needs.{needs}
@@ -6,8 +6,8 @@ use borrow.Author.Tests.{le-leb, lt-leb}
 use Rattle.definitions.specs.Outcome.{refuseIf}
 use Rattle.definitions.specs.Network.{pairAnswer}
 use Rattle.network.specs.RowStarts.{rows-fewer}
-use Rattle.network.proofs.pair_number.Statement.{statement}
-use Rattle.network.proofs.pair_number.Tie as tie
+use Rattle.network.proofs.pairs.pair_number.Statement.{statement}
+use Rattle.network.proofs.pairs.pair_number.Tie as tie
 
 returns : tie.Need-returns
 unfolding pairAnswer refuseIf

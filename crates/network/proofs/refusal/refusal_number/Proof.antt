@@ -1,7 +1,7 @@
--- `network::refusal_number` meets its contract: each refusal has its number. Assumes nothing.
+-- `network::refusal::refusal_number` meets its contract: each refusal has its number. Assumes nothing.
 use borrow.Author.Needs.{needs}
-use Rattle.network.proofs.refusal_number.Statement.{statement}
-use Rattle.network.proofs.refusal_number.Tie as tie
+use Rattle.network.proofs.refusal.refusal_number.Statement.{statement}
+use Rattle.network.proofs.refusal.refusal_number.Tie as tie
 
 enum-told : tie.Need-enum-told
 enum-told c = search needs
