@@ -72,4 +72,4 @@ module _ (n : ℕ) (lows highs states : List ℕ) (k from to : ℕ) (passed : Ro
       ∙ getD-map (stepsOf (pairLink lows highs)) routes i [] [] within in
       subst (OverHolds lows highs (getD routes i [])) (sym over)
       (over-holds lows highs (one-link n lows highs (accepted n lows highs states (passed .accepted))) (Kept (marksOf n lows highs states k))
-      (getD routes i []) (omega (arith, holds .long)) (holds .along))
+      (getD routes i []) (omega (arith, holds .runs .long)) (holds .runs .along))

@@ -70,7 +70,7 @@ module _ (n : ℕ) (lows highs states : List ℕ) (ok : Accepted n lows highs st
       let proper = accepted n lows highs states ok in
       let route = getD (sheet .routes) i [] in
       let over = getD (sheet .overs) i [] in
-      let good = holds .disjoint .each i less in
+      let good = holds .disjoint .each i less .runs in
       let links = links-fit lows highs 10000 (omega (arith, proper .short)) route over (holds .over i (omega (arith, holds .many))) in
       let relays = members-below 10000 route (λ r member. omega (arith, proper .few, good .through r member .0)) in
       (good .long, omega (arith, links .many), relays, links .small)
@@ -80,7 +80,7 @@ module _ (n : ℕ) (lows highs states : List ℕ) (ok : Accepted n lows highs st
   sheet-fits =
       let proper = accepted n lows highs states ok in
       let route = getD (sheet .routes) 0 [] in
-      let first = holds .disjoint .each 0 (omega (arith, holds .some, holds .many)) in
+      let first = holds .disjoint .each 0 (omega (arith, holds .some, holds .many)) .runs in
       let start : getD route 0 0 < n = first .through _ (has-at route 0 (omega (arith, first .long))) .0 in
       let last = length route - 1 in
       let end : getD route last 0 < n = first .through _ (has-at route last (omega (arith, first .long))) .0 in
