@@ -63,8 +63,7 @@ fn answer(
     RouteAnswer::Refused(Refusal::NotOneTree)
 }
 
-// Route where all but 13 is passed, from what the scan gave, in arrays that are lent to it. `numbers` has the earlier end of each
-// link afterwards, as a place.
+// Route where all but 13 is passed, from what the scan gave; `numbers` has the earlier end of each link afterwards, as a place.
 pub(crate) fn route_over(
     n: u16,
     lows: &[u16],
@@ -82,11 +81,10 @@ pub(crate) fn route_over(
     links: &mut [u16],
     scratch: &mut [u16],
 ) -> RouteAnswer
-    requires { ⌜ OverSome n (now lows) (now highs) k from to (now order) (now places) (now numbers) (now a) (now b) (now counts)
-        (now relays) (now scratch) ⌝ }
-    ensures { λ r. ⌜ OverEach n (now (lows .entry)) (now (highs .entry)) k from to (now (order .entry)) (now (places .entry))
-        (now (numbers .entry)) (now (a .entry)) (now (b .entry)) (now (counts .entry)) (now (relays .entry)) (now (links .entry))
-        (now (scratch .entry)) (answered (now (counts .exit)) (now (relays .exit)) (now (links .exit)) (routeOutcome r)) ⌝ }
+    requires { ⌜ OverSome n (now lows) (now highs) k from to (now order) (now places) (now numbers) (now a) (now b) (now counts) (now relays) (now scratch) ⌝ }
+    ensures { λ r. ⌜ OverEach n (now (lows .entry)) (now (highs .entry)) k from to (now (order .entry)) (now (places .entry)) (now (numbers .entry))
+        (now (a .entry)) (now (b .entry)) (now (counts .entry)) (now (relays .entry)) (now (links .entry)) (now (scratch .entry))
+        (answered (now (counts .exit)) (now (relays .exit)) (now (links .exit)) (routeOutcome r)) ⌝ }
     ensures { λ _. ⌜ now (scratch .exit) ≡ zeroed (now (scratch .entry)) ⌝ }
 {
     let entries = k as usize * n as usize;
