@@ -63,8 +63,7 @@ fn answer(
     RouteAnswer::Refused(Refusal::NotOneTree)
 }
 
-// Route where all but 13 is passed, from what the scan gave, in arrays that are lent to it. `numbers` has the earlier end of each
-// link afterwards, as a place.
+// Route where all but 13 is passed, from what the scan gave; `numbers` has the earlier end of each link afterwards, as a place.
 pub(crate) fn route_over(
     n: u16,
     lows: &[u16],
