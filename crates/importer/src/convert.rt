@@ -8,6 +8,8 @@ ghost use Rattle.definitions.specs.Import.{importText};
 ghost use Rattle.program.specs.ReadStage.{Loads};
 ghost use Rattle.importer.specs.Printed.{Printed};
 use import::import;
+use network::limits::LINK_ROOM;
+use network::limits::RELAY_ROOM;
 use program::refusal::put_any;
 use program::rooms;
 use text::ReadAnswer;
@@ -23,9 +25,9 @@ pub fn output() -> [u8; OUTPUT] {
 // Import, with room for every network.
 fn load_drawing(
     input: &[u8],
-    lows: &mut [u16; 3000],
-    highs: &mut [u16; 3000],
-    states: &mut [u16; 1000],
+    lows: &mut [u16; LINK_ROOM],
+    highs: &mut [u16; LINK_ROOM],
+    states: &mut [u16; RELAY_ROOM],
 ) -> ReadAnswer
     requires { ⌜ (length (now lows) ≡ 3000) × (length (now highs) ≡ 3000) × (length (now states) ≡ 1000) ⌝ }
     ensures { λ r. ⌜ Loads (importNetwork (now (input .entry)) 3000 3000 1000) r (now (lows .exit)) (now (highs .exit)) (now (states .exit)) ⌝ }

@@ -1,4 +1,4 @@
-// The mark that stands on a lent text: the reader goes through the text by it, form by form.
+// The mark that stands on a lent text: the reader sets one for each form, where the form is due.
 // Both functions over it are proved by hand; the form itself is read by a function on slice and offset.
 ghost use mathlib.Core.Path.{_≡_};
 ghost use Rattle.definitions.specs.Form.{scanForm};
