@@ -6,6 +6,7 @@ wrong=0
 
 # same WHAT DUE WRITTEN, where line ends at the end count: both with a last '.'.
 same() {
+    set -- "$1${what_for:-}" "$2" "$3"
     tried=$((tried + 1))
     if [ "$2" != "$3" ]; then
         wrong=$((wrong + 1))
