@@ -46,9 +46,15 @@ both_sums() {
     own=$(sha256sum <"$here/target/bin/$1") 2>/dev/null && [ -n "$2" ] && echo "${2%% *} ${own%% *}"
 }
 
-# replace FILE TEXT: a file of target/bin as a whole, or as it was where nothing can be written.
+# replace FILE TEXT [TEST ..]: a file of target/bin as a whole, if it passes the test; as it was where nothing can be written.
 replace() {
-    { printf '%s\n' "$2" >"$1.$$" && mv -f -- "$1.$$" "$1"; } 2>/dev/null || { rm -f -- "$1.$$"; } 2>/dev/null
+    local new=$1.$$
+    { printf '%s\n' "$2" >"$new" && { [ $# -eq 2 ] || "${@:3}" "$new"; } && mv -f -- "$new" "$1" || rm -f -- "$new"; } 2>/dev/null
+}
+
+# keeps_times FILE: whether the disk of a file just written keeps the time of its last change when its date is set back.
+keeps_times() {
+    touch -d '2000-01-01' -- "$1" && [ -n "$(find "$1" -newerct "@$((taken_at - 2))")" ]
 }
 
 # unchanged PROGRAM: whether the listing is the same as when the sums last agreed.
@@ -57,13 +63,13 @@ unchanged() {
 }
 
 # agree PROGRAM: whether the sums are those that it was built with. The listing from before they were taken is kept, unless one of its
-# files changed less than two seconds earlier: a change right after it could have the same time.
+# files changed less than two seconds earlier, when a change right after it could have the same time.
 agree() {
     local taken_at now='' due='' sums young listing=$here/target/bin/$1.listing
     printf -v taken_at '%(%s)T' -1
     [ -x "$here/target/bin/$1" ] && sources "$1" && now=$(listing "$1") && { IFS= read -r due <"$here/target/bin/$1.sums"; } 2>/dev/null
     [ -n "$due" ] && sums=$(both_sums "$1" "$(sources_sum)") && [ "$sums" = "$due" ] || return 1
-    young=$(files "$1" -newerct "@$((taken_at - 2))" -print -quit) && [ -z "$young" ] && replace "$listing" "$now"
+    young=$(files "$1" -newerct "@$((taken_at - 2))" -print -quit) && [ -z "$young" ] && replace "$listing" "$now" keeps_times
     return 0
 }
 
