@@ -1,7 +1,7 @@
 //! Drawings worked out by hand from #106 of document 02, each style and each way of spoiling one, and the plain program against the
 //! fast one on seeded drawings.
 
-use crate::import::{import, network};
+use crate::dimacs::{import, network};
 use crate::drawings::{STYLES, drawn, mend, plain};
 use crate::examples::{mesh, net, read_alike, refused};
 use crate::generate::{any, scratch};

@@ -1,7 +1,7 @@
 //! The library's import against the second version: drawings of a network in several styles, spoilt and damaged, into lists that are too
 //! short, exact or longer.
 
-use crate::import::{PROBLEM, line};
+use crate::dimacs::{PROBLEM, line};
 use crate::drawings::drawn;
 use crate::generate::scratch;
 use crate::lengths::{Lengths, any_length, mostly_enough};

@@ -1,7 +1,7 @@
 //! How an input is answered, coarsely: the fuzzer keeps what is answered in a new manner. What the two versions agree on is taken
 //! from the second one, so the manners stand for the ways through the reader, the refusals and the sweep.
 
-use crate::import::network;
+use crate::dimacs::network;
 use crate::forests::{earlier, ordering, places};
 use crate::sweep::{Wish, sweep};
 use crate::table::{Network, Refusal, check, known};

@@ -2,7 +2,7 @@
 
 use crate::forests::cut;
 use crate::over::over;
-use crate::plan::{Route, Sheet};
+use crate::sheet::{Route, Sheet};
 use crate::sweep::{Wish, route};
 use crate::table::Refusal;
 use crate::text::{form, read_whole};

@@ -4,7 +4,7 @@ use crate::flow::{self, greatest};
 use crate::forests::keeps;
 use crate::over::over;
 use crate::random::Random;
-use crate::plan::{Route, Sheet};
+use crate::sheet::{Route, Sheet};
 use crate::sweep::Wish;
 use crate::table::Network;
 use std::collections::VecDeque;

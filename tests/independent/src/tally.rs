@@ -104,6 +104,22 @@ impl Tally {
         assert!(library == reference, "{operation}: library {library:?}\nreference {reference:?}\ninput {input:?}");
     }
 
+    /// What another comparison counted, too.
+    pub fn add(&mut self, other: Tally) {
+        fn sum<K: Ord>(ours: &mut BTreeMap<K, u64>, theirs: BTreeMap<K, u64>) {
+            theirs.into_iter().for_each(|(kind, times)| *ours.entry(kind).or_default() += times);
+        }
+        sum(&mut self.codes, other.codes);
+        sum(&mut self.facts, other.facts);
+        sum(&mut self.starts, other.starts);
+        sum(&mut self.lasts, other.lasts);
+        sum(&mut self.states, other.states);
+        sum(&mut self.outs, other.outs);
+        sum(&mut self.sheets, other.sheets);
+        sum(&mut self.faults, other.faults);
+        sum(&mut self.drawings, other.drawings);
+    }
+
     /// A fact about what an operation gave.
     pub fn holds(&mut self, operation: &'static str, fact: &'static str, held: bool, input: &dyn Debug) {
         *self.facts.entry((operation, fact)).or_default() += 1;

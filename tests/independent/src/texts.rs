@@ -31,7 +31,7 @@ pub struct Reader {
 }
 
 const READ: Reader = Reader { name: "read", library: library::read, reference: text::read };
-pub const IMPORT: Reader = Reader { name: "import", library: library::import, reference: import::import };
+pub const IMPORT: Reader = Reader { name: "import", library: library::import, reference: dimacs::import };
 
 /// A text through one of them, with every entry of the three lists, which have these lengths; gives the lists.
 pub fn into_lists(random: &mut Random, tally: &mut Tally, reader: &Reader, input: &[u8], lengths: [usize; 3]) -> [Vec<u16>; 3] {

@@ -4,7 +4,7 @@
 use crate::generate::{alter, any, scratch};
 use crate::library::{self, Report};
 use crate::random::Random;
-use crate::plan::Sheet;
+use crate::sheet::Sheet;
 use crate::sheets::{CHANGES, Known, STILL, crossing, direct_twice, flowing, formerly, there_and_back};
 use crate::table::Network;
 use crate::tally::Tally;

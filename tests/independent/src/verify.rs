@@ -1,7 +1,7 @@
 //! Document 02, #103: a sheet's text read by its form, and whether the sheet holds for a network.
 
 use crate::forests::{keeps, numbers};
-use crate::plan::{Route, Sheet};
+use crate::sheet::{Route, Sheet};
 use crate::table::{Network, Refusal, check, plain};
 use crate::text::form;
 

@@ -1,5 +1,5 @@
 //! Times the proved library beside the plain Rust version and the flow program: the same networks, side by side in one run.
-//! bench FOLDER [BATCHES] writes FOLDER/SPEED.md and FOLDER/speed.svg; each time is the least of BATCHES, 25 if not given.
+//! bench FOLDER [BATCHES] writes SPEED.md, speed.tsv and speed.svg to FOLDER; each time is the least of BATCHES, 25 if not given.
 //! bench --count is the run of it in which callgrind counts the instructions.
 
 mod counts;
@@ -101,6 +101,8 @@ fn main() {
     let page = page::page(&bench, &machine);
     let goals = page.lines().filter(|line| line.contains("| met |") || line.contains("| missed |"));
     goals.for_each(|line| println!("{line}"));
-    std::fs::write(format!("{folder}/SPEED.md"), page).expect("SPEED.md is written");
-    std::fs::write(format!("{folder}/speed.svg"), plot::plot(&bench.rows)).expect("speed.svg is written");
+    let files = [("SPEED.md", page), ("speed.tsv", page::every_row(&bench.rows)), ("speed.svg", plot::plot(&bench.rows))];
+    for (name, text) in files {
+        std::fs::write(format!("{folder}/{name}"), text).unwrap_or_else(|fault| panic!("{folder}/{name}: {fault}"));
+    }
 }

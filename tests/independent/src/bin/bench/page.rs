@@ -1,6 +1,6 @@
-//! The page: goals first, then a table of the times for each kind of network, then the same of the instructions.
+//! The page: goals first, then the worst row of each operation by time and by instructions; and every row as a file of its own.
 
-use super::works::{KINDS, LARGEST};
+use super::works::LARGEST;
 use super::{Bench, Cost, Row};
 use std::fmt::Write;
 
@@ -68,20 +68,47 @@ fn goals(page: &mut String, rows: &[Row]) {
     under("`read` under 1 ms", 1000.0, &|row| row.what == "read");
 }
 
-/// A table for each kind of network, under a heading each.
-fn tables(page: &mut String, heading: &str, rows: &[Row], cost: impl Fn(&Row) -> Option<&Cost>) {
-    for kind in KINDS {
-        write!(page, "\n{heading} {kind}\n\n| n | m | operation | library | plain Rust | ratio | flow program | ratio |\n|---|---|---|---|---|---|---|---|\n")
-            .unwrap();
-        for row in rows.iter().filter(|row| row.kind == kind) {
-            let Some(cost) = cost(row) else { continue };
-            let Row { n, m, what, .. } = row;
-            let (library, plain, ratio) = (short(cost.library), short(cost.plain), cost.to_plain());
-            let flow = cost.flow.zip(cost.to_flow());
-            let flow = flow.map_or(" | ".into(), |(flow, ratio)| format!("{} | {ratio:.2}", short(flow)));
-            writeln!(page, "| {n} | {m} | {what} | {library} | {plain} | {ratio:.2} | {flow} |").unwrap();
+/// The operation of a row, whatever k is.
+fn operation(row: &Row) -> &str {
+    row.what.split(", k ").next().unwrap_or(&row.what)
+}
+
+/// For each operation the row in which the library does worst beside plain Rust, and that in which it does worst beside the flow
+/// program where that has a part in it.
+fn worst_rows(page: &mut String, rows: &[Row], cost: impl Fn(&Row) -> Option<&Cost>) {
+    page.push_str("\n| operation | network | m | library | beside | | ratio |\n|---|---|---|---|---|---|---|\n");
+    let mut seen = vec![];
+    for what in rows.iter().map(operation) {
+        if seen.contains(&what) {
+            continue;
+        }
+        seen.push(what);
+        let of: Vec<(&Row, &Cost)> =
+            rows.iter().filter(|row| operation(row) == what).filter_map(|row| Some((row, cost(row)?))).collect();
+        let plain = of.iter().map(|(row, cost)| (row, cost, "plain Rust", cost.to_plain()));
+        let flow = of.iter().filter_map(|(row, cost)| Some((row, cost, "flow program", cost.to_flow()?)));
+        let worst = [plain.max_by(|a, b| a.3.total_cmp(&b.3)), flow.max_by(|a, b| a.3.total_cmp(&b.3))];
+        for (Row { kind, n, m, what, .. }, cost, beside, ratio) in worst.into_iter().flatten() {
+            let (library, other) = (short(cost.library), short(cost.library / ratio));
+            writeln!(page, "| {what} | {kind} {n} | {m} | {library} | {beside} | {other} | {ratio:.2} |").unwrap();
         }
     }
+}
+
+/// Every row with its costs, the fields parted by tabs: times in microseconds, then instructions in thousands where they were
+/// counted. A field is empty where the flow program has no part in it.
+pub fn every_row(rows: &[Row]) -> String {
+    let costs = |cost: Option<&Cost>| match cost {
+        None => "\t\t".into(),
+        Some(Cost { library, plain, flow }) => format!("{}\t{}\t{}", short(*library), short(*plain), flow.map_or(String::new(), short)),
+    };
+    let heads = ["library", "plain Rust", "flow program"];
+    let heads = ["µs", "thousand instructions"].map(|unit| heads.map(|head| format!("{head}, {unit}")).join("\t"));
+    let mut text = format!("network\tn\tm\toperation\t{}\n", heads.join("\t"));
+    for Row { kind, n, m, what, time, count } in rows {
+        writeln!(text, "{kind}\t{n}\t{m}\t{what}\t{}\t{}", costs(Some(time)), costs(count.as_ref())).unwrap();
+    }
+    text
 }
 
 pub fn page(bench: &Bench, machine: &str) -> String {
@@ -99,20 +126,22 @@ pub fn page(bench: &Bench, machine: &str) -> String {
          `import` is given a drawing of the links without comments, the low end first in each line or, with `ends mixed`, in half of them; with\n\
          `by read` the column of plain Rust has the library's own `read`, on a text of the same links without `out` lines.\n\
          Networks: `random` has three links a relay, `band` links each relay to the next three, `core` is a full network of 70 with a tree on it,\n\
-         and `thinned` is `random` with each tenth relay withdrawn; in the others all are in service.\n\n\
+         and `thinned` is `random` with each tenth relay withdrawn; in the others all are in service.\n\
+         `speed.tsv` has every row: each operation on each network, with its times and instructions.\n\n\
          ![Time by size of the network](speed.svg)\n",
     );
     goals(&mut page, rows);
-    tables(&mut page, "##", rows, |row| Some(&row.time));
+    page.push_str("\n## The worst row of each operation\n");
+    worst_rows(&mut page, rows, |row| Some(&row.time));
     if rows.iter().any(|row| row.count.is_some()) {
         page.push_str(
-            "\n## Instructions\n\n\
-             Thousands of instructions of one call, counted by callgrind in a run of its own: each call of the tables above once, after one that is\n\
+            "\n## The same by instructions\n\n\
+             Thousands of instructions of one call, counted by callgrind in a run of its own: each call of a row once, after one that is\n\
              not counted. Unlike times they hardly vary, but they do not show what memory, branches and parallel execution cost: times are still\n\
              what the goals are judged by. The allocator's instructions are counted with those of the flow program and of plain Rust, which\n\
              allocate. The C library sets and copies memory without `rep` instructions here, since callgrind counts these once a byte.\n",
         );
-        tables(&mut page, "###", rows, |row| row.count.as_ref());
+        worst_rows(&mut page, rows, |row| row.count.as_ref());
     }
     page
 }
