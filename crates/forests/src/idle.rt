@@ -8,7 +8,7 @@ ghost use Rattle.forests.specs.Counts.{turnsOf};
 ghost use Rattle.forests.specs.LinkCounts.{lessLink, discounted, Discountable, ServingCounted};
 
 // How many of the first n relays are in service.
-pub(crate) fn serving(n: u16, states: &[u16]) -> u16
+pub fn serving(n: u16, states: &[u16]) -> u16
     requires { ⌜ (n ≤ 1000) × ProperStates n (now states) ⌝ }
     ensures { λ turns. ⌜ turns ≡ turnsOf n (now (states .entry)) ⌝ }
 {

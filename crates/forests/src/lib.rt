@@ -18,12 +18,12 @@ mod busiest;
 mod chains;
 pub mod clear;
 mod counts;
-mod idle;
+pub mod idle;
 pub mod left;
 mod marks;
 mod placing;
 mod relays;
-mod results;
+pub mod results;
 pub mod scan;
 mod walk;
 

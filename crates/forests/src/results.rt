@@ -13,7 +13,7 @@ ghost use Rattle.definitions.specs.Order.{orderOf, placesOf};
 ghost use Rattle.definitions.specs.Forests.{forestsOf};
 
 // The order and the places alone.
-pub(crate) fn place_relays(
+pub fn place_relays(
     n: u16,
     lows: &[u16],
     highs: &[u16],

@@ -8,6 +8,5 @@ pub mod Routes
 pub mod Overs
 pub mod Longest
 pub mod Promise
-pub mod Sure
 pub mod LinkRooms
 pub mod Stages

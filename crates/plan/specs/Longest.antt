@@ -82,7 +82,7 @@ kept-few k network =
 
 -- A sheet: its line has at most 39 bytes, the two lines of each route 15 and 4 for each relay and 5 for each link, the two last lines
 -- 12 and 6: 39 + 32 × 15 + 4 × 1,062 + 5 × 1,030 + 12 + 6 = 9,935 bytes.
-sheet-length : (from to k : ℕ) (network : Network) (sheet : Sheet)
+pub sheet-length : (from to k : ℕ) (network : Network) (sheet : Sheet)
     → from < 10000 → to < 10000 → SheetFor from to k network sheet → length (sheetText sheet) ≤ outputRoom
 unfolding outputRoom sheetText span sheetForm keptForm endForm
 sheet-length from to k network sheet smallFrom smallTo given =

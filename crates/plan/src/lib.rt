@@ -15,7 +15,7 @@ use wish::wish_line;
 
 pub mod print;
 pub mod rooms;
-mod stages;
+pub mod stages;
 pub mod wish;
 
 // Prints the sheet or the refused line for an input, from the output's first byte on, and gives its length.

@@ -64,7 +64,7 @@ fn plan_routes(
 }
 
 // Cut, and what follows.
-fn plan_cut(
+pub fn plan_cut(
     output: &mut [u8],
     n: u16,
     lows: &[u16],

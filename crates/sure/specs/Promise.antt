@@ -24,17 +24,18 @@ use Rattle.definitions.specs.LastTwo.{lastRelay, lastButOne, sureFigure, AnyLin
 use Rattle.definitions.specs.Sure.{fewForm, noneForm, lastOf, beforeOf, figureOf, servingOf, figureText, surer, sureText}
 use Rattle.definitions.specs.SurePromise.{FigureSheet, FigureLine, Figure, TooFew, SurePrinted, SurePromise}
 use Rattle.lists.specs.Ranges.{inside-range}
+use Rattle.lists.specs.RefusedWithin.{RefusedAs}
 use Rattle.theory.specs.Accepted.{accepted}
 use Rattle.theory.specs.Places.{relays-after, relay-entry}
 use Rattle.theory.specs.LastTwo.{last-two}
 use Rattle.text_theory.specs.Spans.{span}
 use Rattle.text_theory.specs.Reach.{network-reach}
 use Rattle.text_theory.specs.Programs.{AnswersAs, answered, outcome-reach}
-use Rattle.program.specs.Printable.{network-printable, roomy}
+use Rattle.program.specs.Printable.{Printable, network-printable, roomy}
 use Rattle.program.specs.ReadStage.{length-room, asked-accepted}
-use Rattle.plan.specs.Planned.{sheetOf, keptOf, kept-ones}
+use Rattle.plan.specs.Planned.{sheetOf, keptOf, SheetFor, kept-ones}
 use Rattle.plan.specs.Refusals.{rooms-fit}
 use Rattle.plan.specs.Promise.{sheet-holds}
 
 -- A range that is missed.
 missed : (x : ℕ) → outside 1 32 x ≡ true → (x ≡ 0) ⊎ (32 < x)
@@ -93,23 +94,27 @@ module _ (w : Network) (good : Accepted (w .relays) (w .lows) (w .highs) (w .sta
         two-hold 1 (omega arith) (omega arith) .noMore (lastOf w) (beforeOf w) (inl (last-same, before-same)) routes disjoint,
       )
 
-  -- Route delivers d routes, so the sheet holds.
-  figure-sheet : 1 ≤ figureOf w → figureOf w ≤ 32 → FigureSheet w (sheetBytes w)
-  figure-sheet some few =
+  -- Route delivers d routes,
+  pub sheet-given : 1 ≤ figureOf w → figureOf w ≤ 32
+      → SheetFor (lastOf w) (beforeOf w) (figureOf w) w (sheetFor (lastOf w) (beforeOf w) (figureOf w) w)
+  sheet-given some few =
       let fits = rooms-fit (w .relays) (figureOf w) (accepted (w .relays) (w .lows) (w .highs) (w .states) good .few) few in
       let delivered =
       two-hold (figureOf w) some few .delivers figure-same (lastOf w) (beforeOf w) (inl (last-same, before-same)) (room 32) (room 1062)
       (room 32000) fits in
-      let same = kept-ones (lastOf w) (beforeOf w) (figureOf w) w in
+      record { answer = _; routed = delivered .answered; sheetIs = kept-ones (lastOf w) (beforeOf w) (figureOf w) w }
+
+  -- so the sheet holds.
+  figure-sheet : 1 ≤ figureOf w → figureOf w ≤ 32 → FigureSheet w (sheetBytes w)
+  figure-sheet some few =
+      let given = sheet-given some few in
       record {
         sheet = sheetOf (lastOf w) (beforeOf w) (figureOf w) w (keptOf (figureOf w) w);
-        printed = ap sheetText same;
+        printed = ap sheetText (given .sheetIs);
         fromLast = refl;
         toBefore = refl;
         many = refl;
-        holds =
-            sheet-holds (lastOf w) (beforeOf w) (figureOf w) w (sheetFor (lastOf w) (beforeOf w) (figureOf w) w)
-            (record { answer = _; routed = delivered .answered; sheetIs = same });
+        holds = sheet-holds (lastOf w) (beforeOf w) (figureOf w) w (sheetFor (lastOf w) (beforeOf w) (figureOf w) w) given;
       }
 
   figure-told : Figure w (pick (outside 1 32 (figureOf w)) (lineOf w) (sheetBytes w))
@@ -132,11 +137,15 @@ figured numbers w good = record { accepted = good; figure = go (ltb (servingOf w
     go true e = inr (record { few = ltb-true (servingOf w) 2 e; printed = refl })
     go false e = inl (figure-told w good (ltb-false (servingOf w) 2 e))
 
+pub sure-printable : (input : List ℕ) → RefusedAs Printable (outcomeOf surer (λ _ network. network) input)
+unfolding span AnswersAs
+sure-printable input = network-printable [] (λ _ _. []) (λ _ network. network) input (omega arith) (λ _ _ _. tt)
+
 sure-answered : (input : List ℕ) → Answered surer SurePrinted input (sureText input)
-unfolding sureText span AnswersAs
+unfolding sureText
 sure-answered input =
     answered surer (λ _ network. network) input figureText SurePrinted
-    (roomy (outcomeOf surer (λ _ network. network) input) (network-printable [] (λ _ _. []) (λ _ network. network) input (omega arith) (λ _ _ _. tt)))
+    (roomy (outcomeOf surer (λ _ network. network) input) (sure-printable input))
     (λ numbers network asked _.
     figured numbers network (asked-accepted [] (λ _ _. []) input numbers network asked))
 

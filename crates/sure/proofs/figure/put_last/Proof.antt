@@ -1,0 +1,69 @@
+-- `sure::figure::put_last` meets its contract: the line where the last relay has no link or more than 32, or the planner's sheet.
+-- Rests on #107.
+use mathlib.Core.Path.{ap}
+use native.Mathlib.Omega.{arith}
+use lib.ListN.{length}
+use Rattle.lists.specs.Ranges.{below, above}
+use Rattle.sure.specs.Lines.{none-text, sheet-text}
+use borrow.Author.Needs.{needs}
+use Rattle.sure.proofs.figure.put_last.Statement.{statement}
+use Rattle.sure.proofs.figure.put_last.Tie as tie
+
+put-none-requires : tie.Need-put-none-requires
+put-none-requires c κs =
+    let atIf = c .before in
+    let start = atIf .before .before .before .before .before in
+    omega (arith, start .pre .1, ap length (none-text _ _ _ _ (start .pre .0) (below 1 32 _ (atIf .if1 .taken))))
+
+same-length : tie.Need-same-length
+same-length c = search needs
+
+returns : tie.Need-returns
+returns c =
+    let atIf = c .before .before .before .before in
+    let start = atIf .before .before .before .before .before in
+    rw (none-text _ _ _ _ (start .pre .0) (below 1 32 _ (atIf .if1 .taken))) (c .before .before .put-none .ensures)
+
+put-none-requires-2 : tie.Need-put-none-requires-2
+put-none-requires-2 c κs =
+    let atIf = c .before in
+    let start = atIf .before .before .before .before .before .before in
+    omega (arith, start .pre .1, ap length (none-text _ _ _ _ (start .pre .0) (above 1 32 _ (omega (arith, atIf .before .if1 .left)) (atIf .if2 .taken))))
+
+same-length-2 : tie.Need-same-length-2
+same-length-2 c = search needs
+
+returns-2 : tie.Need-returns-2
+returns-2 c =
+    let atIf = c .before .before .before .before in
+    let start = atIf .before .before .before .before .before .before in
+    rw (none-text _ _ _ _ (start .pre .0) (above 1 32 _ (omega (arith, atIf .before .if1 .left)) (atIf .if2 .taken))) (c .before .before .put-none2 .ensures)
+
+plan-cut-requires : tie.Need-plan-cut-requires
+plan-cut-requires c κs =
+    let atIf = c .before in
+    let start = atIf .before .before .before .before .before .before in
+    omega (arith, start .pre .1, ap length (sheet-text _ _ _ _ (start .pre .0) (omega (arith, atIf .before .if1 .left)) (omega (arith, atIf .if2 .left))))
+
+same-length-3 : tie.Need-same-length-3
+same-length-3 c = search needs
+
+returns-3 : tie.Need-returns-3
+returns-3 c =
+    let atIf = c .before .before .before .before in
+    let start = atIf .before .before .before .before .before .before in
+    rw (sheet-text _ _ _ _ (start .pre .0) (omega (arith, atIf .before .if1 .left)) (omega (arith, atIf .if2 .left))) (c .before .before .plan-cut .ensures)
+
+pub put-last-spec : {M : Type 1} → statement M
+put-last-spec =
+    tie.close
+    (tie.spec
+    put-none-requires
+    same-length
+    returns
+    put-none-requires-2
+    same-length-2
+    returns-2
+    plan-cut-requires
+    same-length-3
+    returns-3)

@@ -1,0 +1,77 @@
+// What is printed for an accepted network, from the output's first byte on. Each returns the length of what it wrote.
+ghost use mathlib.Core.List.{[], _∷_};
+ghost use Prim.Native.Nat.{_≤_};
+ghost use lib.ListN.{length};
+ghost use Rattle.definitions.specs.Form.{writeForm};
+ghost use Rattle.definitions.specs.Network.{Accepted};
+ghost use Rattle.definitions.specs.Sure.{noneForm, figureText};
+ghost use Rattle.text.specs.Put.{Put};
+ghost use Rattle.program.specs.ReadStage.{networkOf};
+ghost use Rattle.sure.specs.Lines.{LastOf};
+use crate::links::links_at;
+use forests::idle::serving;
+use forests::results::place_relays;
+use plan::stages::plan_cut;
+use program::line::put_single;
+use program::rooms;
+use text::put;
+
+// `(none (from LAST) (to PRIOR) (links LINKS))` and its line end.
+fn put_none(output: &mut [u8], last: usize, prior: usize, links: usize) -> usize
+    requires { ⌜ length (writeForm noneForm (last ∷ prior ∷ links ∷ [])) ≤ length (now output) ⌝ }
+    ensures { λ r. ⌜ Put (now (output .entry)) 0 (writeForm noneForm (last ∷ prior ∷ links ∷ [])) (now (output .exit)) r ⌝ }
+{
+    let p = put::put_word_number(output, 0, b"(none (from ", last);
+    put::put_pair(output, p, b") (to ", prior, b") (links ", links, b"))\n")
+}
+
+// The sheet for the last two relays, or the line where the last has no link or more than 32.
+fn put_last(
+    output: &mut [u8],
+    n: u16,
+    lows: &[u16],
+    highs: &[u16],
+    states: &[u16],
+    last: u16,
+    prior: u16,
+    links: u16,
+) -> usize
+    requires { ⌜ LastOf (networkOf n (now lows) (now highs) (now states)) last prior links ⌝ }
+    requires { ⌜ length (figureText (networkOf n (now lows) (now highs) (now states))) ≤ length (now output) ⌝ }
+    ensures { λ r. ⌜ Put (now (output .entry)) 0 (figureText (networkOf n (now (lows .entry)) (now (highs .entry)) (now (states .entry))))
+        (now (output .exit)) r ⌝ }
+{
+    if links < 1 {
+        return put_none(output, last as usize, prior as usize, links as usize);
+    }
+    if 32 < links {
+        return put_none(output, last as usize, prior as usize, links as usize);
+    }
+    plan_cut(output, n, lows, highs, states, last, prior, links)
+}
+
+// The last two relays of the order and how many links the last has; the line where fewer than two relays are in service.
+pub(crate) fn put_figure(
+    output: &mut [u8],
+    n: u16,
+    lows: &[u16],
+    highs: &[u16],
+    states: &[u16],
+) -> usize
+    requires { ⌜ Accepted n (now lows) (now highs) (now states) ⌝ }
+    requires { ⌜ length (figureText (networkOf n (now lows) (now highs) (now states))) ≤ length (now output) ⌝ }
+    ensures { λ r. ⌜ Put (now (output .entry)) 0 (figureText (networkOf n (now (lows .entry)) (now (highs .entry)) (now (states .entry))))
+        (now (output .exit)) r ⌝ }
+{
+    let count = serving(n, states) as usize;
+    if count < 2 {
+        return put_single(output, 0, b"(none (serving ", count, b"))\n");
+    }
+    let mut relays = rooms::states();
+    let mut places = rooms::states();
+    place_relays(n, lows, highs, states, &mut relays, &mut places);
+    let last = relays[count - 1];
+    let prior = relays[count - 2];
+    let links = links_at(lows, highs, states, last);
+    put_last(output, n, lows, highs, states, last, prior, links)
+}
