@@ -18,7 +18,8 @@ waiting() {
     done <"$here/crates.txt"
 }
 
-# follow: keeps the kit's lines in the log and says which crate of how many is done, and now and then how long it has been at work.
+# follow: keeps the kit's lines in the log and says which crate of how many is done, and every 20 seconds, or whatever NOLKISEI_PAUSE
+# says, how long it has been at work.
 # Leaves in status how the kit ended and in faults what it did not prove.
 follow() {
     local line='' part name count=${#crates[@]} began=$SECONDS
