@@ -123,12 +123,31 @@ network 'a network with an out line and without its end' "$head$body(out 2)\n" '
 network 'a network that breaks off in an out line' "$head$body(out 2" '(refused 2 55)' $'nolkisei: refused (2): a.net, line 4, column 7: the file ends in the middle of a line\n    (out 2\n          ^\nnolkisei: a.net, line 4: due there: a line (out R)'
 network 'a network with an out line of no relay' "$head$body(out 5)\n(end)\n" '(refused 16 0)' 'nolkisei: refused (16): a.net, line 4: (out 5) names a relay that the network does not have; it has the relays 0 to 4'
 network 'a relay withdrawn beside the routes' "${mesh%'(end)\n'}(out 0)\n(end)\n" '(fails)' 'nolkisei: fails: a.sheet, line 6: kept is 7, and 5 links are worth keeping for k 2'
+network 'the sheet after the network, in its file' "$mesh$front$via3$via2$back" '(refused 2 110)' $'nolkisei: refused (2): a.net, line 10, column 1: something stands after the last line\n    (sheet'
 network 'a network of one relay' '(net (relays 1) (links 0))\n(end)\n' '(fails)' 'nolkisei: fails: a.sheet, line 1: relay 4 is not in the network; it has relay 0 alone'
+printf '%b' "${mesh%'(end)\n'}" >"$work/a.net"
+printf '%b' "(end)\n$front$via3$via2$back" >"$work/b.sheet"
+ask "$copy/nolkisei" verify a.net b.sheet
+same "the network's last line in front of the sheet" $'(refused 2 104)\nstatus 1' "$output"
+: >"$work/b.sheet"
+printf '%b' "$mesh$front$via3$via2$back" >"$work/a.net"
+ask "$copy/nolkisei" verify a.net b.sheet
+same 'both in one file, and an empty sheet' $'(refused 2 110)\nstatus 1' "$output"
 printf '%b' "$front$via3$via2$back" >"$work/-s"
 ask "$copy/nolkisei" verify m.net -s
 same 'a sheet whose name begins with -' $'(holds)\nstatus 0' "$output$words"
 ask bash -c "'$copy/nolkisei' verify m.net /dev/stdin <-s"
 same 'a sheet through standard input' $'(holds)\nstatus 0' "$output$words"
+ask bash -c "'$copy/nolkisei' verify <(cat m.net) -s"
+same 'a network through a pipe' $'(holds)\nstatus 0' "$output$words"
+ask bash -c "'$copy/nolkisei' verify - -s <m.net"
+same 'a network through standard input' $'(holds)\nstatus 0' "$output$words"
+ask bash -c "printf '$front$back' | '$copy/nolkisei' verify m.net -"
+same 'what is wrong with a sheet through a pipe' $'(fails)\nstatus 1nolkisei: fails: standard input, line 1: k is 2, and the sheet has 0 routes' "$output$words"
+truncate -s 100000000 "$work/b.sheet"
+ask "$copy/nolkisei" verify b.sheet -s
+same 'a network of 100,000,000 bytes' $'status 2nolkisei: b.sheet and -s have more than 1,000,000 bytes together, and at most so many are read' "$output$words"
+
 # Files and programs that are no good.
 for arguments in '' m.net 'm.net a.sheet 2'; do
     # shellcheck disable=SC2086
@@ -154,4 +173,4 @@ for part in 'exit 3: could not be run to its end' 'printf "(holds)": not whole' 
     instead verifier "${part%: *}" "${part##*: }" "$copy/nolkisei" verify m.net -s
 done
 restore verifier
-rm "$work/-s"
+rm "$work/-s" "$work/b.sheet"

@@ -90,8 +90,7 @@ crowded() {
     }'
 }
 
-# spoilt ASK [BEHIND]: a network text that departs at each place of its forms, or is refused for another reason, behind the line
-# ASK. BEHIND is what is written for a byte behind its end, where that is another refusal.
+# spoilt ASK: a network text that departs at each place of its forms, or is refused for another reason, behind the line ASK.
 spoilt() {
     try 'no network' "$1" '(refused 2 0)\n'
     try 'the first word of the header' "$1(nut (relays 5) (links 7))\n" '(refused 2 2)\n'
@@ -120,7 +119,7 @@ spoilt() {
     try 'an out line for a link' "$1$one(out 0)\n(link 0 1)\n(end)\n" '(refused 2 28)\n'
     try 'a link behind an out line' "$1$one(link 0 1)\n(out 0)\n(link 0 2)\n(end)\n" '(refused 2 47)\n'
     try 'no end behind an out line' "$1$one(link 0 1)\n(out 0)\n" '(refused 2 46)\n'
-    try 'a byte behind the end' "$1$one(link 0 1)\n(end)\nx" "${2:-(refused 2 44)\n}"
+    try 'a byte behind the end' "$1$one(link 0 1)\n(end)\nx" '(refused 2 44)\n'
 
     try 'no relay' "$1(net (relays 0) (links 0))\n(end)\n" '(refused 3 0)\n'
     try '1,001 relays' "$1(net (relays 1001) (links 0))\n(end)\n" '(refused 3 0)\n'

@@ -11,7 +11,8 @@ use Rattle.definitions.specs.Text.{Network, sized, readNetwork}
 use Rattle.definitions.specs.Departs.{DepartsFrom}
 use Rattle.definitions.specs.Dimacs.{importNetwork}
 use Rattle.definitions.specs.DimacsText.{Drawing, DrawingFits, dimacsText, judged, Draws}
-use Rattle.definitions.specs.Import.{importText}
+use Rattle.definitions.specs.Promised.{AllAnswered}
+use Rattle.definitions.specs.Import.{importer, networkText, importText}
 
 -- No number that comes before is refused: the import gives no other refusal than 18.
 abbrev pub NumbersPass : (text : List ℕ) (roomLows roomHighs roomStates : ℕ) → Type 0
@@ -55,3 +56,13 @@ abbrev pub PrintedRead : Type 0
 PrintedRead =
     (input : List ℕ) (network : Network) → importNetwork input 3000 3000 1000 ≡ done network
     → readNetwork (importText input) 3000 3000 1000 ≡ done network
+
+-- The text is that of an accepted network, which Read gives back.
+pub record NetworkPrinted (line : List ℕ) (network : Network) (text : List ℕ) : Type 0 where
+  pub printed : text ≡ networkText network
+  pub accepted : Accepted (network .relays) (network .lows) (network .highs) (network .states)
+  pub read : readNetwork text 3000 3000 1000 ≡ done network
+
+-- Every input gets such a text, or the line of the first refusal met.
+abbrev pub ImportAnswered : Type 0
+ImportAnswered = AllAnswered importer NetworkPrinted importText

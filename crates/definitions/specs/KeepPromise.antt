@@ -13,6 +13,7 @@ use Rattle.definitions.specs.Network.{linkServes, Accepted}
 use Rattle.definitions.specs.Forests.{forestsOf, marksOf}
 use Rattle.definitions.specs.Form.{writeForm}
 use Rattle.definitions.specs.Text.{Network, endForm}
+use Rattle.definitions.specs.Program.{inputRoom}
 use Rattle.definitions.specs.Promised.{Promised}
 use Rattle.definitions.specs.Plan.{keptForm}
 use Rattle.definitions.specs.Keep.{leaseForm, keptLinkForm, droppedLinkForm, idleLinkForm, droppedForm, withdrawnForm, keeper, keepText}
@@ -61,4 +62,4 @@ pub record LeasePrinted (line : List ℕ) (network : Network) (text : List ℕ) 
   pub holds : LeaseHolds (network .relays) (network .lows) (network .highs) (network .states) k text
 
 abbrev pub KeepPromise : Type 0
-KeepPromise = Promised keeper LeasePrinted keepText
+KeepPromise = Promised keeper LeasePrinted inputRoom keepText

@@ -237,12 +237,15 @@ unfolding
     SheetTest.sheetHolds
     SheetTest.yesOrNo
     SheetTest.sheetAnswer
-    Verify.behindOr
-    Verify.endBehind
+    Verify.verifyForm
     Verify.networkSize
+    Verify.verifyInput
+    Verify.filed
+    Verify.valuesOf
     Verify.verified
     Verify.verdictText
     Verify.verifyText
+    Verify.verdictOf
     Dimacs.problemForm
     Dimacs.edgeForm
     Dimacs.behindWords
@@ -264,6 +267,7 @@ unfolding
     DimacsText.dimacsText
     DimacsText.judgedEdges
     DimacsText.judged
+    Import.imported
     Import.networkText
     Import.importText
 opened = tt

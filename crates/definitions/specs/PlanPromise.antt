@@ -6,6 +6,7 @@ use mathlib.Core.Path.{_≡_}
 use Rattle.definitions.specs.Network.{Accepted}
 use Rattle.definitions.specs.Forests.{marksOf}
 use Rattle.definitions.specs.Text.{Network}
+use Rattle.definitions.specs.Program.{inputRoom}
 use Rattle.definitions.specs.Promised.{Promised}
 use Rattle.definitions.specs.Plan.{Sheet, planner, sheetText, planText}
 use Rattle.definitions.specs.Demand.{Kept}
@@ -21,4 +22,4 @@ pub record SheetPrinted (wish : List ℕ) (network : Network) (text : List ℕ) 
       (Kept (marksOf (network .relays) (network .lows) (network .highs) (network .states) (sheet .k))) sheet
 
 abbrev pub PlanPromise : Type 0
-PlanPromise = Promised planner SheetPrinted planText
+PlanPromise = Promised planner SheetPrinted inputRoom planText

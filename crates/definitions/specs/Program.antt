@@ -1,4 +1,4 @@
--- What every program of ours is, said once: a line in front that asks, what is read behind it, the operations that are called in turn,
+-- What every program of ours is, said once: a line in front that asks, what is read after it, the operations that are called in turn,
 -- and a text. Each program adds what is its own. Assumes nothing.
 use Prim.Native.Nat.{ℕ}
 use mathlib.Core.List.{List, [], _∷_}
@@ -9,11 +9,11 @@ use Rattle.definitions.specs.Lists.{overwrite}
 use Rattle.definitions.specs.Form.{bytes, Item, word, numeral, scanForm, onScan, writeForm}
 use Rattle.definitions.specs.Text.{Network, readNetwork}
 
--- The form of the line in front, or no items where there is none; the reader of what stands behind it; and, for the numbers of the
--- line and what was read, the answers of the operations that are called, in turn.
+-- The form of the line in front, or no items where there is none; the reader of the text after it, which may go by the numbers of the
+-- line; and, for these numbers and what was read, the answers of the operations that are called, in turn.
 pub record Program (A : Type 0) : Type 0 where
   pub form : List Item
-  pub read : (text : List ℕ) → Outcome A
+  pub read : (numbers text : List ℕ) → Outcome A
   pub answers : (numbers : List ℕ) (thing : A) → List Answer
 
 -- The first of the answers that is a refusal stands; where none is, the value is given.
@@ -26,7 +26,7 @@ passing (answer ∷ answers) value = andThen answer λ _. passing answers value
 unfoldable pub outcomeOf : {A B : Type 0} (program : Program A) (value : List ℕ → A → B) (input : List ℕ) → Outcome B
 outcomeOf program value input =
     onScan 1 (scanForm input (program .form) 0) λ numbers p.
-    andThen (program .read (drop p input)) λ thing.
+    andThen (program .read numbers (drop p input)) λ thing.
     passing (program .answers numbers thing) (value numbers thing)
 
 unfoldable pub refusedForm : List Item
@@ -41,7 +41,7 @@ printed textOf (done value) = textOf value
 unfoldable pub room : (size : ℕ) → List ℕ
 room size = replicate size 0
 
--- The bytes of its input that a program takes in at most: a longer input is answered from these alone.
+-- The bytes of its input that a program which reads a network takes in at most: a longer input is answered from these alone.
 unfoldable pub inputRoom : ℕ
 inputRoom = 54956
 
@@ -49,9 +49,9 @@ inputRoom = 54956
 abbrev pub on : {B : Type 0} (network : Network) (operation : ℕ → List ℕ → List ℕ → List ℕ → B) → B
 on network operation = operation (network .relays) (network .lows) (network .highs) (network .states)
 
--- The reader of a network text with a program's own lists, which are long enough for every network.
-abbrev pub ownRead : (text : List ℕ) → Outcome Network
-ownRead text = readNetwork text 3000 3000 1000
+-- The reader of a network text with a program's own lists, which are long enough for every network, whatever the line says.
+abbrev pub ownRead : (numbers text : List ℕ) → Outcome Network
+ownRead numbers text = readNetwork text 3000 3000 1000
 
 -- A text that is to be printed into a lent list, for the C interface: 12 where the list is shorter than the text. The answer is
 -- the text's length.

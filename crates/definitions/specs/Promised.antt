@@ -8,13 +8,13 @@ use mathlib.Core.Path.{_≡_}
 use lib.ListN.{take, drop}
 use Rattle.definitions.specs.Outcome.{refused, done, Answer}
 use Rattle.definitions.specs.Form.{departs, reads, scanForm, writeForm}
-use Rattle.definitions.specs.Program.{Program, refusedForm, inputRoom}
+use Rattle.definitions.specs.Program.{Program, refusedForm}
 
--- A line with these numbers, and behind it a text that is read as this thing.
+-- A line with these numbers, and after it a text that is read as this thing.
 pub record Asked {A : Type 0} (program : Program A) (input numbers : List ℕ) (thing : A) : Type 0 where
   pub behind : ℕ
   pub line : scanForm input (program .form) 0 ≡ reads numbers behind
-  pub read : program .read (drop behind input) ≡ done thing
+  pub read : program .read numbers (drop behind input) ≡ done thing
 
 -- The first of the answers that is a refusal.
 unfoldable pub FirstOf : (answers : List Answer) (number place : ℕ) → Type 0
@@ -26,7 +26,7 @@ FirstOf (answer ∷ answers) number place =
 pub data FirstRefusal {A : Type 0} (program : Program A) (input : List ℕ) : ℕ → ℕ → Type 0 where
   inLine : {p : ℕ} → scanForm input (program .form) 0 ≡ departs p → FirstRefusal program input 1 p
   inText : {numbers : List ℕ} {p number place : ℕ} → scanForm input (program .form) 0 ≡ reads numbers p
-      → program .read (drop p input) ≡ refused number place → FirstRefusal program input number place
+      → program .read numbers (drop p input) ≡ refused number place → FirstRefusal program input number place
   inWork : {numbers : List ℕ} {thing : A} {number place : ℕ} → Asked program input numbers thing
       → FirstOf (program .answers numbers thing) number place → FirstRefusal program input number place
 
@@ -50,7 +50,12 @@ pub record Refused {A : Type 0} (program : Program A) (input output : List ℕ) 
 abbrev pub Answered : {A : Type 0} (program : Program A) (Holds : List ℕ → A → List ℕ → Type 0) (input output : List ℕ) → Type 0
 Answered program Holds input output = Given program Holds input output ⊎ Refused program input output
 
--- The promise of a program that prints this for an input: every input is answered, and from its first bytes alone, however long it is.
-pub record Promised {A : Type 0} (program : Program A) (Holds : List ℕ → A → List ℕ → Type 0) (output : List ℕ → List ℕ) : Type 0 where
-  pub answered : (input : List ℕ) → Answered program Holds input (output input)
-  pub fromFront : (n : ℕ) (input : List ℕ) → inputRoom ≤ n → output (take n input) ≡ output input
+-- The promise of a program that prints this for an input: every input is answered.
+abbrev pub AllAnswered : {A : Type 0} (program : Program A) (Holds : List ℕ → A → List ℕ → Type 0) (output : List ℕ → List ℕ) → Type 0
+AllAnswered program Holds output = (input : List ℕ) → Answered program Holds input (output input)
+
+-- The promise of a program that looks at so many bytes of its input at most: every input is answered, and from these bytes alone, however
+-- long it is.
+pub record Promised {A : Type 0} (program : Program A) (Holds : List ℕ → A → List ℕ → Type 0) (most : ℕ) (output : List ℕ → List ℕ) : Type 0 where
+  pub answered : AllAnswered program Holds output
+  pub fromFront : (n : ℕ) (input : List ℕ) → most ≤ n → output (take n input) ≡ output input

@@ -8,7 +8,7 @@ use Rattle.definitions.specs.Outcome.{refused, done, Answer}
 use Rattle.definitions.specs.Form.{bytes}
 use Rattle.definitions.specs.Text.{Network}
 use Rattle.definitions.specs.SheetTest.{sheetAnswer}
-use Rattle.definitions.specs.Verify.{verifyText}
+use Rattle.definitions.specs.Verify.{verifyInput, verifyText}
 use Rattle.definitions.specs.Networks.{Example, AllHold, square, mesh}
 use Rattle.definitions.specs.Opened.{opened}
 
@@ -79,22 +79,48 @@ pub sheet-examples-hold : AllHold sheetExamples
 unfolding opened
 sheet-examples-hold = refl
 
--- The program: two relays with one link and a sheet that holds, the same with another count, no sheet, and no `(end)`.
-abbrev pair : (rest : String) → List ℕ
-pair rest = bytes "(net (relays 2) (links 1))\n(link 0 1)\n(end)\n" ++ bytes rest
+-- The program: two relays with one link and a sheet that holds, its bytes and the line in front, the same with another count, no sheet,
+-- no `(end)`, and no line in front.
+abbrev pairNet : String
+pairNet = "(net (relays 2) (links 1))\n(link 0 1)\n(end)\n"
 
-pub pair-holds : verifyText (pair "(sheet (from 0) (to 1) (k 1))\n(route 0 1)\n(over 0)\n(kept 1)\n(end)\n") ≡ bytes "(holds)\n"
+abbrev pairSheet : String
+pairSheet = "(sheet (from 0) (to 1) (k 1))\n(route 0 1)\n(over 0)\n(kept 1)\n(end)\n"
+
+abbrev said : (network sheet : String) → List ℕ
+said network sheet = verifyText (verifyInput (bytes network) (bytes sheet))
+
+pub pair-input : verifyInput (bytes pairNet) (bytes pairSheet) ≡ bytes "(verify 0 44)\n" ++ (bytes pairNet ++ bytes pairSheet)
+unfolding opened
+pair-input = refl
+
+pub pair-holds : said pairNet pairSheet ≡ bytes "(holds)\n"
 unfolding opened
 pair-holds = refl
 
-pub pair-fails : verifyText (pair "(sheet (from 0) (to 1) (k 1))\n(route 0 1)\n(over 0)\n(kept 0)\n(end)\n") ≡ bytes "(fails)\n"
+pub pair-fails : said pairNet "(sheet (from 0) (to 1) (k 1))\n(route 0 1)\n(over 0)\n(kept 0)\n(end)\n" ≡ bytes "(fails)\n"
 unfolding opened
 pair-fails = refl
 
-pub pair-alone : verifyText (pair "") ≡ bytes "(refused 14 0)\n"
+pub pair-alone : said pairNet "" ≡ bytes "(refused 14 0)\n"
 unfolding opened
 pair-alone = refl
 
-pub no-end : verifyText (bytes "(net (relays 2) (links 0))\n(and)\n") ≡ bytes "(refused 2 28)\n"
+pub no-end : said "(net (relays 2) (links 0))\n(and)\n" "" ≡ bytes "(refused 2 28)\n"
 unfolding opened
 no-end = refl
+
+pub no-line : verifyText (bytes pairNet ++ bytes pairSheet) ≡ bytes "(refused 1 1)\n"
+unfolding opened
+no-line = refl
+
+-- The border is where the line says: the sheet's text in the network's, and the network's last line in the sheet's, are refused.
+pub sheet-in-network : said "(net (relays 2) (links 1))\n(link 0 1)\n(end)\n(sheet (from 0) (to 1) (k 1))\n(route 0 1)\n(over 0)\n(kept 1)\n(end)\n" ""
+    ≡ bytes "(refused 2 44)\n"
+unfolding opened
+sheet-in-network = refl
+
+pub end-in-sheet : said "(net (relays 2) (links 1))\n(link 0 1)\n" "(end)\n(sheet (from 0) (to 1) (k 1))\n(route 0 1)\n(over 0)\n(kept 1)\n(end)\n"
+    ≡ bytes "(refused 2 38)\n"
+unfolding opened
+end-in-sheet = refl

@@ -9,6 +9,7 @@ use Rattle.definitions.specs.Network.{Accepted}
 use Rattle.definitions.specs.Forests.{marksOf}
 use Rattle.definitions.specs.Form.{writeForm}
 use Rattle.definitions.specs.Text.{Network}
+use Rattle.definitions.specs.Program.{inputRoom}
 use Rattle.definitions.specs.Promised.{Promised}
 use Rattle.definitions.specs.Plan.{Sheet, sheetText}
 use Rattle.definitions.specs.DisjointRoutes.{DisjointRoutes}
@@ -50,4 +51,4 @@ pub record SurePrinted (numbers : List ℕ) (network : Network) (text : List ℕ
   pub figure : Figure network text ⊎ TooFew network text
 
 abbrev pub SurePromise : Type 0
-SurePromise = Promised surer SurePrinted sureText
+SurePromise = Promised surer SurePrinted inputRoom sureText

@@ -1,35 +1,53 @@
--- Document 02, #103, as a program: a network text and behind it a sheet's text come in, one line goes out. Assumes nothing.
-use Prim.Native.Nat.{ℕ, zero, suc, _+_}
-use mathlib.Core.List.{List}
+-- Document 02, #103, as a program: a line that tells where the border is, a network's text and a sheet's text come in, one line goes
+-- out. Assumes nothing.
+use Prim.Native.Nat.{ℕ, _+_, _*_, _/_, _%_}
+use mathlib.Core.List.{List, [], _∷_, _++_}
 use lib.Dec.{eqb}
 use lib.ListN.{length, getD, take, drop}
-use Rattle.definitions.specs.Outcome.{pick, Answer, andThen}
-use Rattle.definitions.specs.Form.{bytes, Scan, departs, reads, scanForm}
-use Rattle.definitions.specs.Text.{endForm, readNetwork}
-use Rattle.definitions.specs.Program.{printed}
+use Rattle.definitions.specs.Outcome.{pick, Outcome, refused, done, Answer, andThen}
+use Rattle.definitions.specs.Form.{bytes, Item, word, numeral, writeForm}
+use Rattle.definitions.specs.Text.{Network, readNetwork}
+use Rattle.definitions.specs.Program.{Program, outcomeOf, printed, on, ownRead}
 use Rattle.definitions.specs.SheetTest.{sheetAnswer}
 
--- The offset behind what was read, or another where the text departed.
-unfoldable pub behindOr : (scan : Scan) (other : ℕ) → ℕ
-behindOr (departs p) other = other
-behindOr (reads values p) other = p
+-- The line in front, `(verify A B)`: how many bytes after it are the network's. A number of our texts has at most four digits, so the
+-- last four digits of that count are a number of their own.
+unfoldable pub verifyForm : List Item
+verifyForm = word (bytes "(verify ") ∷ numeral ∷ word (bytes " ") ∷ numeral ∷ word (bytes ")\n") ∷ []
 
--- The offset behind the first `(end)` with its line end, of those at offset p and the next `most`; the last of these where there is
--- none.
-unfoldable pub endBehind : (input : List ℕ) (p most : ℕ) → ℕ
-endBehind input p zero = p
-endBehind input p (suc most) = behindOr (scanForm input endForm p) (endBehind input (p + 1) most)
+unfoldable pub networkSize : (line : List ℕ) → ℕ
+networkSize line = 10000 * getD line 0 0 + getD line 1 0
 
--- A network text ends with its first `(end)` line: so many bytes of the input are the network's. All of them where there is none,
--- and Read tells where the text departs.
-unfoldable pub networkSize : (input : List ℕ) → ℕ
-networkSize input = endBehind input 0 (length input)
+-- The input for a network's text and a sheet's, whatever stands in either.
+unfoldable pub verifyInput : (network sheet : List ℕ) → List ℕ
+verifyInput network sheet =
+    writeForm verifyForm (length network / 10000 ∷ length network % 10000 ∷ []) ++ (network ++ sheet)
 
--- Read's refusals, then those of the sheet, whose offsets count from the first byte behind the network text.
+-- A network, and the text of a sheet.
+pub record Filed : Type 0 where
+  pub network : Network
+  pub sheet : List ℕ
+
+-- The network is read from its own bytes; the rest is the sheet's, however it goes on.
+unfoldable pub filed : (line text : List ℕ) → Outcome Filed
+filed line text =
+    andThen (ownRead line (take (networkSize line) text)) λ network.
+    done (record { network = network; sheet = drop (networkSize line) text })
+
+-- What is said of the sheet, whose offsets count from its own first byte.
+abbrev pub sheetSaid : (both : Filed) → Answer
+sheetSaid both = on (both .network) sheetAnswer (both .sheet)
+
+abbrev pub verifier : Program Filed
+verifier = record { form = verifyForm; read = filed; answers = λ _ both. sheetSaid both ∷ [] }
+
+-- The values of an answer, none where it is refused.
+unfoldable pub valuesOf : (answer : Answer) → List ℕ
+valuesOf (refused number place) = []
+valuesOf (done values) = values
+
 unfoldable pub verified : (input : List ℕ) → Answer
-verified input =
-    andThen (readNetwork (take (networkSize input) input) 3000 3000 1000) λ network.
-    sheetAnswer (network .relays) (network .lows) (network .highs) (network .states) (drop (networkSize input) input)
+verified = outcomeOf verifier (λ _ both. valuesOf (sheetSaid both))
 
 -- The line for yes and the line for no.
 unfoldable pub verdictText : (values : List ℕ) → List ℕ
@@ -38,3 +56,7 @@ verdictText values = pick (eqb (getD values 0 0) 1) (bytes "(holds)\n") (bytes "
 -- What the program writes for what it reads.
 unfoldable pub verifyText : (input : List ℕ) → List ℕ
 verifyText input = printed verdictText (verified input)
+
+-- What is to be written for a network's text and a sheet's: Read's refusals, then those of the sheet, then yes or no.
+unfoldable pub verdictOf : (network sheet : List ℕ) → List ℕ
+verdictOf network sheet = printed verdictText (andThen (readNetwork network 3000 3000 1000) λ w. on w sheetAnswer sheet)

@@ -112,21 +112,27 @@ module _ (n : ℕ) (lows highs states : List ℕ) (k : ℕ) (marks : List ℕ) w
       let short = lt-ltb (length marks) (length lows) p in
       (rw (ok, h, short), rw (ok, h, short))
 
-  pub cut-done : {numbers marks′ : List ℕ} (kept : ℕ) → Accepted n lows highs states → outside 1 32 k ≡ false
-      → length lows ≤ length marks → numbers ≡ overwrite (forestsOf n lows highs states) marks
+  -- The forest numbers become marks.
+  pub marks-done : {numbers marks′ : List ℕ} (kept : ℕ) → numbers ≡ overwrite (forestsOf n lows highs states) marks
       → kept ≡ total (map (markOf k) (take (length lows) numbers))
       → marks′ ≡ map (markOf k) (take (length lows) numbers) ++ drop (length lows) numbers
-      → (done (kept ∷ []) ≡ cutAnswer n lows highs states k marks) × (marks′ ≡ marksAfter n lows highs states k marks)
-  unfolding cutAnswer marksAfter marksOf andThen refuseIf ifDone overwrite
-  cut-done {numbers} {marks′} kept ok h p f e m =
-      let long = le-ltb (length marks) (length lows) p in
+      → (kept ≡ total (marksOf n lows highs states k)) × (marks′ ≡ overwrite (marksOf n lows highs states k) marks)
+  unfolding marksOf overwrite
+  marks-done {numbers} {marks′} kept f e m =
       let all = forestsOf n lows highs states in
       let front : take (length lows) numbers ≡ all = ap (take (length lows)) f ∙ front-forests n lows highs states marks in
-      let value : kept ≡ total (map (markOf k) all) = e ∙ ap (λ l. total (map (markOf k) l)) front in
       let rest : drop (length lows) numbers ≡ drop (length (map (markOf k) all)) marks =
       ap (drop (length lows)) f
       ∙ drop-at all (drop (length all) marks) (length lows) (forests-length n lows highs states)
       ∙ ap (λ j. drop j marks) (sym (length-map all (markOf k))) in (
-        rw (ok, h, long) (ap (λ x. done (x ∷ [])) value),
-        rw (ok, h, long) (m ∙ ap (λ l. map (markOf k) l ++ drop (length lows) numbers) front ∙ ap (λ l. map (markOf k) all ++ l) rest),
+        e ∙ ap (λ l. total (map (markOf k) l)) front,
+        m ∙ ap (λ l. map (markOf k) l ++ drop (length lows) numbers) front ∙ ap (λ l. map (markOf k) all ++ l) rest,
       )
+
+  pub cut-done : {marks′ : List ℕ} (kept : ℕ) → Accepted n lows highs states → outside 1 32 k ≡ false → length lows ≤ length marks
+      → kept ≡ total (marksOf n lows highs states k) → marks′ ≡ overwrite (marksOf n lows highs states k) marks
+      → (done (kept ∷ []) ≡ cutAnswer n lows highs states k marks) × (marks′ ≡ marksAfter n lows highs states k marks)
+  unfolding cutAnswer marksAfter andThen refuseIf ifDone
+  cut-done kept ok h p e m =
+      let long = le-ltb (length marks) (length lows) p in
+      (rw (ok, h, long) (ap (λ x. done (x ∷ [])) e), rw (ok, h, long) m)

@@ -8,8 +8,12 @@ use network::table_check;
 use results::number_links;
 use results::place_relays;
 ghost use mathlib.Core.Path.{_≡_};
+ghost use Prim.Native.Nat.{_≤_};
+ghost use lib.ListN.{length};
+ghost use Rattle.definitions.specs.Lists.{overwrite, total};
+ghost use Rattle.definitions.specs.Network.{Accepted};
 ghost use Rattle.definitions.specs.Order.{orderAnswer, relaysAfter, placesAfter};
-ghost use Rattle.definitions.specs.Forests.{splitAnswer, forestsAfter, cutAnswer, marksAfter};
+ghost use Rattle.definitions.specs.Forests.{splitAnswer, forestsAfter, marksOf, cutAnswer, marksAfter};
 ghost use Rattle.forests.specs.Answers.{orderOutcome, splitOutcome, cutOutcome};
 
 pub mod arrays;
@@ -100,6 +104,24 @@ pub fn split(
     }
 }
 
+// Cut of an accepted table, into a list with room for the marks. Returns how many links are kept.
+pub fn cut_accepted(
+    n: u16,
+    lows: &[u16],
+    highs: &[u16],
+    states: &[u16],
+    k: u16,
+    marks: &mut [u16],
+) -> u16
+    requires { ⌜ Accepted n (now lows) (now highs) (now states) × (length (now lows) ≤ length (now marks)) ⌝ }
+    ensures { λ r. ⌜ r ≡ total (marksOf n (now (lows .entry)) (now (highs .entry)) (now (states .entry)) k) ⌝ }
+    ensures { λ _. ⌜ now (marks .exit)
+        ≡ overwrite (marksOf n (now (lows .entry)) (now (highs .entry)) (now (states .entry)) k) (now (marks .entry)) ⌝ }
+{
+    number_links(n, lows, highs, states, marks);
+    mark_links(lows.len(), k, marks)
+}
+
 // The mark of each link: 1 kept, 0 dropped.
 pub fn cut(
     n: u16,
@@ -125,8 +147,7 @@ pub fn cut(
             if marks.len() < m {
                 return CutAnswer::Refused(Refusal::Room);
             }
-            number_links(n, lows, highs, states, marks);
-            CutAnswer::Kept(mark_links(m, k, marks))
+            CutAnswer::Kept(cut_accepted(n, lows, highs, states, k, marks))
         }
     }
 }

@@ -3,8 +3,6 @@ ghost use mathlib.Core.Path.{_≡_};
 ghost use Prim.Native.Nat.{_≤_};
 ghost use lib.ListN.{length};
 ghost use Rattle.definitions.specs.Lists.{overwrite};
-ghost use Rattle.definitions.specs.Network.{Accepted};
-ghost use Rattle.definitions.specs.Text.{textOf};
 ghost use Rattle.definitions.specs.Dimacs.{importNetwork};
 ghost use Rattle.definitions.specs.Import.{importText};
 ghost use Rattle.program.specs.ReadStage.{Loads};
@@ -13,27 +11,13 @@ use import::import;
 use program::refusal::put_any;
 use program::rooms;
 use text::ReadAnswer;
-use text::WriteAnswer;
-use text::write;
+use text::write_accepted;
 
 // The bytes for the longest network text; the refused line has fewer.
 pub const OUTPUT: usize = 54929;
 
 pub fn output() -> [u8; OUTPUT] {
     [0u8; OUTPUT]
-}
-
-// The text of an accepted network.
-fn put_network(output: &mut [u8], n: u16, lows: &[u16], highs: &[u16], states: &[u16]) -> usize
-    requires { ⌜ Accepted n (now lows) (now highs) (now states) ⌝ }
-    requires { ⌜ 54929 ≤ length (now output) ⌝ }
-    ensures { λ r. ⌜ Printed (now (output .entry)) (textOf n (now (lows .entry)) (now (highs .entry)) (now (states .entry)))
-        (now (output .exit)) r ⌝ }
-{
-    match write(n, lows, highs, states, output) {
-        WriteAnswer::Refused(_) => 0,
-        WriteAnswer::Length(size) => size,
-    }
 }
 
 // Import, with room for every network.
@@ -62,7 +46,7 @@ fn put_imported(output: &mut [u8], input: &[u8]) -> usize
         ReadAnswer::Table(n, m) => {
             let size = m as usize;
             let relays = n as usize;
-            put_network(output, n, &lows[..size], &highs[..size], &states[..relays])
+            write_accepted(n, &lows[..size], &highs[..size], &states[..relays], output)
         }
     }
 }

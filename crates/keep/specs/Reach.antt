@@ -16,4 +16,4 @@ pub keep-reach : (n : ℕ) (input : List ℕ) → inputRoom ≤ n → keepText (
 unfolding keepText leased span keepForm inputRoom
 keep-reach n input h =
     ap (printed leaseText)
-    (outcome-reach keeper 54934 n input (λ size text. network-reach size text 3000 3000 1000) (omega arith) _)
+    (outcome-reach keeper 54934 n input (λ size _ text. network-reach size text 3000 3000 1000) (omega arith) _)

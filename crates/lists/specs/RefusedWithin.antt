@@ -13,6 +13,11 @@ pub as-more : {A : Type 0} (P Q : ℕ → ℕ → Type 0) (outcome : Outcome A) 
 as-more P Q (refused number place) more holds = more number place holds
 as-more P Q (done value) more holds = tt
 
+pub refused-as : {A : Type 0} (P : ℕ → ℕ → Type 0) (outcome : Outcome A)
+    → ((number place : ℕ) → outcome ≡ refused number place → P number place) → RefusedAs P outcome
+refused-as P (refused number place) told = told number place refl
+refused-as P (done value) told = tt
+
 pub refuse-as : {A : Type 0} (P : ℕ → ℕ → Type 0) (b : Bool) (number place : ℕ) (rest : Outcome A)
     → (b ≡ true → P number place) → (b ≡ false → RefusedAs P rest) → RefusedAs P (refuseIf b number place rest)
 unfolding refuseIf

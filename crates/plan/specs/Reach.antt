@@ -16,4 +16,4 @@ pub plan-reach : (n : ℕ) (input : List ℕ) → inputRoom ≤ n → planText (
 unfolding planText planned span wishForm inputRoom
 plan-reach n input h =
     ap (printed sheetText)
-    (outcome-reach planner 54934 n input (λ size text. network-reach size text 3000 3000 1000) (omega arith) _)
+    (outcome-reach planner 54934 n input (λ size _ text. network-reach size text 3000 3000 1000) (omega arith) _)

@@ -46,7 +46,7 @@ cut-printable n lows highs states k good =
     (λ _. rw (refuse-not (ltb (length (room 3000)) (length lows)) 12 0 _ roomy) tt))
 
 -- Read refuses with 2 to 7 and 16.
-read-printable : (text : List ℕ) → RefusedAs Printable (readNetwork text 3000 3000 1000)
+pub read-printable : (text : List ℕ) → RefusedAs Printable (readNetwork text 3000 3000 1000)
 read-printable text =
     as-more ReadRefusal Printable (readNetwork text 3000 3000 1000)
     (λ number place within. go number place (within .0) (within .1))
@@ -64,7 +64,7 @@ pub network-printable : {B : Type 0} (form : List Item) (answers : List ℕ → 
     → RefusedAs Printable (outcomeOf (record { form = form; read = ownRead; answers = answers }) value input)
 network-printable form answers value input short after =
     outcome-as (record { form = form; read = ownRead; answers = answers }) value input Printable
-    (λ place below. printable 1 place (omega arith) (omega arith) refl refl) read-printable
+    (λ place below. printable 1 place (omega arith) (omega arith) refl refl) (λ _ text. read-printable text)
     (λ numbers network asked. after numbers network (asked-accepted form answers input numbers network asked))
 
 -- Neither 8 nor 12.

@@ -146,6 +146,11 @@ pub record Loads (outcome : Outcome Network) (answer : ReadAnswer) (lows highs s
   pub refuses : (refusal : Refusal) → answer ≡ reading.Refused refusal → outcome ≡ refusalOf refusal
   pub gives : (n m : ℕ) → answer ≡ reading.Table n m → FrontTable outcome n m lows highs states
 
+-- That table, named by what the reading ensures and by its answer, so that a proof can say it once of a place.
+abbrev pub LoadedTable : {outcome : Outcome Network} {answer : ReadAnswer} {lows highs states : List ℕ} {n m : ℕ}
+    → Loads outcome answer lows highs states → answer ≡ reading.Table n m → Type 0
+LoadedTable {outcome} {answer} {lows} {highs} {states} {n} {m} loaded told = FrontTable outcome n m lows highs states
+
 pub reading-loads : (read : ℕ → ℕ → ℕ → Outcome Network) (lows highs states : List ℕ) (answer : ReadAnswer) (lowsNow highsNow statesNow : List ℕ)
     → length lows ≡ 3000 → length highs ≡ 3000 → length states ≡ 1000
     → let whole = read (length lows) (length highs) (length states) in
@@ -200,7 +205,7 @@ module _ {A B : Type 0} (program : Program A) (value : List ℕ → A → B) (in
   pub line-taken : (numbers : List ℕ) (p : ℕ) → Line (program .form) → scanForm input (program .form) 0 ≡ reads numbers p
       → (p ≤ length input)
       × (outcomeOf program value input
-      ≡ andThen (program .read (take (length input - p) (drop p input))) (λ thing. passing (program .answers numbers thing) (value numbers thing)))
+      ≡ andThen (program .read numbers (take (length input - p) (drop p input))) (λ thing. passing (program .answers numbers thing) (value numbers thing)))
   unfolding outcomeOf onScan
   line-taken numbers p good e =
       let all : take (length input - p) (drop p input) ≡ drop p input =

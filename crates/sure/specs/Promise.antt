@@ -154,7 +154,7 @@ pub sure-reach : (n : ℕ) (input : List ℕ) → inputRoom ≤ n → sureText (
 unfolding sureText span inputRoom
 sure-reach n input h =
     ap (printed figureText)
-    (outcome-reach surer 54934 n input (λ size text. network-reach size text 3000 3000 1000) (omega arith) _)
+    (outcome-reach surer 54934 n input (λ size _ text. network-reach size text 3000 3000 1000) (omega arith) _)
 
 pub sure-promise : SurePromise
 sure-promise = record { answered = sure-answered; fromFront = sure-reach }

@@ -41,11 +41,3 @@ module _ (n : ℕ) (lows highs states buffer : List ℕ) where
   unfolding writeAnswer bufferAfter
   write-refused refusal e =
       (rw e (refusal-then refusal _), rw (e, refusal-then {A = List ℕ} {B = List ℕ} refusal _) (refusal-keeps (List ℕ) refusal _ _))
-
-  -- A whole text, as the stores that write it.
-  pub write-stored : Accepted n lows highs states → length (textOf n lows highs states) ≤ length buffer
-      → (writeAnswer n lows highs states buffer ≡ done (length (textOf n lows highs states) ∷ []))
-      × (bufferAfter n lows highs states buffer ≡ sets buffer 0 (textOf n lows highs states))
-  write-stored check room =
-      let (answer, bytes) = write-done n lows highs states buffer check room in
-      (answer, bytes ∙ sym (sets-overwrite (textOf n lows highs states) buffer room))

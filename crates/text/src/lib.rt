@@ -3,6 +3,8 @@ ghost use mathlib.Core.List.{[]};
 ghost use mathlib.Core.Path.{_≡_};
 ghost use Prim.Native.Nat.{_+_, _≤_, _<_};
 ghost use lib.ListN.{length};
+ghost use Rattle.definitions.specs.Lists.{overwrite};
+ghost use Rattle.definitions.specs.Network.{Accepted};
 ghost use Rattle.definitions.specs.Text.{
   sized,
   readLinks,
@@ -80,6 +82,23 @@ fn put_text(buffer: &mut [u8], n: u16, lows: &[u16], highs: &[u16], states: &[u1
     mark.next
 }
 
+// Write of an accepted table, into a buffer with room for its text. Returns the text's length.
+pub fn write_accepted(
+    n: u16,
+    lows: &[u16],
+    highs: &[u16],
+    states: &[u16],
+    buffer: &mut [u8],
+) -> usize
+    requires { ⌜ Accepted n (now lows) (now highs) (now states)
+        × (length (textOf n (now lows) (now highs) (now states)) ≤ length (now buffer)) ⌝ }
+    ensures { λ r. ⌜ r ≡ length (textOf n (now (lows .entry)) (now (highs .entry)) (now (states .entry))) ⌝ }
+    ensures { λ _. ⌜ now (buffer .exit)
+        ≡ overwrite (textOf n (now (lows .entry)) (now (highs .entry)) (now (states .entry))) (now (buffer .entry)) ⌝ }
+{
+    put_text(buffer, n, lows, highs, states)
+}
+
 // Writes the text of a table into the buffer.
 pub fn write(n: u16, lows: &[u16], highs: &[u16], states: &[u16], buffer: &mut [u8]) -> WriteAnswer
     ensures answer { λ r. ⌜ writeOutcome r ≡ writeAnswer n (now (lows .entry)) (now (highs .entry)) (now (states .entry))
@@ -94,7 +113,7 @@ pub fn write(n: u16, lows: &[u16], highs: &[u16], states: &[u16], buffer: &mut [
             if buffer.len() < size {
                 return WriteAnswer::Refused(Refusal::Room);
             }
-            WriteAnswer::Length(put_text(buffer, n, lows, highs, states))
+            WriteAnswer::Length(write_accepted(n, lows, highs, states, buffer))
         }
     }
 }

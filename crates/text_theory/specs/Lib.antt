@@ -26,7 +26,6 @@ pub mod Longest
 pub mod NumberLines
 pub mod SheetRoundTrip
 pub mod SheetWritten
-pub mod NetworkFront
 pub mod SameReadings
 pub mod SheetLooks
 pub mod LineBegun
@@ -45,4 +44,5 @@ pub mod DimacsRead
 pub mod DimacsBegun
 pub mod DimacsAgree
 pub mod RefusalEighteen
+pub mod ImportRefusals
 pub mod ImportProof

@@ -7,7 +7,7 @@ use mathlib.Core.Path.{_≡_, refl, sym, _∙_, ap, subst}
 use native.Mathlib.Omega.{arith}
 use lib.ListN.{take, drop}
 use Rattle.definitions.specs.Outcome.{Outcome, refused, done, Answer, andThen}
-use Rattle.definitions.specs.Form.{departs, reads, scanForm}
+use Rattle.definitions.specs.Form.{departs, reads, scanForm, onScan}
 use Rattle.definitions.specs.Program.{Program, passing, outcomeOf, printed}
 use Rattle.definitions.specs.Promised.{Asked, FirstOf, FirstRefusal, inLine, inText, inWork, Answered}
 use Rattle.lists.specs.Front.{drop-take}
@@ -76,15 +76,15 @@ module _ {A B : Type 0} (program : Program A) (value : List ℕ → A → B) (in
   -- Behind the line.
   abbrev behindLine : (numbers : List ℕ) (p : ℕ) → Outcome B
   behindLine numbers p =
-      andThen (program .read (drop p input)) (λ thing. passing (program .answers numbers thing) (value numbers thing))
+      andThen (program .read numbers (drop p input)) (λ thing. passing (program .answers numbers thing) (value numbers thing))
 
   pub outcome-refused : (number place : ℕ) → outcomeOf program value input ≡ refused number place → FirstRefusal program input number place
   unfolding outcomeOf
   outcome-refused number place e = go (on-scan-refused 1 (scanForm input (program .form) 0) behindLine number place e)
     where
       text : (numbers : List ℕ) (p : ℕ) → scanForm input (program .form) 0 ≡ reads numbers p
-          → (program .read (drop p input) ≡ refused number place)
-          ⊎ ((thing : A) × (program .read (drop p input) ≡ done thing)
+          → (program .read numbers (drop p input) ≡ refused number place)
+          ⊎ ((thing : A) × (program .read numbers (drop p input) ≡ done thing)
           × (passing (program .answers numbers thing) (value numbers thing) ≡ refused number place))
           → FirstRefusal program input number place
       text numbers p line (inl read) = inText line read
@@ -98,7 +98,7 @@ module _ {A B : Type 0} (program : Program A) (value : List ℕ → A → B) (in
           → FirstRefusal program input number place
       go (inl departed) = rw (departed .1) (inLine (departed .0))
       go (inr found) =
-          text (found .0) (found .1) (found .2) (refused-then (program .read (drop (found .1) input)) _ number place (found .3))
+          text (found .0) (found .1) (found .2) (refused-then (program .read (found .0) (drop (found .1) input)) _ number place (found .3))
 
   -- What stands behind a value.
   pub record Stands (result : B) : Type 0 where
@@ -112,7 +112,7 @@ module _ {A B : Type 0} (program : Program A) (value : List ℕ → A → B) (in
   unfolding outcomeOf
   outcome-done result e =
       let (numbers, p, line, after) = on-scan-done 1 (scanForm input (program .form) 0) behindLine result e in
-      let (thing, read, last) = done-then (program .read (drop p input)) _ result after in
+      let (thing, read, last) = done-then (program .read numbers (drop p input)) _ result after in
       let all = passing-done (program .answers numbers thing) (value numbers thing) result last in
       record {
         numbers = numbers;
@@ -124,7 +124,7 @@ module _ {A B : Type 0} (program : Program A) (value : List ℕ → A → B) (in
 
   -- What holds of the refusals.
   pub outcome-as : (P : ℕ → ℕ → Type 0) → ((place : ℕ) → place < span 4 (program .form) → P 1 place)
-      → ((text : List ℕ) → RefusedAs P (program .read text))
+      → ((numbers text : List ℕ) → RefusedAs P (program .read numbers text))
       → ((numbers : List ℕ) (thing : A) → Asked program input numbers thing → AnswersAs P (program .answers numbers thing))
       → RefusedAs P (outcomeOf program value input)
   unfolding outcomeOf
@@ -132,7 +132,7 @@ module _ {A B : Type 0} (program : Program A) (value : List ℕ → A → B) (in
       on-scan-as P 1 (0 + span 4 (program .form)) (scanForm input (program .form) 0) behindLine (λ place below. inFront place (omega arith))
       (form-within (program .form) input 0)
       (λ numbers p line _.
-      then-as P (program .read (drop p input)) _ (inRead (drop p input))
+      then-as P (program .read numbers (drop p input)) _ (inRead numbers (drop p input))
       (λ thing read.
       passing-as P (program .answers numbers thing) (value numbers thing)
       (inTurn numbers thing (record { behind = p; line = line; read = read }))))
@@ -160,15 +160,25 @@ module _ {A B : Type 0} (program : Program A) (value : List ℕ → A → B) (in
             holds = subst (λ r. Holds (s .numbers) (s .thing) (textOf r)) (s .valueIs) (holds (s .numbers) (s .thing) (s .asked) (s .passed));
           })
 
+-- A program with no line in front and no work behind its reader: its outcome is the reader's.
+pub outcome-read : {A : Type 0} (read : List ℕ → List ℕ → Outcome A) (input : List ℕ)
+    → outcomeOf (record { form = []; read = read; answers = λ _ _. [] }) (λ _ thing. thing) input ≡ read [] input
+unfolding outcomeOf passing scanForm onScan andThen
+outcome-read {A} read input = go (read [] input)
+  where
+    go : (outcome : Outcome A) → andThen outcome done ≡ outcome
+    go (refused number place) = refl
+    go (done thing) = refl
+
 -- The reader looks at so many bytes at most.
-abbrev pub LooksAt : {A : Type 0} (read : List ℕ → Outcome A) (size : ℕ) → Type 0
-LooksAt read size = (n : ℕ) (text : List ℕ) → size ≤ n → read (take n text) ≡ read text
+abbrev pub LooksAt : {A : Type 0} (read : List ℕ → List ℕ → Outcome A) (size : ℕ) → Type 0
+LooksAt read size = (n : ℕ) (numbers text : List ℕ) → size ≤ n → read numbers (take n text) ≡ read numbers text
 
 -- An input of any length is answered from its first bytes: those of the line, and those that the reader looks at.
 module _ {A : Type 0} (program : Program A) (size n : ℕ) (input : List ℕ) (looks : LooksAt (program .read) size)
     (enough : span 4 (program .form) + size ≤ n) where
-  read-front : (p : ℕ) → p ≤ span 4 (program .form) → program .read (drop p (take n input)) ≡ program .read (drop p input)
-  read-front p h = ap (program .read) (drop-take p n input) ∙ looks (n - p) (drop p input) (omega arith)
+  read-front : (numbers : List ℕ) (p : ℕ) → p ≤ span 4 (program .form) → program .read numbers (drop p (take n input)) ≡ program .read numbers (drop p input)
+  read-front numbers p h = ap (program .read numbers) (drop-take p n input) ∙ looks (n - p) numbers (drop p input) (omega arith)
 
   pub outcome-reach : {B : Type 0} (value : List ℕ → A → B) → outcomeOf program value (take n input) ≡ outcomeOf program value input
   unfolding outcomeOf
@@ -176,7 +186,7 @@ module _ {A : Type 0} (program : Program A) (size n : ℕ) (input : List ℕ) (l
       rw (form-reach n input (program .form) 0 (omega arith))
       (on-scan-same 1 (0 + span 4 (program .form)) (scanForm input (program .form) 0) _ _ (form-within (program .form) input 0)
       (λ numbers p line below.
-      ap (λ outcome. andThen outcome (λ thing. passing (program .answers numbers thing) (value numbers thing))) (read-front p (omega arith))))
+      ap (λ outcome. andThen outcome (λ thing. passing (program .answers numbers thing) (value numbers thing))) (read-front numbers p (omega arith))))
 
   -- Of a text that is not a function of the input too.
   line-front : {numbers : List ℕ} {p : ℕ} → scanForm (take n input) (program .form) 0 ≡ reads numbers p
@@ -187,15 +197,15 @@ module _ {A : Type 0} (program : Program A) (size n : ℕ) (input : List ℕ) (l
       (whole, omega arith)
 
   asked-front : {numbers : List ℕ} {thing : A} → Asked program (take n input) numbers thing → Asked program input numbers thing
-  asked-front asked =
+  asked-front {numbers} asked =
       let line = line-front (asked .line) in
-      record { behind = asked .behind; line = line .0; read = sym (read-front (asked .behind) (line .1)) ∙ asked .read }
+      record { behind = asked .behind; line = line .0; read = sym (read-front numbers (asked .behind) (line .1)) ∙ asked .read }
 
   first-front : {number place : ℕ} → FirstRefusal program (take n input) number place → FirstRefusal program input number place
   first-front (inLine e) = inLine (sym (form-reach n input (program .form) 0 (omega arith)) ∙ e)
   first-front (inText {numbers} {p} line read) =
       let whole = line-front line in
-      inText (whole .0) (sym (read-front p (whole .1)) ∙ read)
+      inText (whole .0) (sym (read-front numbers p (whole .1)) ∙ read)
   first-front (inWork asked first) = inWork (asked-front asked) first
 
   pub answered-front : (Holds : List ℕ → A → List ℕ → Type 0) (output : List ℕ) → Answered program Holds (take n input) output

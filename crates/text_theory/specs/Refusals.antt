@@ -8,9 +8,8 @@ use mathlib.Core.Path.{_≡_, refl, ap}
 use native.Mathlib.Omega.{arith}
 use lib.Dec.{eqb, ltb, leb}
 use lib.ListN.{length, getD, length-append}
-use borrow.Author.Tests.{ltb-false, le-ltb}
 use Rattle.definitions.specs.Outcome.{pick, Outcome, refused}
-use Rattle.definitions.specs.Lists.{outside, someBelow}
+use Rattle.definitions.specs.Lists.{someBelow}
 use Rattle.definitions.specs.Network.{isPair, linkFault}
 use Rattle.definitions.specs.Form.{Scan, departs, reads, byteAt, scanForm, onScan}
 use Rattle.definitions.specs.Text.{
@@ -24,13 +23,11 @@ use Rattle.definitions.specs.Text.{
   readLinks,
   readNetwork,
 }
-use Rattle.lists.specs.Ranges.{inside-range}
-use Rattle.lists.specs.Outcomes.{refuse-not}
 use Rattle.lists.specs.RefusedWithin.{RefusedAs, refuse-as, pick-within}
-use Rattle.lists.specs.Tests.{or-neither}
 use Rattle.text_theory.specs.Forms.{header-line}
 use Rattle.text_theory.specs.NetworkLines.{read-line}
 use Rattle.text_theory.specs.OutLengths.{outWidth, width-most}
+use Rattle.text_theory.specs.Sized.{sized-as}
 use Rattle.text_theory.specs.Spans.{span, Within, form-within}
 use Rattle.text_theory.specs.Reach.{link-behind, out-told}
 
@@ -41,6 +38,13 @@ pub on-scan-as : {A : Type 0} (P : ℕ → ℕ → Type 0) (number limit : ℕ) 
 unfolding onScan
 on-scan-as P number limit (departs q) next here within after = here q within
 on-scan-as P number limit (reads values q) next here within after = after values q refl within
+
+-- The same of what holds at every place.
+pub on-scan-anywhere : {A : Type 0} (P : ℕ → ℕ → Type 0) (number : ℕ) (scan : Scan) (next : List ℕ → ℕ → Outcome A)
+    → ((place : ℕ) → P number place) → ((values : List ℕ) (q : ℕ) → RefusedAs P (next values q)) → RefusedAs P (onScan number scan next)
+unfolding onScan
+on-scan-anywhere P number (departs q) next here after = here q
+on-scan-anywhere P number (reads values q) next here after = after values q
 
 -- What stands before a refusal: the scan departs, or it reads and the next step refuses.
 pub on-scan-refused : {A : Type 0} (own : ℕ) (scan : Scan) (next : List ℕ → ℕ → Outcome A) (number place : ℕ)
@@ -128,14 +132,6 @@ network-within text roomLows roomHighs roomStates inLows inHighs inStates =
     let n = getD values 0 0 in
     let m = getD values 1 0 in
     let line = read-line headerForm text 0 values p header-line (omega arith) e in
-    refuse-as ReadRefusal (outside 1 1000 n) 3 0 _ (λ _. (inl (omega arith), omega arith))
-    (λ size. refuse-as ReadRefusal (ltb 3000 m) 4 0 _ (λ _. (inl (omega arith), omega arith))
-    (λ many.
-    let most = ltb-false 3000 m many in
-    let few = inside-range 1 1000 n size .1 in
-    let full = ltb roomLows m || (ltb roomHighs m || ltb roomStates n) in
-    let roomy : full ≡ false =
-    or-neither (ltb roomLows m) _ (le-ltb roomLows m (omega arith))
-    (or-neither (ltb roomHighs m) _ (le-ltb roomHighs m (omega arith)) (le-ltb roomStates n (omega arith))) in
-    rw (refuse-not full 8 0 (readLinks text n [] [] p m) roomy)
-    (links-within m text n [] [] p few (line .1 .within) (omega arith) (omega arith)))))
+    sized-as ReadRefusal n m roomLows roomHighs roomStates (readLinks text n [] [] p m) inLows inHighs inStates
+    (inl (omega arith), omega arith) (inl (omega arith), omega arith)
+    (λ few most. links-within m text n [] [] p few (line .1 .within) (omega arith) (omega arith)))

@@ -3,12 +3,16 @@ use Prim.Native.Nat.{ℕ, _≤_}
 use mathlib.Core.Bool.{false, _||_}
 use mathlib.Core.Logic.{_≢_}
 use mathlib.Core.Path.{_≡_, _∙_}
+use native.Mathlib.Omega.{arith}
 use lib.Dec.{ltb}
 use borrow.Author.Tests.{ltb-false, le-ltb}
 use Rattle.definitions.specs.Outcome.{Outcome, refused, done, refuseIf}
 use Rattle.definitions.specs.Lists.{outside}
 use Rattle.definitions.specs.Text.{Network, sized}
 use Rattle.lists.specs.Outcomes.{not-refused, refused-later, refuse-not}
+use Rattle.lists.specs.Ranges.{inside-range}
+use Rattle.lists.specs.RefusedWithin.{RefusedAs, refuse-as}
+use Rattle.lists.specs.Tests.{or-neither}
 
 -- None of the three is given.
 pub record SizesPass (n m roomLows roomHighs roomStates : ℕ) : Type 0 where
@@ -44,3 +48,18 @@ sized-refused n m roomLows roomHighs roomStates rest r q e notThree notFour notE
     let four = refused-later (ltb 3000 m) 4 0 (refuseIf full 8 0 rest) r q (three .1) notFour in
     let eight = refused-later full 8 0 rest r q (four .1) notEight in
     (record { size = three .0; few = ltb-false 3000 m (four .0); room = eight .0 }, eight .1)
+
+-- With room for every network 8 is not given.
+pub sized-as : (P : ℕ → ℕ → Type 0) (n m roomLows roomHighs roomStates : ℕ) (rest : Outcome Network) → 3000 ≤ roomLows → 3000 ≤ roomHighs
+    → 1000 ≤ roomStates → P 3 0 → P 4 0 → (n ≤ 1000 → m ≤ 3000 → RefusedAs P rest) → RefusedAs P (sized n m roomLows roomHighs roomStates rest)
+sized-as P n m roomLows roomHighs roomStates rest inLows inHighs inStates three four after =
+    refuse-as P (outside 1 1000 n) 3 0 _ (λ _. three)
+    (λ size. refuse-as P (ltb 3000 m) 4 0 _ (λ _. four)
+    (λ many.
+    let most = ltb-false 3000 m many in
+    let few = inside-range 1 1000 n size .1 in
+    let full = ltb roomLows m || (ltb roomHighs m || ltb roomStates n) in
+    let roomy : full ≡ false =
+    or-neither (ltb roomLows m) _ (le-ltb roomLows m (omega arith))
+    (or-neither (ltb roomHighs m) _ (le-ltb roomHighs m (omega arith)) (le-ltb roomStates n (omega arith))) in
+    rw (refuse-not full 8 0 rest roomy) (after few most)))

@@ -1,5 +1,5 @@
-// The verifier: reads a network text and behind it a sheet's text from standard input and prints whether the sheet holds, or the
-// refusal. An input that is longer than the room gets no line: what is said of a sheet rests on its last byte too.
+// The verifier: reads a line that tells where the border is, a network's text and a sheet's text from standard input and prints whether
+// the sheet holds, or the refusal. An input that is longer than the room gets no line: what is said of a sheet rests on its last byte too.
 ghost use mathlib.Core.Bool.{true};
 ghost use mathlib.Core.Path.{_≡_};
 ghost use Rattle.definitions.specs.Verify.{verifyText};

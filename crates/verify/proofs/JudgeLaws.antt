@@ -6,26 +6,26 @@ use mathlib.Core.Logic.{_⊎_, inl, inr}
 use mathlib.Core.Path.{_≡_, sym, _∙_, ap, subst}
 use native.Mathlib.Omega.{arith}
 use lib.Dec.{eqb, ltb}
-use lib.ListN.{length, length-replicate}
+use lib.ListN.{length}
 use lib.Seq.{append-snoc}
-use borrow.Author.Tests.{le-ltb, eq-eqb, ne-eqb}
+use borrow.Author.Tests.{eq-eqb, ne-eqb}
 use Rattle.definitions.specs.Outcome.{pick, refused, done, refuseIf, andThen}
-use Rattle.definitions.specs.Lists.{outside, count, total}
+use Rattle.definitions.specs.Lists.{outside, count}
 use Rattle.definitions.specs.Network.{tableCheck, Accepted}
-use Rattle.definitions.specs.Forests.{marksOf, cutAnswer}
-use Rattle.definitions.specs.Form.{byteAt, Scan, departs, reads, scanForm, onScan}
+use Rattle.definitions.specs.Forests.{marksOf}
+use Rattle.definitions.specs.Form.{byteAt, Scan, reads, scanForm, onScan}
 use Rattle.definitions.specs.Text.{endForm}
 use Rattle.definitions.specs.Program.{room}
 use Rattle.definitions.specs.Plan.{sheetForm, keptForm, Sheet}
 use Rattle.definitions.specs.SheetForm.{routeFront, overFront, scanNumbers, readKept, readRoutes, readSheet}
 use Rattle.definitions.specs.SheetTest.{routesHold, sheetHolds, yesOrNo, sheetAnswer}
-use Rattle.definitions.specs.Verify.{behindOr}
 use Rattle.lists.specs.Outcomes.{not-refused, refuse-not, then-done}
 use Rattle.lists.specs.SameOutcomes.{done-same, done-then, refused-then}
 use Rattle.lists.specs.Ranges.{below, above, inside}
 use Rattle.theory.specs.Accepted.{accepted, accepted-states}
 use Rattle.text_theory.specs.RoundTrip.{on-scan-done}
-use Rattle.program.specs.CutPassed.{cut-passed}
+use Rattle.program.specs.ReadStage.{length-room}
+use Rattle.verify.specs.Offsets.{behindOr}
 use Rattle.verify.specs.Summary.{summary, summaryOf}
 use Rattle.verify.specs.Walks.{EndsKnown, LinesAt, RoutesWalked}
 use Rattle.verify.specs.Answers.{afterCheck}
@@ -41,27 +41,10 @@ ends-known n lows highs states table =
       high = λ i less. omega (arith, proper .below i less, known .long);
     }
 
--- Cut with a list that is long enough.
-pub cut-answers : (n : ℕ) (lows highs states : List ℕ) (k : ℕ) (marks : List ℕ) → Accepted n lows highs states → 1 ≤ k → k ≤ 32
-    → marks ≡ room 3000
-    → cutAnswer n lows highs states k marks ≡ done (count (eqb 1) (marksOf n lows highs states k) ∷ [])
-unfolding cutAnswer room
-cut-answers n lows highs states k marks table some few lent =
-    let last = done (total (marksOf n lows highs states k) ∷ []) in
-    let long : length marks ≡ 3000 = ap length lent ∙ length-replicate {A = ℕ} 3000 0 in
-    let short : length lows ≤ 3000 = accepted n lows highs states table .short in
-    let answered : cutAnswer n lows highs states k marks ≡ last =
-    then-done (tableCheck n lows highs states) _ [] table
-    ∙ refuse-not (outside 1 32 k) 9 0 _ (inside 1 32 k some few)
-    ∙ refuse-not (ltb (length marks) (length lows)) 12 0 last (le-ltb (length marks) (length lows) (omega (arith, long, short))) in
-    answered ∙ ap done (cut-passed n lows highs states k marks (total (marksOf n lows highs states k) ∷ []) answered .counted)
-
--- An answer that is one count is that count, and is no refusal.
-pub kept-is : (x y : ℕ) → done (x ∷ []) ≡ done (y ∷ []) → x ≡ y
-kept-is x y e = cc
-
-pub no-refusal : (number place : ℕ) (values : List ℕ) → refused number place ≡ done values → ⊥
-no-refusal number place values e = let z : _≡_ {A = ℕ} 0 1 = cc in omega arith
+-- The program's own list has room for the marks of every network.
+pub marks-fit : (n : ℕ) (lows highs states marks : List ℕ) → Accepted n lows highs states → marks ≡ room 3000 → length lows ≤ length marks
+marks-fit n lows highs states marks table lent =
+    omega (arith, ap length lent, length-room 3000, accepted n lows highs states table .short)
 
 -- The routes of a sheet that was read stand in its text, behind those read before.
 record Stand (text : List ℕ) (routes overs : List (List ℕ)) (p : ℕ) (sheet : Sheet) : Type 0 where

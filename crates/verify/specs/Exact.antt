@@ -3,6 +3,7 @@
 use Prim.Native.Nat.{ℕ, _≤_}
 use mathlib.Core.Bool.{Bool, true, false}
 use mathlib.Core.List.{List, [], _∷_}
+use mathlib.Core.Logic.{_⊎_, inl, inr}
 use mathlib.Core.Path.{_≡_, refl, sym, _∙_, ap}
 use native.Mathlib.Omega.{arith}
 use lib.ListN.{getD}
@@ -51,6 +52,15 @@ module _ (n : ℕ) (lows highs states text : List ℕ) where
         few = range .1;
         so = sym (done-same (yesOrNo (sheetHolds n lows highs states sheet)) values (fifteen .1));
       }
+
+  -- so it is yes or no;
+  pub yes-or-no : (values : List ℕ) → sheetAnswer n lows highs states text ≡ done values → (values ≡ 1 ∷ []) ⊎ (values ≡ 0 ∷ [])
+  unfolding yesOrNo
+  yes-or-no values e = let back = answered values e in go (sheetHolds n lows highs states (back .sheet)) (back .so)
+    where
+      go : (b : Bool) → values ≡ yesOrNo b → (values ≡ 1 ∷ []) ⊎ (values ≡ 0 ∷ [])
+      go true same = inl same
+      go false same = inr same
 
   -- and where there is such a sheet, that is the answer.
   answer-is : (claim : Sheet → Type 0) (back : ReadBack n lows highs states text claim)

@@ -6,5 +6,5 @@ pub mod Walks
 pub mod Answers
 pub mod Exact
 pub mod Written
-pub mod Promise
 pub mod Line
+pub mod Promise

@@ -19,6 +19,11 @@ after (reads values p) next = next p
 unfoldable pub behind : (scan : Scan) → Scan
 behind scan = after scan (reads [])
 
+-- The offset behind what was read, or another where the text departed.
+unfoldable pub behindOr : (scan : Scan) (other : ℕ) → ℕ
+behindOr (departs p) other = other
+behindOr (reads values p) other = p
+
 -- What is left of a line of numbers behind its front.
 unfoldable pub restOfLine : (text : List ℕ) (p : ℕ) → Scan
 restOfLine text p = after (scanMore text p (length text)) (scanForm text lineEnd)

@@ -2,14 +2,16 @@
 -- for a wish that is not refused is a sheet that holds.
 use Prim.Native.Nat.{ℕ, _<_}
 use mathlib.Core.Bool.{Bool, true, false}
-use mathlib.Core.List.{List, [], _∷_, _++_}
-use mathlib.Core.Logic.{inl, inr}
+use mathlib.Core.List.{List, [], _∷_}
+use mathlib.Core.Logic.{_⊎_, inl, inr, _≢_}
 use mathlib.Core.Path.{_≡_, refl, sym, _∙_, ap, subst}
 use native.Mathlib.Omega.{arith}
-use lib.ListN.{length, getD, drop}
-use lib.Seq.{take-append-seam, drop-append-seam}
+use lib.Dec.{eqb}
+use lib.ListN.{length, getD, take, drop}
+use borrow.Author.Tests.{eqb-false}
 use Rattle.definitions.specs.Outcome.{done}
-use Rattle.definitions.specs.Network.{linkServes}
+use Rattle.definitions.specs.Lists.{outside}
+use Rattle.definitions.specs.Network.{linkServes, tableCheck, Accepted}
 use Rattle.definitions.specs.Forests.{marksOf}
 use Rattle.definitions.specs.Form.{bytes, reads, writeForm}
 use Rattle.definitions.specs.Text.{Network, readNetwork}
@@ -18,17 +20,36 @@ use Rattle.definitions.specs.Plan.{sheetForm, Sheet, planner, planned, sheetTex
 use Rattle.definitions.specs.DisjointRoutes.{LinkOf, InService, AlongFrom, Along, RouteHolds}
 use Rattle.definitions.specs.Demand.{Kept}
 use Rattle.definitions.specs.SheetHolds.{SheetHolds}
-use Rattle.definitions.specs.Promised.{Asked, Answered}
+use Rattle.definitions.specs.Promised.{Asked, Answered, AllAnswered}
 use Rattle.definitions.specs.PlanPromise.{SheetPrinted}
+use Rattle.definitions.specs.SheetForm.{readSheet}
 use Rattle.definitions.specs.SheetTest.{sheetAnswer}
-use Rattle.definitions.specs.Verify.{networkSize, verified, verdictText, verifyText}
-use Rattle.definitions.specs.VerifyPromise.{VerifyPromise}
+use Rattle.definitions.specs.Verify.{
+  networkSize,
+  verifyInput,
+  Filed,
+  filed,
+  sheetSaid,
+  verifier,
+  valuesOf,
+  verified,
+  verdictText,
+  verifyText,
+  verdictOf,
+}
+use Rattle.definitions.specs.VerifyPromise.{SaidExactly, VerdictPrinted, VerifyPromise}
 use Rattle.lists.specs.Outcomes.{then-done}
-use Rattle.lists.specs.SameOutcomes.{done-same}
+use Rattle.lists.specs.RefusedWithin.{RefusedAs, refused-as, refuse-as, then-as}
+use Rattle.lists.specs.SameOutcomes.{done-same, done-then}
 use Rattle.theory.specs.Columns.{no-mark, mark-entry}
-use Rattle.text_theory.specs.NetworkFront.{network-front}
+use Rattle.text_theory.specs.RoundTrip.{written-read}
+use Rattle.text_theory.specs.RefusalFourteen.{refused-as-fourteen}
+use Rattle.text_theory.specs.Longest.{longest}
+use Rattle.text_theory.specs.Programs.{AllDone, AnswersAs, outcome-as, answered}
+use Rattle.program.specs.Printable.{read-printable, roomy}
 use Rattle.plan.specs.Promise.{sheet-promise}
-use Rattle.verify.specs.Exact.{said-exactly}
+use Rattle.verify.specs.Exact.{yes-or-no, said-exactly}
+use Rattle.verify.specs.Line.{two-texts}
 use Rattle.verify.specs.Written.{written-yes}
 
 -- A sheet that holds along links that the property picks, all of them with both ends in service, holds along links in service.
@@ -131,22 +152,80 @@ printed-answer input wish network sheet asked e = go (sheet-promise .answered in
         let same : sheetText sheet ≡ writeForm refusedForm values = sym (ap (printed sheetText) e) ∙ found .text in
         absurd (omega (arith, sheet-second sheet, refused-second values, ap (λ (l : List ℕ). getD l 1 0) same))
 
--- and behind a network text, a sheet that is answered with yes gets the line for yes.
+-- and with the network's text, a sheet that is answered with yes gets the line for yes.
 line-holds : (text sheetBytes : List ℕ) (network : Network) → readNetwork text 3000 3000 1000 ≡ done network
     → sheetAnswer (network .relays) (network .lows) (network .highs) (network .states) sheetBytes ≡ done (1 ∷ [])
-    → verifyText (text ++ sheetBytes) ≡ bytes "(holds)\n"
-unfolding verifyText verified verdictText printed
-line-holds text sheetBytes network read answered =
-    let size : networkSize (text ++ sheetBytes) ≡ length text = network-front text 3000 3000 1000 network read sheetBytes in
-    rw (size, take-append-seam text sheetBytes, drop-append-seam text sheetBytes)
-    (ap (printed verdictText) (then-done (readNetwork text 3000 3000 1000) _ network read ∙ answered))
+    → verifyText (verifyInput text sheetBytes) ≡ bytes "(holds)\n"
+unfolding verdictOf verdictText printed
+line-holds text sheetBytes network read said =
+    let (written, ok) = written-read text 3000 3000 1000 network read in
+    let short = longest (network .relays) (network .lows) (network .highs) (network .states) ok in
+    two-texts text sheetBytes (omega (arith, short, ap length written))
+    ∙ ap (printed verdictText) (then-done (readNetwork text 3000 3000 1000) _ network read ∙ said)
+
+-- The refusals of a sheet that is read back with an accepted network are 14 and 15, and those of the program neither 8 nor 12.
+abbrev Roomy : (number place : ℕ) → Type 0
+Roomy number place = (number ≢ 8) × (number ≢ 12)
+
+roomy-number : (number place : ℕ) → eqb number 8 ≡ false → eqb number 12 ≡ false → Roomy number place
+roomy-number number place eight twelve = (eqb-false number 8 eight, eqb-false number 12 twelve)
+
+sheet-roomy : (w : Network) (text : List ℕ) → Accepted (w .relays) (w .lows) (w .highs) (w .states)
+    → RefusedAs Roomy (sheetAnswer (w .relays) (w .lows) (w .highs) (w .states) text)
+unfolding sheetAnswer
+sheet-roomy w text ok =
+    rw (then-done (tableCheck (w .relays) (w .lows) (w .highs) (w .states)) _ [] ok)
+    (then-as Roomy (readSheet text) _
+    (refused-as Roomy (readSheet text) (λ number place e. rw (refused-as-fourteen text number place e) (roomy-number 14 place refl refl)))
+    (λ sheet _. refuse-as Roomy (outside 1 32 (sheet .k)) 15 0 _ (λ _. roomy-number 15 0 refl refl) (λ _. tt)))
+
+-- The network that was read is an accepted one.
+filed-accepted : (line text : List ℕ) (both : Filed) → filed line text ≡ done both
+    → let w = both .network in Accepted (w .relays) (w .lows) (w .highs) (w .states)
+unfolding filed
+filed-accepted line text both e =
+    let (w, read, last) = done-then (readNetwork (take (networkSize line) text) 3000 3000 1000) _ both e in
+    let same : w ≡ both .network = ap (λ (b : Filed). b .network) (done-same _ both last) in
+    subst (λ (w : Network). Accepted (w .relays) (w .lows) (w .highs) (w .states)) same
+    (written-read (take (networkSize line) text) 3000 3000 1000 w read .1)
+
+verified-roomy : (input : List ℕ) → RefusedAs Roomy (verified input)
+unfolding verified filed AnswersAs
+verified-roomy input =
+    outcome-as verifier _ input Roomy (λ place _. roomy-number 1 place refl refl)
+    (λ line text.
+    then-as Roomy (readNetwork (take (networkSize line) text) 3000 3000 1000) _
+    (roomy (readNetwork (take (networkSize line) text) 3000 3000 1000) (read-printable (take (networkSize line) text))) (λ _ _. tt))
+    (λ line both asked.
+    (sheet-roomy (both .network) (both .sheet) (filed-accepted line (drop (asked .behind) input) both (asked .read)), tt))
+
+-- What is said of the sheet.
+said-line : (line : List ℕ) (both : Filed) (values : List ℕ) → sheetSaid both ≡ done values
+    → VerdictPrinted line both (verdictText (valuesOf (sheetSaid both)))
+unfolding verdictText valuesOf
+said-line line both values e =
+    let w = both .network in
+    go (said-exactly (w .relays) (w .lows) (w .highs) (w .states) (both .sheet))
+    (yes-or-no (w .relays) (w .lows) (w .highs) (w .states) (both .sheet) values e)
+  where
+    go : (let w = both .network in SaidExactly (w .relays) (w .lows) (w .highs) (w .states) (both .sheet)) → (values ≡ 1 ∷ []) ⊎ (values ≡ 0 ∷ []) → VerdictPrinted line both (verdictText (valuesOf (sheetSaid both)))
+    go exact (inl one) = inl (rw (e, one), exact .yes .0 (e ∙ ap done one))
+    go exact (inr none) = inr (rw (e, none), exact .no .0 (e ∙ ap done none))
+
+verify-answered : AllAnswered verifier VerdictPrinted verifyText
+unfolding verifyText verified AllDone
+verify-answered input =
+    answered verifier _ input verdictText VerdictPrinted (verified-roomy input)
+    (λ line both _ passed. said-line line both (passed .0 .0) (passed .0 .1))
 
 -- Yes is said exactly where the sheet holds, and of every sheet that the program prints.
 pub read-back-promise : VerifyPromise
 read-back-promise =
     record {
       exact = said-exactly;
+      answered = verify-answered;
+      twoTexts = two-texts;
       printed = λ input wish network sheet asked e.
-          let answered = printed-answer input wish network sheet asked e in
-          record { answer = answered; line = line-holds (drop (asked .behind) input) (planText input) network (asked .read) answered };
+          let said = printed-answer input wish network sheet asked e in
+          record { answer = said; line = line-holds (drop (asked .behind) input) (planText input) network (asked .read) said };
     }

@@ -12,8 +12,7 @@ use Rattle.definitions.specs.Form.{Scan, departs, reads, byteAt, withFront, fol
 use Rattle.definitions.specs.Text.{endForm}
 use Rattle.definitions.specs.Plan.{sheetForm, keptForm, Sheet}
 use Rattle.definitions.specs.SheetForm.{routeFront, overFront, scanNumbers, readKept, readRoutes, readSheet}
-use Rattle.definitions.specs.Verify.{behindOr}
-use Rattle.verify.specs.Offsets.{after, twoLines, countLines, keptEnd}
+use Rattle.verify.specs.Offsets.{after, behindOr, twoLines, countLines, keptEnd}
 
 abbrev pub summary : (first : ℕ) (sheet : Sheet) → Outcome (List ℕ)
 summary first sheet =

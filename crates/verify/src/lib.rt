@@ -1,14 +1,12 @@
 // Sheets read back: whether a sheet, whoever made it, holds for a network.
 ghost use mathlib.Core.Path.{_≡_};
-ghost use Prim.Native.Nat.{_≤_};
 ghost use lib.Dec.{eqb};
 ghost use Rattle.definitions.specs.Forests.{marksOf};
 ghost use Rattle.definitions.specs.Lists.{count};
 ghost use Rattle.definitions.specs.Network.{Accepted};
 ghost use Rattle.definitions.specs.SheetTest.{sheetAnswer};
 ghost use Rattle.verify.specs.Answers.{sheetOutcome, afterCheck, Judged};
-use forests::CutAnswer;
-use forests::cut;
+use forests::cut_accepted;
 use form::Form;
 use form::sheet_form;
 use network::Check;
@@ -32,14 +30,10 @@ pub enum SheetAnswer {
 // How many links Cut keeps.
 fn kept_count(n: u16, lows: &[u16], highs: &[u16], states: &[u16], k: u16) -> u16
     requires { ⌜ Accepted n (now lows) (now highs) (now states) ⌝ }
-    requires { ⌜ (1 ≤ k) × (k ≤ 32) ⌝ }
     ensures { λ r. ⌜ r ≡ count (eqb 1) (marksOf n (now (lows .entry)) (now (highs .entry)) (now (states .entry)) k) ⌝ }
 {
     let mut marks = rooms::links();
-    match cut(n, lows, highs, states, k, &mut marks) {
-        CutAnswer::Refused(_) => 0,
-        CutAnswer::Kept(kept) => kept,
-    }
+    cut_accepted(n, lows, highs, states, k, &mut marks)
 }
 
 // A text of the form, with an accepted network: what its lines say, how many routes it has, and where the first of them stands.

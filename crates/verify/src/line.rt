@@ -1,22 +1,26 @@
-// A network text and behind it a sheet's text come in; the line that says whether the sheet holds goes out, or the refused line.
+// A line that tells where the border is, a network's text and a sheet's text come in; the line that says whether the sheet holds goes
+// out, or the refused line.
+ghost use mathlib.Core.List.{[], _∷_};
 ghost use mathlib.Core.Path.{_≡_};
 ghost use Prim.Native.Nat.{_≤_};
 ghost use lib.ListN.{length};
+ghost use Rattle.definitions.specs.Lists.{overwrite};
+ghost use Rattle.definitions.specs.Network.{Accepted};
 ghost use Rattle.definitions.specs.Program.{printed};
 ghost use Rattle.definitions.specs.SheetTest.{sheetAnswer};
-ghost use Rattle.definitions.specs.Lists.{overwrite};
 ghost use Rattle.definitions.specs.Verify.{networkSize, verdictText, verifyText};
 ghost use Rattle.program.specs.RefusedLine.{LinePut};
-ghost use Rattle.verify.specs.Line.{readBackFrom};
+ghost use Rattle.verify.specs.Line.{readBackFrom, readBackAt, Border};
 use crate::SheetAnswer;
-use crate::check_sheet;
+use crate::read_sheet;
+use network::Refusal;
 use program::load::load;
 use program::refusal::put_any;
 use program::rooms;
 use text::ReadAnswer;
 use text::put;
 use text::scan;
-use text::scan::WordScan;
+use text::scan::PairScan;
 
 // The bytes for every line: `(refused NUMBER PLACE)` with two numbers of twenty digits has as many.
 pub const OUTPUT: usize = 52;
@@ -25,25 +29,18 @@ pub fn output() -> [u8; OUTPUT] {
     [0u8; OUTPUT]
 }
 
-// How many bytes of the input are the network's text: up to its first `(end)`, line end included.
-fn network_size(input: &[u8]) -> usize
-    ensures { λ r. ⌜ r ≡ networkSize (now (input .entry)) ⌝ }
+// Where the border is, by the two numbers of the line in front: at the end of a text that is shorter than they tell.
+fn border(text: &[u8], a: u16, b: u16) -> usize
+    ensures { λ r. ⌜ Border (networkSize (a ∷ b ∷ [])) (now (text .entry)) r ⌝ }
 {
-    let mut p: usize = 0;
-    while p < input.len() {
-        match scan::word(input, b"(end)\n", p) {
-            WordScan::Departs(_) => {
-                p += 1;
-            }
-            WordScan::Reads(q) => {
-                return q;
-            }
-        }
+    let size = a as usize * 10000 + b as usize;
+    if text.len() < size {
+        return text.len();
     }
-    p
+    size
 }
 
-// The line for a sheet that is read back with this table.
+// The line for a sheet that is read back with this table, an accepted one.
 fn put_line(
     output: &mut [u8],
     n: u16,
@@ -52,12 +49,13 @@ fn put_line(
     states: &[u16],
     text: &[u8],
 ) -> usize
+    requires { ⌜ Accepted n (now lows) (now highs) (now states) ⌝ }
     requires { ⌜ 52 ≤ length (now output) ⌝ }
     ensures { λ r. ⌜ LinePut (now (output .entry))
         (printed verdictText (sheetAnswer n (now (lows .entry)) (now (highs .entry)) (now (states .entry)) (now (text .entry))))
         (now (output .exit)) r ⌝ }
 {
-    match check_sheet(n, lows, highs, states, text) {
+    match read_sheet(n, lows, highs, states, text) {
         SheetAnswer::Refused(refusal) => put_any(output, refusal),
         SheetAnswer::Holds => put::put_word(output, 0, b"(holds)\n"),
         SheetAnswer::Fails => put::put_word(output, 0, b"(fails)\n"),
@@ -65,7 +63,7 @@ fn put_line(
 }
 
 // The network is read, and then the sheet.
-pub(crate) fn put_read_back(output: &mut [u8], network: &[u8], text: &[u8]) -> usize
+fn put_read_back(output: &mut [u8], network: &[u8], text: &[u8]) -> usize
     requires { ⌜ 52 ≤ length (now output) ⌝ }
     ensures { λ r. ⌜ LinePut (now (output .entry)) (printed verdictText (readBackFrom (now (network .entry)) (now (text .entry))))
         (now (output .exit)) r ⌝ }
@@ -90,11 +88,23 @@ pub(crate) fn put_read_back(output: &mut [u8], network: &[u8], text: &[u8]) -> u
     }
 }
 
+// Both texts, with the border that the line in front tells.
+fn put_both(output: &mut [u8], text: &[u8], a: u16, b: u16) -> usize
+    requires { ⌜ 52 ≤ length (now output) ⌝ }
+    ensures { λ r. ⌜ LinePut (now (output .entry)) (printed verdictText (readBackAt (networkSize (a ∷ b ∷ [])) (now (text .entry))))
+        (now (output .exit)) r ⌝ }
+{
+    let at = border(text, a, b);
+    put_read_back(output, &text[..at], &text[at..])
+}
+
 // Prints the line for an input, from the output's first byte on, and gives its length.
 pub fn verify(input: &[u8], output: &mut [u8; OUTPUT]) -> usize
     ensures length { λ r. ⌜ r ≡ length (verifyText (now (input .entry))) ⌝ }
     ensures bytes { λ _. ⌜ now (output .exit) ≡ overwrite (verifyText (now (input .entry))) (now (output .entry)) ⌝ }
 {
-    let size = network_size(input);
-    put_read_back(output, &input[..size], &input[size..])
+    match scan::pair_line(input, b"(verify ", b" ", b")\n", 0) {
+        PairScan::Departs(p) => put_any(output, Refusal::Wish(p)),
+        PairScan::Reads(a, b, p) => put_both(output, &input[p..], a, b),
+    }
 }

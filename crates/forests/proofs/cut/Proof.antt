@@ -1,7 +1,5 @@
 -- Cut: a refused table, k out of range, a list too short, or all marks. Assumes nothing.
-use Rattle.theory.specs.Accepted.{accepted}
 use mathlib.Core.Path.{sym, _∙_, ap}
-use native.Mathlib.Omega.{arith}
 use denote.Ref.{now}
 use Rattle.definitions.specs.Network.{Accepted}
 use Rattle.lists.specs.Ranges.{inside, below, above}
@@ -44,15 +42,8 @@ returns-3 c =
     cut-short (a .n) (now (a .lows)) (now (a .highs)) (now (a .states)) (a .k) (now (a .marks)) (good (c .before .before .before))
     (inside 1 32 (a .k) (c .before .before .if1 .left) (c .before .if2 .left)) (c .if3 .taken)
 
-number-links-requires : tie.Need-number-links-requires
-number-links-requires c κs = (good (c .before .before .before .before), c .before .if3 .left)
-
-mark-links-requires : tie.Need-mark-links-requires
-mark-links-requires c κs =
-    let a = c .before .before .before .before .before .before .before .before .before .before .before .before .before .before .before .args in (
-      accepted (a .n) (now (a .lows)) (now (a .highs)) (now (a .states)) (good (c .before .before .before .before .before .before .before .before)) .short,
-      omega (arith, c .before .before .before .number-links .kept .1 .1 .1 .1 .0, c .before .before .before .before .before .if3 .left),
-    )
+cut-accepted-requires : tie.Need-cut-accepted-requires
+cut-accepted-requires c κs = (good (c .before .before .before .before), c .before .if3 .left)
 
 returns-4 : tie.Need-returns-4
 returns-4 c =
@@ -68,19 +59,16 @@ same-length c = search needs
 
 returns-5 : tie.Need-returns-5
 returns-5 c =
-    let atNumberLinks = c .before .before .before .before .before .before in
-    let atIf3 = atNumberLinks .before .before in
+    let atCall = c .before .before in
+    let atIf3 = atCall .before .before in
     let atIf2 = atIf3 .before in
     let atIf1 = atIf2 .before in
     let start = atIf1 .before .before .before .before .before .before .before .before in
     let a = start .args in
     let inRange = inside 1 32 (a .k) (atIf1 .if1 .left) (atIf2 .if2 .left) in
-    let enough = atIf3 .if3 .left in
-    let stored = atNumberLinks .number-links .ensures in
-    let marked = c .before .before .mark-links in
-    cut-done (a .n) (now (a .lows)) (now (a .highs)) (now (a .states)) (a .k) (now (a .marks)) (marked .result)
-    (good (c .before .before .before .before .before .before .before .before .before .before .before)) inRange enough stored
-    (marked .ensures .0) (marked .ensures .1)
+    let made = atCall .cut-accepted in
+    cut-done (a .n) (now (a .lows)) (now (a .highs)) (now (a .states)) (a .k) (now (a .marks)) (made .result)
+    (good (atIf1 .before)) inRange (atIf3 .if3 .left) (made .ensures .0) (made .ensures .1)
 
 pub cut-spec : {M : Type 1} → statement M
 cut-spec =
@@ -92,8 +80,7 @@ cut-spec =
     returns
     returns-2
     returns-3
-    number-links-requires
-    mark-links-requires
+    cut-accepted-requires
     returns-4
     same-length
     returns-5)

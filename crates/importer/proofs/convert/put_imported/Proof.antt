@@ -4,10 +4,15 @@ use mathlib.Core.Path.{sym}
 use native.Mathlib.Omega.{arith}
 use denote.Ref.{now}
 use lib.Seq.{length-take-le}
-use Rattle.importer.proofs.ConvertLaws.{refusal-printed, network-printed}
+use Rattle.program.specs.ReadStage.{LoadedTable}
+use Rattle.importer.proofs.ConvertLaws.{text-fits, refusal-printed, network-printed}
 use borrow.Author.Needs.{needs}
 use Rattle.importer.proofs.convert.put_imported.Statement.{statement}
 use Rattle.importer.proofs.convert.put_imported.Tie as tie
+
+-- The table that is imported, once the import has answered with n and m.
+table : (c : tie.After-n) → LoadedTable (c .before .before .load-drawing .ensures) (c .n .given .1)
+table c = c .before .before .load-drawing .ensures .gives _ _ (c .n .given .1)
 
 links-requires : tie.Need-links-requires
 links-requires c κs = search needs
@@ -37,25 +42,29 @@ cast-relays : tie.Need-cast-relays
 cast-relays c = search needs
 
 array-share-prefix-lows : tie.Need-array-share-prefix-lows
-array-share-prefix-lows c = (c .before .before .before .before .load-drawing .ensures .gives _ _ (c .before .before .n .given .1) .inLows)
+array-share-prefix-lows c = table (c .before) .inLows
 
-slice-aggregate-put-network : tie.Need-slice-aggregate-put-network
-slice-aggregate-put-network c = sym (length-take-le _ _ (c .before .before .before .before .before .load-drawing .ensures .gives _ _ (c .before .before .before .n .given .1) .inLows))
+slice-aggregate-write-accepted : tie.Need-slice-aggregate-write-accepted
+slice-aggregate-write-accepted c = sym (length-take-le _ _ (table (c .before .before) .inLows))
 
 array-share-prefix-highs : tie.Need-array-share-prefix-highs
-array-share-prefix-highs c = (c .before .before .before .before .before .load-drawing .ensures .gives _ _ (c .before .before .before .n .given .1) .inHighs)
+array-share-prefix-highs c = table (c .before .before) .inHighs
 
-slice-aggregate-put-network-2 : tie.Need-slice-aggregate-put-network-2
-slice-aggregate-put-network-2 c = sym (length-take-le _ _ (c .before .before .before .before .before .before .load-drawing .ensures .gives _ _ (c .before .before .before .before .n .given .1) .inHighs))
+slice-aggregate-write-accepted-2 : tie.Need-slice-aggregate-write-accepted-2
+slice-aggregate-write-accepted-2 c = sym (length-take-le _ _ (table (c .before .before .before) .inHighs))
 
 array-share-prefix-states : tie.Need-array-share-prefix-states
-array-share-prefix-states c = (c .before .before .before .before .before .before .load-drawing .ensures .gives _ _ (c .before .before .before .before .n .given .1) .inStates)
+array-share-prefix-states c = table (c .before .before .before) .inStates
 
-slice-aggregate-put-network-3 : tie.Need-slice-aggregate-put-network-3
-slice-aggregate-put-network-3 c = sym (length-take-le _ _ (c .before .before .before .before .before .before .before .load-drawing .ensures .gives _ _ (c .before .before .before .before .before .n .given .1) .inStates))
+slice-aggregate-write-accepted-3 : tie.Need-slice-aggregate-write-accepted-3
+slice-aggregate-write-accepted-3 c = sym (length-take-le _ _ (table (c .before .before .before .before) .inStates))
 
-put-network-requires : tie.Need-put-network-requires
-put-network-requires c κs = ((c .before .before .before .before .before .before .before .load-drawing .ensures .gives _ _ (c .before .before .before .before .before .n .given .1) .accepted), omega arith)
+write-accepted-requires : tie.Need-write-accepted-requires
+write-accepted-requires c κs =
+    let atN = c .before .before .before .before .before in
+    let start = atN .before .before .before .before .before .before .before .before .before .before .before in
+    let good = table atN .accepted in
+    (good, text-fits _ _ _ _ (now (start .args .output)) good (start .pre))
 
 same-length : tie.Need-same-length
 same-length c = search needs
@@ -74,8 +83,8 @@ same-length-2 c = search needs
 
 returns-2 : tie.Need-returns-2
 returns-2 c =
-    let atPut = c .before .before in
-    network-printed _ _ _ _ _ _ _ _ _ (c .before .before .before .before .before .before .before .before .before .before .load-drawing .ensures .gives _ _ (c .before .before .before .before .before .before .before .before .n .given .1)) (atPut .put-network .ensures)
+    let atWrite = c .before .before in
+    network-printed _ _ _ _ _ _ _ _ _ (table (atWrite .before .before .before .before .before .before)) (atWrite .write-accepted .ensures)
 
 pub put-imported-spec : {M : Type 1} → statement M
 put-imported-spec =
@@ -91,12 +100,12 @@ put-imported-spec =
     cast-size
     cast-relays
     array-share-prefix-lows
-    slice-aggregate-put-network
+    slice-aggregate-write-accepted
     array-share-prefix-highs
-    slice-aggregate-put-network-2
+    slice-aggregate-write-accepted-2
     array-share-prefix-states
-    slice-aggregate-put-network-3
-    put-network-requires
+    slice-aggregate-write-accepted-3
+    write-accepted-requires
     same-length
     returns
     same-length-2

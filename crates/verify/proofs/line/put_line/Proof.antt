@@ -1,14 +1,25 @@
 -- `verify::line::put_line` meets its contract: the line of each answer. Assumes nothing.
-use mathlib.Core.Path.{sym, _∙_, ap}
+use mathlib.Core.Path.{_≡_, sym, _∙_, ap}
+use denote.Ref.{now}
 use Rattle.definitions.specs.Program.{printed}
+use Rattle.definitions.specs.SheetTest.{sheetAnswer}
 use Rattle.verify.specs.Answers.{sheetOutcome}
+use Rattle.verify.proofs.JudgeLaws.{table-passed}
 use Rattle.verify.proofs.LineLaws.{line-of, holds-line, fails-line}
 use borrow.Author.Needs.{needs}
 use Rattle.verify.proofs.line.put_line.Statement.{statement}
 use Rattle.verify.proofs.line.put_line.Tie as tie
 
-check-sheet-requires : tie.Need-check-sheet-requires
-check-sheet-requires c κs = search needs
+-- What was said of the sheet is what the operation says, since the table passes its check.
+said : (c : tie.After-read-sheet)
+    → let a = c .before .before .before .before .before .before .args in
+    sheetOutcome (c .read-sheet .result) ≡ sheetAnswer (a .n) (now (a .lows)) (now (a .highs)) (now (a .states)) (now (a .text))
+said c =
+    let start = c .before .before .before .before .before .before in
+    c .read-sheet .ensures ∙ table-passed _ _ _ _ _ (start .pre .0)
+
+read-sheet-requires : tie.Need-read-sheet-requires
+read-sheet-requires c κs = search needs
 
 enum-known-refusal : tie.Need-enum-known-refusal
 enum-known-refusal c = search needs
@@ -41,8 +52,8 @@ returns : tie.Need-returns
 unfolding printed
 returns c =
     let atRefusal = c .before .before .before .before .before in
-    let atSheet = atRefusal .before .before in
-    line-of _ _ (sym (atSheet .check-sheet .ensures) ∙ ap sheetOutcome (atRefusal .refusal .given .1)) (c .before .before .put-any .ensures)
+    let atRead = atRefusal .before .before in
+    line-of _ _ (sym (said atRead) ∙ ap sheetOutcome (atRefusal .refusal .given .1)) (c .before .before .put-any .ensures)
 
 same-length-2 : tie.Need-same-length-2
 same-length-2 c = search needs
@@ -50,8 +61,8 @@ same-length-2 c = search needs
 returns-2 : tie.Need-returns-2
 returns-2 c =
     let atTold = c .before .before .before .before .before in
-    let atSheet = atTold .before .before in
-    line-of _ _ (sym (atSheet .check-sheet .ensures) ∙ ap sheetOutcome (atTold .enum-told .given .1))
+    let atRead = atTold .before .before in
+    line-of _ _ (sym (said atRead) ∙ ap sheetOutcome (atTold .enum-told .given .1))
     (holds-line (c .before .before .put-word .ensures))
 
 same-length-3 : tie.Need-same-length-3
@@ -60,15 +71,15 @@ same-length-3 c = search needs
 returns-3 : tie.Need-returns-3
 returns-3 c =
     let atTold = c .before .before .before .before .before in
-    let atSheet = atTold .before .before in
-    line-of _ _ (sym (atSheet .check-sheet .ensures) ∙ ap sheetOutcome (atTold .enum-told2 .given .1))
+    let atRead = atTold .before .before in
+    line-of _ _ (sym (said atRead) ∙ ap sheetOutcome (atTold .enum-told2 .given .1))
     (fails-line (c .before .before .put-word2 .ensures))
 
 pub put-line-spec : {M : Type 1} → statement M
 put-line-spec =
     tie.close
     (tie.spec
-    check-sheet-requires
+    read-sheet-requires
     enum-known-refusal
     put-any-requires
     enum-told

@@ -1,13 +1,18 @@
 -- `verify::line::put_read_back` meets its contract: Read refuses, or the sheet is looked at with the table in the front of its lists.
 -- Assumes nothing.
 use mathlib.Core.Path.{sym}
+use native.Mathlib.Omega.{arith}
 use lib.Seq.{length-take-le}
 use Rattle.definitions.specs.Program.{printed}
-use Rattle.program.specs.ReadStage.{loaded-refused, loaded-table}
+use Rattle.program.specs.ReadStage.{LoadedTable, loaded-refused, loaded-table}
 use Rattle.verify.proofs.LineLaws.{line-of}
 use borrow.Author.Needs.{needs}
 use Rattle.verify.proofs.line.put_read_back.Statement.{statement}
 use Rattle.verify.proofs.line.put_read_back.Tie as tie
+
+-- The table that is read, once Read has answered with n and m.
+table : (c : tie.After-n) → LoadedTable (c .before .before .load .ensures) (c .n .given .1)
+table c = c .before .before .load .ensures .gives _ _ (c .n .given .1)
 
 links-requires : tie.Need-links-requires
 links-requires c κs = search needs
@@ -37,25 +42,25 @@ cast-relays : tie.Need-cast-relays
 cast-relays c = search needs
 
 array-share-prefix-lows : tie.Need-array-share-prefix-lows
-array-share-prefix-lows c = (c .before .before .before .before .load .ensures .gives _ _ (c .before .before .n .given .1) .inLows)
+array-share-prefix-lows c = table (c .before .before) .inLows
 
 slice-aggregate-put-line : tie.Need-slice-aggregate-put-line
-slice-aggregate-put-line c = sym (length-take-le _ _ (c .before .before .before .before .before .load .ensures .gives _ _ (c .before .before .before .n .given .1) .inLows))
+slice-aggregate-put-line c = sym (length-take-le _ _ (table (c .before .before .before) .inLows))
 
 array-share-prefix-highs : tie.Need-array-share-prefix-highs
-array-share-prefix-highs c = (c .before .before .before .before .before .load .ensures .gives _ _ (c .before .before .before .n .given .1) .inHighs)
+array-share-prefix-highs c = table (c .before .before .before) .inHighs
 
 slice-aggregate-put-line-2 : tie.Need-slice-aggregate-put-line-2
-slice-aggregate-put-line-2 c = sym (length-take-le _ _ (c .before .before .before .before .before .before .load .ensures .gives _ _ (c .before .before .before .before .n .given .1) .inHighs))
+slice-aggregate-put-line-2 c = sym (length-take-le _ _ (table (c .before .before .before .before) .inHighs))
 
 array-share-prefix-states : tie.Need-array-share-prefix-states
-array-share-prefix-states c = (c .before .before .before .before .before .before .load .ensures .gives _ _ (c .before .before .before .before .n .given .1) .inStates)
+array-share-prefix-states c = table (c .before .before .before .before) .inStates
 
 slice-aggregate-put-line-3 : tie.Need-slice-aggregate-put-line-3
-slice-aggregate-put-line-3 c = sym (length-take-le _ _ (c .before .before .before .before .before .before .before .load .ensures .gives _ _ (c .before .before .before .before .before .n .given .1) .inStates))
+slice-aggregate-put-line-3 c = sym (length-take-le _ _ (table (c .before .before .before .before .before) .inStates))
 
 put-line-requires : tie.Need-put-line-requires
-put-line-requires c κs = search needs
+put-line-requires c κs = (table (c .before .before .before .before .before) .accepted, omega arith)
 
 same-length : tie.Need-same-length
 same-length c = search needs
@@ -63,10 +68,9 @@ same-length c = search needs
 returns : tie.Need-returns
 unfolding printed
 returns c =
-    let atPut = c .before .before in
-    let atRefusal = atPut .before .before .before in
+    let atRefusal = c .before .before .before .before .before in
     line-of _ _
-    (loaded-refused _ _ _ _ _ _ _ (atRefusal .before .before .load .ensures) (atRefusal .refusal .given .1)) (atPut .put-any .ensures)
+    (loaded-refused _ _ _ _ _ _ _ (atRefusal .before .before .load .ensures) (atRefusal .refusal .given .1)) (c .before .before .put-any .ensures)
 
 same-length-2 : tie.Need-same-length-2
 same-length-2 c = search needs
@@ -74,8 +78,7 @@ same-length-2 c = search needs
 returns-2 : tie.Need-returns-2
 returns-2 c =
     let atPut = c .before .before in
-    let atN = atPut .before .before .before .before .before .before in
-    line-of _ _ (loaded-table _ _ _ _ _ _ _ (atN .before .before .load .ensures .gives _ _ (atN .n .given .1))) (atPut .put-line .ensures)
+    line-of _ _ (loaded-table _ _ _ _ _ _ _ (table (atPut .before .before .before .before .before .before))) (atPut .put-line .ensures)
 
 pub put-read-back-spec : {M : Type 1} → statement M
 put-read-back-spec =

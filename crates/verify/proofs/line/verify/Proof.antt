@@ -1,54 +1,88 @@
--- `verify::line::verify` meets its contract: the two parts of the input, and the line. Assumes nothing.
-use mathlib.Core.Path.{sym}
+-- `verify::line::verify` meets its contract: the line in front departs, or the two texts behind it are read. Assumes nothing.
+use mathlib.Core.Path.{refl, sym, _∙_, ap}
 use native.Mathlib.Omega.{arith}
 use denote.Ref.{now}
-use lib.Seq.{length-take-le}
-use Rattle.verify.proofs.LineLaws.{size-taken, whole-line}
+use Rattle.definitions.specs.Program.{printed}
+use Rattle.definitions.specs.Verify.{verifyForm}
+use Rattle.text_theory.specs.Forms.{noZero}
+use Rattle.text.specs.Scans.{pairGives}
+use Rattle.verify.specs.Line.{verify-departed, verify-taken}
+use Rattle.verify.proofs.LineLaws.{whole-line}
 use borrow.Author.Needs.{needs}
 use Rattle.verify.proofs.line.verify.Statement.{statement}
 use Rattle.verify.proofs.line.verify.Tie as tie
 
-network-size-requires : tie.Need-network-size-requires
-network-size-requires c κs = search needs
+slice-aggregate-pair-line : tie.Need-slice-aggregate-pair-line
+slice-aggregate-pair-line c = search needs
 
-slice-aggregate-put-read-back : tie.Need-slice-aggregate-put-read-back
-slice-aggregate-put-read-back c =
-    let atSize = c .before .before in
-    let input = now (atSize .before .before .args .input) in
-    sym (length-take-le _ _ (size-taken input _ (atSize .network-size .ensures)))
+slice-aggregate-pair-line-2 : tie.Need-slice-aggregate-pair-line-2
+slice-aggregate-pair-line-2 c = search needs
 
-sub-put-read-back : tie.Need-sub-put-read-back
-sub-put-read-back c =
-    let atSize = c .before .before in
-    let input = now (atSize .before .before .args .input) in
-    size-taken input _ (atSize .network-size .ensures)
+slice-aggregate-pair-line-3 : tie.Need-slice-aggregate-pair-line-3
+slice-aggregate-pair-line-3 c = search needs
 
-part-put-read-back-start : tie.Need-part-put-read-back-start
-part-put-read-back-start c =
-    let atSize = c .before .before in
-    let input = now (atSize .before .before .args .input) in
-    size-taken input _ (atSize .network-size .ensures)
+pair-line-requires : tie.Need-pair-line-requires
+unfolding noZero
+pair-line-requires c κs = (refl, (refl, refl))
 
-part-put-read-back-end : tie.Need-part-put-read-back-end
-part-put-read-back-end c = search needs
+enum-known-p : tie.Need-enum-known-p
+enum-known-p c = search needs
 
-put-read-back-requires : tie.Need-put-read-back-requires
-put-read-back-requires c κs = search needs
+put-any-requires : tie.Need-put-any-requires
+put-any-requires c κs = search needs
+
+enum-known-a : tie.Need-enum-known-a
+enum-known-a c = search needs
+
+sub-put-both : tie.Need-sub-put-both
+unfolding verifyForm
+sub-put-both c =
+    let atA = c .before .before in
+    let atLine = atA .before .before in
+    let input = now (atLine .before .before .before .before .before .args .input) in
+    verify-taken input _ _ _ (sym (atLine .pair-line .ensures) ∙ ap pairGives (atA .a .given .1)) .0
+
+part-put-both-start : tie.Need-part-put-both-start
+part-put-both-start c = sub-put-both c
+
+part-put-both-end : tie.Need-part-put-both-end
+part-put-both-end c = search needs
+
+put-both-requires : tie.Need-put-both-requires
+put-both-requires c κs = search needs
 
 returns : tie.Need-returns
+unfolding verifyForm printed
 returns c =
-    let atSize = c .before .before .before .before in
-    let a = atSize .before .before .args in
-    whole-line (now (a .input)) _ _ _ _ (atSize .network-size .ensures) (omega arith) (c .put-read-back .ensures)
+    let atP = c .before .before .before in
+    let atLine = atP .before .before in
+    let input = now (atLine .before .before .before .before .before .args .input) in
+    whole-line input _ _ _ _ (verify-departed input _ (sym (atLine .pair-line .ensures) ∙ ap pairGives (atP .p .given .1))) (omega arith)
+    (c .put-any .ensures)
+
+returns-2 : tie.Need-returns-2
+unfolding verifyForm
+returns-2 c =
+    let atA = c .before .before .before .before in
+    let atLine = atA .before .before in
+    let input = now (atLine .before .before .before .before .before .args .input) in
+    whole-line input _ _ _ _ (verify-taken input _ _ _ (sym (atLine .pair-line .ensures) ∙ ap pairGives (atA .a .given .1)) .1) (omega arith)
+    (c .put-both .ensures)
 
 pub verify-spec : {M : Type 1} → statement M
 verify-spec =
     tie.close
     (tie.spec
-    network-size-requires
-    slice-aggregate-put-read-back
-    sub-put-read-back
-    part-put-read-back-start
-    part-put-read-back-end
-    put-read-back-requires
-    returns)
+    slice-aggregate-pair-line
+    slice-aggregate-pair-line-2
+    slice-aggregate-pair-line-3
+    pair-line-requires
+    enum-known-p
+    put-any-requires
+    enum-known-a
+    sub-put-both
+    part-put-both-start
+    part-put-both-end
+    put-both-requires
+    returns
+    returns-2)
