@@ -24,15 +24,16 @@ why_no_number() {
     esac
 }
 
-# spool NAME FILE KIND: keeps what can be read only once in a file of our own, which goes when this run ends.
+# spool NAME KIND [FILE]: keeps what can be read only once, standard input or a file, in a file of our own, which goes when this run
+# ends.
 spool() {
     local words
     if [ -z "${spooled:-}" ]; then
         spooled=$(mktemp -d 2>/dev/null) || fail "$(unwritable "${TMPDIR:-/tmp}" "$(reason "${TMPDIR:-/tmp}/nolkisei.$$")"), where $1 is to be kept"
         trap 'rm -rf -- "$spooled"' EXIT
     fi
-    path=$spooled/$3
-    words=$(LC_ALL=C; { head -c $((limit + 1)) <"$2" >"$path"; } 2>&1) && return
+    path=$spooled/$2
+    words=$(LC_ALL=C; { [ $# -eq 2 ] || exec <"$3"; head -c $((limit + 1)) >"$path"; } 2>&1) && return
     case $words in
     *[Ww]rit* | *'No space'*) fail "$(unwritable "${TMPDIR:-/tmp}" "${words##*: }"), where $1 is to be kept" ;;
     *) fail "$1 cannot be read to its end" ;;
@@ -55,14 +56,14 @@ take() {
     typed_file=$typed
     [ -e "$path" ] || { safe "$PWD" && fail "there is no file $name (looked for from $safe)"; }
     [ ! -d "$path" ] || fail "$name is a folder, not a $2"
-    [ -r "$path" ] || fail "the file $name may not be read by you"
+    [ "$1" = - ] || [ -r "$path" ] || fail "the file $name may not be read by you"
     if [ -f "$path" ] && [ "$path" -ef /dev/stdout ]; then
         [ -s "$path" ] || fail "standard output goes to $name, the file that is to be read, and > has emptied it before this command began; name another file after >"
         fail "standard output goes to $name, the file that is to be read; nothing was written. Name another file after >"
     fi
     case $1 in
-    -) typed_file=- && spool "$name" /dev/stdin "$2" ;;
-    *) [ -f "$path" ] || spool "$name" "$path" "$2" ;;
+    -) typed_file=- && spool "$name" "$2" ;;
+    *) [ -f "$path" ] || spool "$name" "$2" "$path" ;;
     esac
 }
 

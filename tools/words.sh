@@ -32,9 +32,10 @@ me() {
     echo "$typed"
 }
 
-# several NUMBER THING: so many of a thing.
+# several NUMBER THING: leaves in several so many of a thing.
 several() {
-    [ "$1" -eq 1 ] && echo "1 $2" || echo "$1 $2s"
+    several="$1 $2"
+    [ "$1" -eq 1 ] || several+=s
 }
 
 # usage COMMAND: how a command is called, the first line of its file.

@@ -28,9 +28,11 @@ esac
 pass_on
 last=${BASH_REMATCH[1]} figure=${BASH_REMATCH[3]}
 two="$name: relays $last and ${BASH_REMATCH[2]}, the last two of the order, have"
-why="relay $last has $(several "$figure" link) to relays in service"
+several "$figure" link
+why="relay $last has $several to relays in service"
+several "$figure" route
 case "$ends $figure" in
-0*) say "$two exactly $(several "$figure" route), and no planner finds more: $why" ;;
+0*) say "$two exactly $several, and no planner finds more: $why" ;;
 '1 0') say "$two no route: $why" ;;
 1*) say "$two at most $figure routes, since $why; a sheet has at most 32" ;;
 esac
