@@ -6,22 +6,22 @@ drawn='p edge 5 7\ne 1 2\ne 3 1\ne 2 3\ne 4 2\ne 3 4\ne 3 5\ne 5 4\n'
 # misdrawn WHAT DRAWING REFUSAL LINE COLUMN CAUSE SHOWN [DUE]: a drawing with this refusal, and just these words: the line that is
 # shown, and what is due there.
 misdrawn() {
-    local due=${8:+$'\nimport: due there: '$8} pad
+    local due=${8:+$'\n'"nolkisei: a.col, line $4: due there: $8"} pad
     pad=$(printf '%*s' "$5" '^')
     printf '%b' "$2" >"$work/a.col"
-    ask "$copy/import" a.col
+    ask "$copy/nolkisei" import a.col
     same "$1: the refused line" "(refused $3)"$'\nstatus 1' "$output"
-    same "$1" "import: refused (${3% *}): a.col, line $4, column $5: $6"$'\n    '"$7"$'\n    '"$pad$due" "$words"
+    same "$1" "nolkisei: refused (${3% *}): a.col, line $4, column $5: $6"$'\n    '"$7"$'\n    '"$pad$due" "$words"
 }
 
 # imports WHAT DRAWING NETWORK: a drawing, and the network that is printed for it.
 imports() {
     printf '%b' "$2" >"$work/a.col"
-    ask "$copy/import" a.col
+    ask "$copy/nolkisei" import a.col
     same "$1" "$(printf '%b' "$3")"$'\nstatus 0' "$output$words"
 }
 
-ask "$copy/import" "$copy/networks/mesh.col"
+ask "$copy/nolkisei" import "$copy/networks/mesh.col"
 same 'the mesh as a drawing' "$imported" "$output$words"
 imports 'ends in either order' "$drawn" "$mesh"
 imports 'comments anywhere' "c FILE mesh.col\nc\n${drawn/e 3 1/c \\nc e 9 9\\xff\\0\\r\\ne 3 1}c behind\n" "$mesh"
@@ -36,14 +36,14 @@ next_due='a line e U V, 1 of 1, or a comment line'
 last_due='a comment line or the end of the file'
 top='p edge 3 1\n'
 returns='a carriage return; save the file with the line ends of Unix (LF), not of Windows (CR LF)'
-no_end='the last line end is missing; press Enter behind the last line and save'
-no_space='a comment line has a space behind its c; put one there'
-extra='something stands behind the two numbers; take it off (weights and lengths are not read)'
-misdrawn 'p col' 'p col 3 1\ne 1 2\n' '18 2' 1 3 'the word behind p is col; write p edge (the other lines of such a file are the same)' 'p col 3 1' "$problem_due"
-misdrawn 'p edges' 'c\np edges 3 1\ne 1 2\n' '18 8' 2 7 'the word behind p is edges; write p edge' 'p edges 3 1' "$problem_due"
+no_end='the last line end is missing; press Enter after the last line and save'
+no_space='a comment line has a space after its c; put one there'
+extra='something stands after the two numbers; take it off (weights and lengths are not read)'
+misdrawn 'p col' 'p col 3 1\ne 1 2\n' '18 2' 1 3 'the word after p is col; write p edge (the other lines of such a file are the same)' 'p col 3 1' "$problem_due"
+misdrawn 'p edges' 'c\np edges 3 1\ne 1 2\n' '18 8' 2 7 'the word after p is edges; write p edge' 'p edges 3 1' "$problem_due"
 misdrawn 'another form' 'p sp 3 1\na 1 2 7\n' '18 2' 1 3 'p sp is another DIMACS form; a drawing has p edge and its links in lines e U V' 'p sp 3 1' "$problem_due"
-misdrawn 'no space behind the word' 'p edge3 1\ne 1 2\n' '18 6' 1 7 'the word behind p is edge3; write p edge' 'p edge3 1' "$problem_due"
-misdrawn 'no word behind p' 'p 3 1\ne 1 2\n' '18 2' 1 3 'the word edge is missing behind p' 'p 3 1' "$problem_due"
+misdrawn 'no space behind the word' 'p edge3 1\ne 1 2\n' '18 6' 1 7 'the word after p is edge3; write p edge' 'p edge3 1' "$problem_due"
+misdrawn 'no word after p' 'p 3 1\ne 1 2\n' '18 2' 1 3 'the word edge is missing after p' 'p 3 1' "$problem_due"
 misdrawn 'n lines' "${top}n 1 2\ne 1 2\n" '18 11' 2 1 'lines that begin with n are of other DIMACS forms and have no link; delete them' 'n 1 2' "$next_due"
 misdrawn 'n lines behind the links' "${top}e 1 2\nn 1 2\n" '18 17' 3 1 'lines that begin with n are of other DIMACS forms and have no link; delete them' 'n 1 2' "$last_due"
 misdrawn 'a lines' "${top}a 1 2 7\n" '18 11' 2 1 'lines that begin with a are of the DIMACS form for shortest paths; write e U V for each link, once and without its length' 'a 1 2 7' "$next_due"
@@ -61,7 +61,7 @@ misdrawn 'a line cut off' "${top}e 1 " '18 15' 2 5 'the file ends in the middle 
 misdrawn 'a blank line' "$top\ne 1 2\n" '18 11' 2 1 'a blank line' '' "$next_due"
 misdrawn 'a blank line at the end' "${top}e 1 2\n\n" '18 17' 3 1 'a blank line' '' "$last_due"
 misdrawn 'no p line' 'c\ne 1 2\ne 1 3\n' '18 2' 2 1 'no p line stands in front of the e lines; put a line p edge N M there, with the number of relays for N and 2 for M' 'e 1 2' "$first_due"
-misdrawn 'a p line behind an e line' "e 1 2\n$top" '18 0' 1 1 'the p line stands behind this e line, in line 2; put it in front of all e lines' 'e 1 2' "$first_due"
+misdrawn 'a p line behind an e line' "e 1 2\n$top" '18 0' 1 1 'the p line stands after this e line, in line 2; put it in front of all e lines' 'e 1 2' "$first_due"
 misdrawn 'a second p line' "c\n$top$top" '18 13' 3 1 'a second p line; the first is line 2. Delete one of the two' 'p edge 3 1' "$next_due"
 misdrawn 'fewer e lines than announced' "c\np edge 3 3\ne 1 2\nc\ne 1 3\n" '18 27' 6 1 'the file ends too early: line 2 announces 3 links, and the file has 2 e lines; if that is right, announce 2 there' '' 'a line e U V, 3 of 3, or a comment line'
 misdrawn 'more e lines than announced' "${top}e 1 2\ne 1 3\n" '18 17' 3 1 'line 1 announces 1 link, and the file has 2 e lines; if that is right, announce 2 there' 'e 1 3' "$last_due"
@@ -81,7 +81,7 @@ misdrawn 'a capital letter' "${top}E 1 2\n" '18 11' 2 1 'a capital letter; the w
 misdrawn 'another character' "${top}e 1 \xc2\xbd\n" '18 15' 2 5 'a character that no line of a drawing has' 'e 1 ??' "$edge_due"
 misdrawn 'something else' "${top}e 1-2\n" '18 14' 2 4 'this is not the form that is due' 'e 1-2' "$edge_due"
 misdrawn 'a byte-order mark' "\xef\xbb\xbf$top" '18 0' 1 1 'the file begins with a byte-order mark; save it without one' '???p edge 3 1' "$first_due"
-misdrawn 'a compressed file' '\x1f\x8b\x08\0more' '18 0' 1 1 'the file is compressed; unpack it first (gunzip, bunzip2 or unzip)' '????more' "$first_due"
+misdrawn 'a compressed file' '\x1f\x8b\x08\0more' '18 0' 1 1 'the file is compressed; unpack it first (gunzip, bunzip2, unxz, unzstd or unzip)' '????more' "$first_due"
 misdrawn 'a binary file' '29\nc x\np col 3 1\n\x80\xc0' '18 0' 1 1 'this looks like the binary DIMACS form (.col.b); make the text form of it first (the public program bin2asc does)' '29' "$first_due"
 misdrawn 'a network file' "$mesh" '18 0' 1 1 'this is a network file already; it needs no import' '(net (relays 5) (links 7))' "$first_due"
 misdrawn 'a sheet for a drawing' '(sheet (from 4) (to 1) (k 1))\n' '18 0' 1 1 'this is a sheet, not a drawing' '(sheet (from 4) (to 1) (k 1))' "$first_due"
@@ -99,82 +99,65 @@ misdrawn 'a link to itself' 'p edge 3 2\ne 1 2\ne 2 2\n' '6 1' 3 5 'this joins r
 misdrawn 'a link twice' "c\np edge 3 3\ne 3 1\ne 1 2\nc\ne 3 1\n" '7 2' 6 3 "this link stands already in line 3; delete the e lines that repeat an earlier one, 1 of 3 $repeats 2 links in line 2" 'e 3 1'
 misdrawn 'each link in both directions' 'p edge 10 4\ne 9 10\ne 2 1\ne 1 2\ne 10 9\n' '7 2' 4 3 "this link stands already in line 3, with its ends exchanged; delete the e lines that repeat an earlier one, 2 of 4 $repeats 2 links in line 1" 'e 1 2'
 
-# unshown DRAWING REFUSAL WORDS: a drawing that comes through a pipe, with this refusal, and just these words.
-unshown() {
-    ask bash -c "printf '$1' | '$copy/import' /dev/stdin"
-    same "through a pipe, $2: the refused line" "(refused $2)"$'\nstatus 1' "$output"
-    same "through a pipe, $2" "import: refused (${2% *}): /dev/stdin$3" "$words"
-}
-
-unshown 'p col' '18 2' ' departs from the form of a drawing at byte 2, counted from 0 (its lines cannot be shown)'
-unshown 'p edge 0 0\n' '3 0' ', the p line: the number of relays is not 1 to 1,000'
-unshown 'p edge 3 3001\n' '4 0' ', the p line: more than 3,000 links are announced'
-unshown 'p edge 3 1\ne 0 1\n' '5 0' ', e line 0, counted from 0: a relay that the drawing does not have; relays are numbered from 1'
-unshown 'p edge 3 1\ne 1 1\n' '6 0' ', e line 0, counted from 0: the link joins a relay to itself'
-unshown 'p edge 3 2\ne 1 2\ne 2 1\n' '7 1' ', e line 1, counted from 0: this link stands in an earlier e line'
-
 # Pipes, folders, links and names; and the file that is written is one that the others read.
 printf '%b' "$drawn" | tee "$work/-m.col" "$work/two words.col" >"$work/m.col"
-ln -s "$copy/import" "$work/import-link"
 for name in -m.col 'two words.col' ../work/m.col "$work/m.col"; do
-    ask "$copy/import" "$name"
+    ask "$copy/nolkisei" import "$name"
     same "the drawing '$name'" "$imported" "$output$words"
 done
-ask ./import-link m.col
-same 'import, through a symbolic link' "$imported" "$output$words"
-CDPATH=/ ask env PATH="$copy:$PATH" import m.col
+CDPATH=/ ask env PATH="$copy:$PATH" nolkisei import m.col
 same 'import, by its name alone' "$imported" "$output$words"
-ask bash -c "'$copy/import' /dev/stdin <m.col"
+ask bash -c "'$copy/nolkisei' import /dev/stdin <m.col"
 same 'a drawing through standard input' "$imported" "$output$words"
-ask bash -c "cat m.col | '$copy/import' /dev/stdin"
+ask bash -c "cat m.col | '$copy/nolkisei' import /dev/stdin"
 same 'a drawing through a pipe' "$imported" "$output$words"
-ask bash -c "'$copy/import' <(cat m.col)"
+ask bash -c "'$copy/nolkisei' import <(cat m.col)"
 same 'a drawing from another command' "$imported" "$output$words"
-ask bash -c "'$copy/import' m.col >new.net && '$copy/plan' 4 1 1 new.net"
+ask bash -c "'$copy/nolkisei' import m.col >new.net && '$copy/nolkisei' plan 4 1 1 new.net"
 same 'a sheet for an imported network' "$sheet" "$output$words"
 
 # A drawing for a network file or a sheet.
-seen='line 1, column 1: this looks like a drawing in the DIMACS form; make a network file of it first: ./import'
-ask "$copy/plan" 4 1 1 m.col
+seen='line 1, column 1: this looks like a drawing in the DIMACS form; make a network file of it first: '"$copy/nolkisei import"
+ask "$copy/nolkisei" plan 4 1 1 m.col
 same 'plan, a drawing: the line' $'(refused 2 0)\nstatus 1' "$output"
-same 'plan, a drawing' "plan: refused (2): m.col, $seen m.col > NEW.net"$'\n    p edge 5 7\n    ^\nplan: due there: a line (net (relays N) (links M))' "$words"
+same 'plan, a drawing' "nolkisei: refused (2): m.col, $seen m.col > NEW.net"$'\n    p edge 5 7\n    ^\nnolkisei: m.col, line 1: due there: a line (net (relays N) (links M))' "$words"
 printf 'c FILE mesh.col\nc\n\np col 5 7\n' >"$work/a.col"
-ask "$copy/keep" 1 a.col
-says 'keep, a drawing with comments' 1 "keep: refused (2): a.col, $seen a.col > NEW.net"
+ask "$copy/nolkisei" keep 1 a.col
+says 'keep, a drawing with comments' 1 "nolkisei: refused (2): a.col, $seen a.col > NEW.net"
 printf 'e 1 2\n' >"$work/a.col"
-ask "$copy/verify" a.col "$copy/networks/mesh.sheet"
-says 'verify, a drawing without a p line' 1 "verify: refused (2): a.col, $seen a.col > NEW.net"
-ask "$copy/verify" "$mesh_file" m.col
-says 'verify, a drawing for a sheet' 1 'verify: refused (14): m.col, line 1, column 1: this is a drawing, not a sheet'
+ask "$copy/nolkisei" verify a.col "$copy/networks/mesh.sheet"
+says 'verify, a drawing without a p line' 1 "nolkisei: refused (2): a.col, $seen a.col > NEW.net"
+ask "$copy/nolkisei" verify "$mesh_file" m.col
+says 'verify, a drawing for a sheet' 1 'nolkisei: refused (14): m.col, line 1, column 1: this is a drawing, not a sheet'
 
 # The commands of docs/DESK.md that make a drawing of a file with what this form refuses: each link in both directions, and more.
 mend=$(sed -n '/^    tr -d/,/>new.col$/p' docs/DESK.md)
 printf '%b' '# by hand\r\nc\tmesh\r\np col  5 14\r\n\r\nn 1 2\r\n' >"$work/old.col"
 printf '%b' "$drawn" | awk '$1 == "e" { printf "e\t%s  %s 9 \r\ne %s %s\r\n", $2, $3, $3, $2 }' >>"$work/old.col"
-ask bash -c "$mend && '$copy/import' new.col"
+ask bash -c "$mend && '$copy/nolkisei' import new.col"
 same 'a file that is mended' "$imported" "$output$words"
 printf 'p edge 1 1' >"$work/old.col"
-ask bash -c "$mend && '$copy/import' new.col"
+ask bash -c "$mend && '$copy/nolkisei' import new.col"
 same 'a file without links that is mended' $'(net (relays 1) (links 0))\n(end)\nstatus 0' "$output$words"
 
 # Files and programs that are no good.
 for arguments in '' 'm.col new.net'; do
     # shellcheck disable=SC2086
-    ask "$copy/import" $arguments
-    says "import, the arguments '$arguments'" 2 'usage: import FILE (for example ./import networks/mesh.col)'
+    ask "$copy/nolkisei" import $arguments
+    says "import, the arguments '$arguments'" 2 "usage: nolkisei import FILE ($copy/nolkisei help import tells more)"
 done
-ask "$copy/import" none.col
-says 'import, a missing file' 2 'import: there is no file none.col'
-ask "$copy/import" .
-says 'import, a directory' 2 'import: . is a directory, not a drawing'
-ask "$copy/import" /proc/self/mem
-says 'import, a file that breaks off' 2 'import: the file /proc/self/mem cannot be read to its end'
-ask "$copy/import" /dev/zero
+ask "$copy/nolkisei" import none.col
+says 'import, a missing file' 2 'nolkisei: there is no file none.col'
+ask "$copy/nolkisei" import .
+says 'import, a folder' 2 'nolkisei: . is a folder, not a drawing'
+ask "$copy/nolkisei" import /proc/self/mem
+says 'import, a file that breaks off' 2 'nolkisei: /proc/self/mem cannot be read to its end'
+ask "$copy/nolkisei" import /dev/zero
 same 'import, a file that never ends: nothing is passed on' 'status 2' "$output"
-says 'import, a file that never ends' 2 $'importer: the input has more than 1000000 bytes\nimport: the importer gave no answer'
-ask bash -c "'$copy/import' m.col >/dev/full"
-says 'import, nowhere to write' 2 'could not be passed on'
-for part in 'exit 3: could not be run' 'echo "(net (relays 5) (links 0))": not whole' 'echo "(lease (k 1))"; echo "(end)": not whole' 'echo "(refused 18": not whole' ': : gave no answer'; do
-    instead importer "${part%: *}" "${part##*: }" "$copy/import" m.col
+says 'import, a file that never ends' 2 'nolkisei: /dev/zero has more than 1,000,000 bytes, and a drawing has at most so many'
+ask bash -c "'$copy/nolkisei' import m.col >/dev/full"
+says 'import, nowhere to write' 2 'could not be written to standard output'
+for part in 'exit 3: could not be run to its end' 'echo "(net (relays 5) (links 0))": not whole' 'echo "(lease (k 1))"; echo "(end)": not whole' 'echo "(refused 18": not whole' ': : gave no answer'; do
+    instead importer "${part%: *}" "${part##*: }" "$copy/nolkisei" import m.col
 done
-cp "$room/built/importer" "$copy/target/bin"
+restore importer

@@ -9,14 +9,14 @@ back='(kept 7)\n(end)\n'
 # reads WHAT SHEET LINE STATUS WORDS: the network $net with this sheet gets this line and status, and just these words beside it.
 reads() {
     printf '%b' "$2" >"$work/a.sheet"
-    ask "$copy/verify" "$net" a.sheet
+    ask "$copy/nolkisei" verify "$net" a.sheet
     same "$1: the line" "$3"$'\n'"status $4" "$output"
     same "$1" "$5" "$words"
 }
 
 # wrong_one WHAT SHEET WHERE WORDS: a sheet that fails, and what is said of it there.
 wrong_one() {
-    reads "$1" "$2" '(fails)' 1 "verify: fails: a.sheet, line $3: $4"
+    reads "$1" "$2" '(fails)' 1 "nolkisei: fails: a.sheet, line $3: $4"
 }
 
 reads 'a sheet that holds' "$front$via2$via3$back" '(holds)' 0 ''
@@ -37,9 +37,9 @@ wrong_one 'a circuit of no link' "$front(route 4 3 1)\n(over 7 3)\n$via2$back" '
 wrong_one 'a circuit too few' "$front(route 4 3 1)\n(over 3)\n$via2$back" '3, route 1' 'it has 1 circuit, and a route of 3 relays has 2'
 wrong_one 'a circuit too many' "$front(route 4 3 1)\n(over 6 3 3)\n$via2$back" '3, route 1' 'it has 3 circuits, and a route of 3 relays has 2'
 wrong_one 'one link twice' "(sheet (from 0) (to 1) (k 2))\n(route 0 1)\n(over 0)\n(route 0 1)\n(over 0)\n$back" '4, route 2' 'it goes over one link alone, circuit 0, and so does route 1 (line 2)'
-wrong_one 'the count of kept links' "$front$via3$via2(kept 6)\n(end)\n" 6 'kept is 6, and that is not how many links are worth keeping for k 2; ./keep 2 m.net tells that'
-reads 'k 0' "(sheet (from 4) (to 1) (k 0))\n$back" '(refused 15 0)' 1 'verify: refused (15): a.sheet, line 1: k is 0; 1 to 32 can be asked for'
-reads 'k 33' "(sheet (from 4) (to 4) (k 33))\n$via3$back" '(refused 15 0)' 1 'verify: refused (15): a.sheet, line 1: k is 33; 1 to 32 can be asked for'
+wrong_one 'the count of kept links' "$front$via3$via2(kept 6)\n(end)\n" 6 'kept is 6, and 7 links are worth keeping for k 2'
+reads 'k 0' "(sheet (from 4) (to 1) (k 0))\n$back" '(refused 15 0)' 1 'nolkisei: refused (15): a.sheet, line 1: k is 0; 1 to 32 can be asked for'
+reads 'k 33' "(sheet (from 4) (to 4) (k 33))\n$via3$back" '(refused 15 0)' 1 'nolkisei: refused (15): a.sheet, line 1: k is 33; 1 to 32 can be asked for'
 
 # The mesh without relay 2, and without 0 and 3: a sheet that goes through a withdrawn relay fails, and that is said before its count.
 single='(sheet (from 4) (to 1) (k 1))\n'
@@ -52,19 +52,19 @@ wrong_one 'a withdrawn relay further along' "(sheet (from 4) (to 0) (k 1))\n(rou
 wrong_one 'a from that is withdrawn' "(sheet (from 2) (to 4) (k 1))\n(route 2 4)\n(over 5)\n(kept 3)\n(end)\n" 1 'relay 2 is withdrawn: line 9 of without.net has (out 2)'
 wrong_one 'a to that is withdrawn' "(sheet (from 4) (to 2) (k 1))\n(route 4 2)\n(over 5)\n(kept 3)\n(end)\n" 1 'relay 2 is withdrawn: line 9 of without.net has (out 2)'
 wrong_one 'a circuit of a withdrawn relay' "$single(route 4 3 1)\n(over 5 3)\n(kept 3)\n(end)\n" '3, route 1' 'from relay 4 to relay 3 it has circuit 5; the link between them is circuit 6 (without.net, line 8)'
-wrong_one 'the count of the time before' "$single$via3(kept 4)\n(end)\n" 4 'kept is 4, and that is not how many links are worth keeping for k 1; ./keep 1 without.net tells that'
+wrong_one 'the count of the time before' "$single$via3(kept 4)\n(end)\n" 4 'kept is 4, and 3 links are worth keeping for k 1'
 printf '%b' "${mesh%'(end)\n'}(out 0)\n(out 3)\n(end)\n" >"$work/$net"
 wrong_one 'the second of two withdrawn relays' "$single$via3(kept 2)\n(end)\n" '2, route 1' 'relay 3 is withdrawn: line 10 of without.net has (out 3)'
 wrong_one 'the first of them for an end' "(sheet (from 4) (to 0) (k 1))\n(route 4 2 0)\n(over 5 1)\n(kept 2)\n(end)\n" 1 'relay 0 is withdrawn: line 9 of without.net has (out 0)'
 reads 'a sheet past both' "$single$via2(kept 2)\n(end)\n" '(holds)' 0 ''
-reads 'a form that departs, behind out lines' "${single}x" '(refused 14 30)' 1 $'verify: refused (14): a.sheet, line 2, column 1: this is not the form that is due\n    x\n    ^\nverify: due there: a line (route A B ..) or the line (kept N)'
+reads 'a form that departs, behind out lines' "${single}x" '(refused 14 30)' 1 $'nolkisei: refused (14): a.sheet, line 2, column 1: this is not the form that is due\n    x\n    ^\nnolkisei: a.sheet, line 2: due there: a line (route A B ..) or the line (kept N)'
 net=m.net
 
 # strays WHAT SHEET PLACE LINE COLUMN CAUSE SHOWN DUE [MARK]: a sheet refused with 14, and the column of the mark where it is another.
 strays() {
     local pad
     pad=$(printf '%*s' "${9:-$5}" '^')
-    reads "$1" "$2" "(refused 14 $3)" 1 "verify: refused (14): a.sheet, line $4, column $5: $6"$'\n    '"$7"$'\n    '"$pad"$'\nverify: due there: '"$8"
+    reads "$1" "$2" "(refused 14 $3)" 1 "nolkisei: refused (14): a.sheet, line $4, column $5: $6"$'\n    '"$7"$'\n    '"$pad"$'\nnolkisei: a.sheet, line '"$4: due there: $8"
 }
 
 head_due='a line (sheet (from A) (to B) (k K))'
@@ -94,8 +94,8 @@ strays 'no kept line' "$front$via3$via2(end)\n" 81 6 2 'this is not the form tha
 strays 'a line cut off' "$front(route 4 3" 40 2 11 'the file ends in the middle of a line' '(route 4 3' 'a line (route A B ..)'
 strays 'lines that are missing' "$front$via3" 55 4 1 'the file ends too early; a sheet that is whole ends with (end)' '' "$either_due"
 strays 'no last line' "$front$via3$via2(kept 7)\n" 89 7 1 'the file ends without its last line, (end)' '' 'the line (end)'
-strays 'no last line end' "$front$via3$via2(kept 7)\n(end)" 94 7 6 'the last line end is missing; press Enter behind (end) and save' '(end)' 'the line (end)'
-strays 'more behind the end' "$front$via3$via2${back}Regards\n" 95 8 1 'something stands behind the last line' 'Regards' 'nothing, since (end) is the last line'
+strays 'no last line end' "$front$via3$via2(kept 7)\n(end)" 94 7 6 'the last line end is missing; press Enter after (end) and save' '(end)' 'the line (end)'
+strays 'more behind the end' "$front$via3$via2${back}Regards\n" 95 8 1 'something stands after the last line' 'Regards' 'nothing, since (end) is the last line'
 strays 'far along a line' "$front(route 4$(printf ' 3%.0s' {1..50}) x$(printf ' 2%.0s' {1..50}))\n" 139 2 110 'this is not the form that is due' "...$(printf '3 %.0s' {1..20})x$(printf ' 2%.0s' {1..9}) ..." 'a line (route A B ..)' 44
 
 # The network file: its refusals, and what stands behind its end.
@@ -103,73 +103,74 @@ strays 'far along a line' "$front(route 4$(printf ' 3%.0s' {1..50}) x$(printf ' 
 network() {
     printf '%b' "$2" >"$work/a.net"
     printf '%b' "$front$via3$via2$back" >"$work/a.sheet"
-    ask "$copy/verify" a.net a.sheet
+    ask "$copy/nolkisei" verify a.net a.sheet
     same "$1: the line" "$3"$'\nstatus 1' "$output"
     says "$1" 1 "$4"
 }
 
-network 'a network without its end' "$head$body" '(refused 2 49)' 'verify: refused (2): a.net, line 4, column 1: the file ends without its last line, (end)'
-network 'an end without its line end' "$head$body(end)" '(refused 2 54)' 'verify: refused (2): a.net, line 4, column 6: the last line end is missing; press Enter behind (end) and save'
-network 'links that are missing in a network' "$head(link 0 1)\n" '(refused 2 38)' 'verify: refused (2): a.net, line 3, column 1: the file ends too early: line 1 announces 2 links, and it has 1 link line'
-network 'an empty network' '' '(refused 2 0)' 'verify: refused (2): a.net, line 1, column 1: the file is empty'
-network 'a sheet for a network' "$front$back" '(refused 2 1)' 'verify: refused (2): a.net, line 1, column 2: this is a sheet; the network file is named first, the sheet second'
-network 'a network of no relay' '(net (relays 0) (links 0))\n(end)\n' '(refused 3 0)' 'verify: refused (3): a.net, line 1, announces 0 relays; 1 to 1,000 are allowed'
-network 'a network with a link twice' "$head(link 0 1)\n(link 0 1)\n(end)\n" '(refused 7 1)' 'verify: refused (7): a.net, line 3: (link 0 1) stands already in line 2'
-network 'a blank line behind the network' "$mesh\n" '(refused 2 110)' $'verify: refused (2): a.net, line 10, column 1: a blank line\n    \n    ^\nverify: due there: nothing, since (end) is the last line'
-network 'words behind the network' "${mesh}Regards\n" '(refused 2 110)' $'verify: refused (2): a.net, line 10, column 1: something stands behind the last line\n    Regards'
-network 'an out line behind the network' "$mesh(out 2)\n" '(refused 2 110)' $'verify: refused (2): a.net, line 10, column 1: a line (out R) stands behind (end); put it in front of that\n    (out 2)'
-network 'words behind a network with an out line' "${mesh%'(end)\n'}(out 2)\n(end)\nRegards\n" '(refused 2 118)' $'verify: refused (2): a.net, line 11, column 1: something stands behind the last line\n    Regards'
-network 'a network with an out line and without its end' "$head$body(out 2)\n" '(refused 2 57)' $'verify: refused (2): a.net, line 5, column 1: the file ends without its last line, (end)\n    \n    ^\nverify: due there: a line (out R) or the line (end)'
-network 'a network that breaks off in an out line' "$head$body(out 2" '(refused 2 55)' $'verify: refused (2): a.net, line 4, column 7: the file ends in the middle of a line\n    (out 2\n          ^\nverify: due there: a line (out R)'
-network 'a network with an out line of no relay' "$head$body(out 5)\n(end)\n" '(refused 16 0)' 'verify: refused (16): a.net, line 4: (out 5) names a relay that the network does not have; it has the relays 0 to 4'
-network 'a relay withdrawn beside the routes' "${mesh%'(end)\n'}(out 0)\n(end)\n" '(fails)' 'verify: fails: a.sheet, line 6: kept is 7, and that is not how many links are worth keeping for k 2; ./keep 2 a.net tells that'
-network 'a network of one relay' '(net (relays 1) (links 0))\n(end)\n' '(fails)' 'verify: fails: a.sheet, line 1: relay 4 is not in the network; it has relay 0 alone'
-network 'the sheet behind the network, in its file' "$mesh$front$via3$via2$back" '(refused 2 110)' $'verify: refused (2): a.net, line 10, column 1: something stands behind the last line\n    (sheet'
+network 'a network without its end' "$head$body" '(refused 2 49)' 'nolkisei: refused (2): a.net, line 4, column 1: the file ends without its last line, (end)'
+network 'an end without its line end' "$head$body(end)" '(refused 2 54)' 'nolkisei: refused (2): a.net, line 4, column 6: the last line end is missing; press Enter after (end) and save'
+network 'links that are missing in a network' "$head(link 0 1)\n" '(refused 2 38)' 'nolkisei: refused (2): a.net, line 3, column 1: the file ends too early: line 1 announces 2 links, and it has 1 link line'
+network 'an empty network' '' '(refused 2 0)' 'nolkisei: refused (2): a.net, line 1, column 1: the file is empty'
+network 'a sheet for a network' "$front$back" '(refused 2 1)' 'nolkisei: refused (2): a.net, line 1, column 2: this is a sheet; the network file is named first, the sheet second'
+network 'a network of no relay' '(net (relays 0) (links 0))\n(end)\n' '(refused 3 0)' 'nolkisei: refused (3): a.net, line 1, announces 0 relays; 1 to 1,000 are allowed'
+network 'a network with a link twice' "$head(link 0 1)\n(link 0 1)\n(end)\n" '(refused 7 1)' 'nolkisei: refused (7): a.net, line 3: (link 0 1) stands already in line 2'
+network 'a blank line after the network' "$mesh\n" '(refused 2 110)' $'nolkisei: refused (2): a.net, line 10, column 1: a blank line\n    \n    ^\nnolkisei: a.net, line 10: due there: nothing, since (end) is the last line'
+network 'words after the network' "${mesh}Regards\n" '(refused 2 110)' $'nolkisei: refused (2): a.net, line 10, column 1: something stands after the last line\n    Regards'
+network 'an out line after the network' "$mesh(out 2)\n" '(refused 2 110)' $'nolkisei: refused (2): a.net, line 10, column 1: a line (out R) stands after (end); put it in front of that\n    (out 2)'
+network 'words after a network with an out line' "${mesh%'(end)\n'}(out 2)\n(end)\nRegards\n" '(refused 2 118)' $'nolkisei: refused (2): a.net, line 11, column 1: something stands after the last line\n    Regards'
+network 'a network with an out line and without its end' "$head$body(out 2)\n" '(refused 2 57)' $'nolkisei: refused (2): a.net, line 5, column 1: the file ends without its last line, (end)\n    \n    ^\nnolkisei: a.net, line 5: due there: a line (out R) or the line (end)'
+network 'a network that breaks off in an out line' "$head$body(out 2" '(refused 2 55)' $'nolkisei: refused (2): a.net, line 4, column 7: the file ends in the middle of a line\n    (out 2\n          ^\nnolkisei: a.net, line 4: due there: a line (out R)'
+network 'a network with an out line of no relay' "$head$body(out 5)\n(end)\n" '(refused 16 0)' 'nolkisei: refused (16): a.net, line 4: (out 5) names a relay that the network does not have; it has the relays 0 to 4'
+network 'a relay withdrawn beside the routes' "${mesh%'(end)\n'}(out 0)\n(end)\n" '(fails)' 'nolkisei: fails: a.sheet, line 6: kept is 7, and 5 links are worth keeping for k 2'
+network 'the sheet after the network, in its file' "$mesh$front$via3$via2$back" '(refused 2 110)' $'nolkisei: refused (2): a.net, line 10, column 1: something stands after the last line\n    (sheet'
+network 'a network of one relay' '(net (relays 1) (links 0))\n(end)\n' '(fails)' 'nolkisei: fails: a.sheet, line 1: relay 4 is not in the network; it has relay 0 alone'
 printf '%b' "${mesh%'(end)\n'}" >"$work/a.net"
 printf '%b' "(end)\n$front$via3$via2$back" >"$work/b.sheet"
-ask "$copy/verify" a.net b.sheet
+ask "$copy/nolkisei" verify a.net b.sheet
 same "the network's last line in front of the sheet" $'(refused 2 104)\nstatus 1' "$output"
 : >"$work/b.sheet"
 printf '%b' "$mesh$front$via3$via2$back" >"$work/a.net"
-ask "$copy/verify" a.net b.sheet
+ask "$copy/nolkisei" verify a.net b.sheet
 same 'both in one file, and an empty sheet' $'(refused 2 110)\nstatus 1' "$output"
 printf '%b' "$front$via3$via2$back" >"$work/-s"
-ask bash -c "'$copy/verify' <(cat m.net) -s"
-same 'a network through a pipe' $'(holds)\nstatus 0' "$output$words"
-ask "$copy/verify" m.net -s
+ask "$copy/nolkisei" verify m.net -s
 same 'a sheet whose name begins with -' $'(holds)\nstatus 0' "$output$words"
-ask bash -c "'$copy/verify' m.net /dev/stdin <-s"
+ask bash -c "'$copy/nolkisei' verify m.net /dev/stdin <-s"
 same 'a sheet through standard input' $'(holds)\nstatus 0' "$output$words"
-ask bash -c "printf '$front$back' | '$copy/verify' m.net /dev/stdin"
-says 'a sheet that fails and cannot be shown' 1 'verify: fails: what is wrong cannot be shown, since the files cannot be read a second time'
-ask bash -c "printf '${front}x' | '$copy/verify' m.net /dev/stdin"
-says 'a form of a sheet that cannot be shown' 1 'verify: refused (14): /dev/stdin departs from the form of a sheet at byte 30, counted from 0 (its lines cannot be shown)'
-ask bash -c "printf '(sheet (from 4) (to 1) (k 0))\n$back' | '$copy/verify' m.net /dev/stdin"
-says 'a k that cannot be shown' 1 'verify: refused (15): k is not 1 to 32'
+ask bash -c "'$copy/nolkisei' verify <(cat m.net) -s"
+same 'a network through a pipe' $'(holds)\nstatus 0' "$output$words"
+ask bash -c "'$copy/nolkisei' verify - -s <m.net"
+same 'a network through standard input' $'(holds)\nstatus 0' "$output$words"
+ask bash -c "printf '$front$back' | '$copy/nolkisei' verify m.net -"
+same 'what is wrong with a sheet through a pipe' $'(fails)\nstatus 1nolkisei: fails: standard input, line 1: k is 2, and the sheet has 0 routes' "$output$words"
+truncate -s 100000000 "$work/b.sheet"
+ask "$copy/nolkisei" verify b.sheet -s
+same 'a network of 100,000,000 bytes' $'status 2nolkisei: b.sheet and -s have more than 1,000,000 bytes together, and at most so many are read' "$output$words"
 
 # Files and programs that are no good.
 for arguments in '' m.net 'm.net a.sheet 2'; do
     # shellcheck disable=SC2086
-    ask "$copy/verify" $arguments
-    says "verify, the arguments '$arguments'" 2 'usage: verify NETWORK SHEET'
+    ask "$copy/nolkisei" verify $arguments
+    says "verify, the arguments '$arguments'" 2 'usage: nolkisei verify NETWORK SHEET'
 done
-ask "$copy/verify" none.net a.sheet
-says 'verify, a missing network' 2 'verify: there is no file none.net'
-ask "$copy/verify" m.net none.sheet
-says 'verify, a missing sheet' 2 'verify: there is no file none.sheet'
-ask "$copy/verify" . a.sheet
-says 'verify, a directory for a network' 2 'verify: . is a directory, not a network file'
-ask "$copy/verify" m.net .
-says 'verify, a directory for a sheet' 2 'verify: . is a directory, not a sheet'
-ask "$copy/verify" m.net /proc/self/mem
-says 'verify, a sheet that breaks off' 2 'verify: the file /proc/self/mem cannot be read to its end'
-ask "$copy/verify" m.net /dev/zero
+ask "$copy/nolkisei" verify none.net a.sheet
+says 'verify, a missing network' 2 'nolkisei: there is no file none.net'
+ask "$copy/nolkisei" verify m.net none.sheet
+says 'verify, a missing sheet' 2 'nolkisei: there is no file none.sheet'
+ask "$copy/nolkisei" verify . a.sheet
+says 'verify, a directory for a network' 2 'nolkisei: . is a folder, not a network file'
+ask "$copy/nolkisei" verify m.net .
+says 'verify, a directory for a sheet' 2 'nolkisei: . is a folder, not a sheet'
+ask "$copy/nolkisei" verify m.net /proc/self/mem
+says 'verify, a sheet that breaks off' 2 'nolkisei: /proc/self/mem cannot be read to its end'
+ask "$copy/nolkisei" verify m.net /dev/zero
 same 'verify, a sheet that never ends: nothing is passed on' 'status 2' "$output"
-says 'verify, a sheet that never ends' 2 $'verifier: the input has more than 1000000 bytes\nverify: the verifier gave no answer'
-ask bash -c "'$copy/verify' m.net -s >/dev/full"
-says 'verify, nowhere to write' 2 'could not be passed on'
-for part in 'exit 3: could not be run' 'printf "(holds)": not whole' 'echo "(holds)"; echo more: not whole' 'echo "(refused 14": not whole' ': : gave no answer'; do
-    instead verifier "${part%: *}" "${part##*: }" "$copy/verify" m.net -s
+says 'verify, a sheet that never ends' 2 'nolkisei: m.net and /dev/zero have more than 1,000,000 bytes together, and at most so many are read'
+ask bash -c "'$copy/nolkisei' verify m.net -s >/dev/full"
+says 'verify, nowhere to write' 2 'could not be written to standard output'
+for part in 'exit 3: could not be run to its end' 'printf "(holds)": not whole' 'echo "(holds)"; echo more: not whole' 'echo "(refused 14": not whole' ': : gave no answer'; do
+    instead verifier "${part%: *}" "${part##*: }" "$copy/nolkisei" verify m.net -s
 done
-cp "$room/built/verifier" "$copy/target/bin"
+restore verifier
 rm "$work/-s" "$work/b.sheet"

@@ -4,8 +4,9 @@ cd "$(dirname "${BASH_SOURCE[0]}")/.." || exit 1
 tried=0
 wrong=0
 
-# same WHAT DUE WRITTEN, where line ends at the end count: both with a last '.'.
+# same WHAT DUE WRITTEN, where line ends at the end count: both with a last '.'. What is set in what_for is said with it.
 same() {
+    set -- "$1${what_for:-}" "$2" "$3"
     tried=$((tried + 1))
     if [ "$2" != "$3" ]; then
         wrong=$((wrong + 1))

@@ -3,8 +3,7 @@
 END {
     find_lines()
     find_edges()
-    if (number == 18) departs("a drawing")
-    else if (!again) refused(ENVIRON["file"] ", " (number < 5 ? "the p line" : "e line " place ", counted from 0") ": " meaning())
+    if (number == 18) departs()
     else if (number < 5) counts()
     else link(edge[place])
 }
@@ -47,24 +46,23 @@ function due(line,    first) {
 function cause(line, column,    words) {
     if ((words = file_cause(line)) != "") return words
     if ((words = other_kind("a drawing")) != "") return words
-    if (line == 1 && (words = packed()) != "") return words
+    if (line == 1 && (words = binary()) != "") return words
     if (place >= size) return cut_short(line, column)
-    if (column == 2 && byte[place - 1] == 99 && byte[place] != 13) return "a comment line has a space behind its c; put one there"
+    if (column == 2 && byte[place - 1] == 99 && byte[place] != 13) return "a comment line has a space after its c; put one there"
     if ((words = blank_cause(line, column)) != "") return words
     if ((words = column == 1 ? line_cause(line, text(line)) : part_cause(line, column)) != "") return words
     return byte_cause(column, "a drawing")
 }
 
-# A cause that is a file which is not plain text, where one is seen.
-function packed() {
-    if (byte[0] == 31 && (byte[1] == 139 || byte[1] == 157) || text(1) ~ /^(BZh|PK)/) return "the file is compressed; unpack it first (gunzip, bunzip2 or unzip)"
+# A cause that is the binary form of a drawing, where one is seen.
+function binary() {
     if (text(1) ~ /^[0-9]+$/ && (byte[start[2]] == 99 || byte[start[2]] == 112)) return "this looks like the binary DIMACS form (.col.b); make the text form of it first (the public program bin2asc does)"
     return ""
 }
 
 # The cause where the file ends too early.
 function cut_short(line, column) {
-    if (text(line) ~ /^(c|(p edge|e) [0-9]+ [0-9]+$)/) return "the last line end is missing; press Enter behind the last line and save"
+    if (text(line) ~ /^(c|(p edge|e) [0-9]+ [0-9]+$)/) return "the last line end is missing; press Enter after the last line and save"
     if (column > 1) return "the file ends in the middle of a line"
     return stated(line) ? "the file ends too early: " miscounted() : "the file ends without a line p edge N M"
 }
@@ -77,7 +75,7 @@ function miscounted() {
 function line_cause(line, words,    first) {
     first = substr(words, 1, 1)
     if (words ~ /^e / && !problem) return "no p line stands in front of the e lines; put a line p edge N M there, with the number of relays for N and " edges " for M"
-    if (words ~ /^e / && !stated(line)) return "the p line stands behind this e line, in line " problem "; put it in front of all e lines"
+    if (words ~ /^e / && !stated(line)) return "the p line stands after this e line, in line " problem "; put it in front of all e lines"
     if (words ~ /^e /) return miscounted()
     if (words ~ /^p /) return "a second p line; the first is line " problem ". Delete one of the two"
     if (words ~ /^[ndvx] /) return "lines that begin with " first " are of other DIMACS forms and have no link; delete them"
@@ -87,25 +85,16 @@ function line_cause(line, words,    first) {
     return ""
 }
 
-# A cause that is the word behind p, or what stands behind the two numbers of a line.
+# A cause that is the word after p, or what stands after the two numbers of a line.
 function part_cause(line, column,    front, name) {
     front = substr(text(line), 1, column - 1)
-    if (byte[place] == 32 && front ~ /^(p edge|e) [0-9]+ [0-9]+$/) return "something stands behind the two numbers; take it off (weights and lengths are not read)"
+    if (byte[place] == 32 && front ~ /^(p edge|e) [0-9]+ [0-9]+$/) return "something stands after the two numbers; take it off (weights and lengths are not read)"
     if (!match(text(line), /^p [A-Za-z0-9]+/)) return ""
     name = substr(text(line), 3, RLENGTH - 2)
     if (name == "edge") return ""
-    if (name ~ /^[0-9]/) return "the word edge is missing behind p"
+    if (name ~ /^[0-9]/) return "the word edge is missing after p"
     if (name ~ /^(sp|max|min|asn|w?cnf|tw)$/) return "p " name " is another DIMACS form; a drawing has p edge and its links in lines e U V"
-    return "the word behind p is " name "; write p edge" (name == "col" ? " (the other lines of such a file are the same)" : "")
-}
-
-# What 3 to 7 mean, without a look at the file.
-function meaning() {
-    if (number == 3) return "the number of relays is not 1 to 1,000"
-    if (number == 4) return "more than 3,000 links are announced"
-    if (number == 5) return "a relay that the drawing does not have; relays are numbered from 1"
-    if (number == 6) return "the link joins a relay to itself"
-    return "this link stands in an earlier e line"
+    return "the word after p is " name "; write p edge" (name == "col" ? " (the other lines of such a file are the same)" : "")
 }
 
 # 3 and 4: the number of the p line. Each link in both directions may make them too many.

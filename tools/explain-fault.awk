@@ -1,5 +1,7 @@
-# Says what is wrong first with a sheet that fails, or what its k is (15). Input: the network file and behind it the sheet, both of
-# their form. By the environment: command; number, 15 or 0; network and sheet, the names of the two files.
+# Says what is wrong first with a sheet that fails, or what its k is (15). Input: the network file and after it the sheet, both of
+# their form. By the environment: number, 15 or 0; network and sheet, the names of the two files, network_typed and me, as the network
+# file and this command are typed; right, how many links are kept. Where that is not told and it is the count that is wrong, prints the
+# sheet's k alone and ends with status 3.
 
 !end && /^\(net / { numbers($0, value); relays = value[1] }
 !end && /^\(link / { numbers($0, value); index_of[value[1], value[2]] = links++ }
@@ -14,7 +16,7 @@ END {
     else say("fails: " wrong())
 }
 
-function say(words) { print ENVIRON["command"] ": " words }
+function say(words) { print "nolkisei: " words }
 
 # The numbers of a line, from entry 1 on; gives how many there are.
 function numbers(words, list) {
@@ -40,8 +42,15 @@ function wrong(    route, words) {
     words = wrong_head()
     for (route = 1; words == "" && route <= routes; route++) words = wrong_route(route)
     if (words != "") return words
+    if (ENVIRON["right"] == "") { print head[3]; exit 3 }
     numbers(line[2 * routes + 2], kept)
-    return at(2 * routes + 2) ": kept is " kept[1] ", and that is not how many links are worth keeping for k " head[3] "; ./keep " head[3] " " ENVIRON["network"] " tells that"
+    return at(2 * routes + 2) ": kept is " kept[1] ", and " right()
+}
+
+# The right count, or how to get it.
+function right() {
+    if (ENVIRON["right"] ~ /^[0-9]+$/) return of(ENVIRON["right"], "link") (ENVIRON["right"] == 1 ? " is" : " are") " worth keeping for k " head[3]
+    return "that is not how many links are worth keeping for k " head[3] "; " ENVIRON["me"] " keep " head[3] " " ENVIRON["network_typed"] " tells how many"
 }
 
 function wrong_head(    i) {

@@ -2,7 +2,7 @@
 
 END {
     find_lines()
-    departs("a sheet")
+    departs()
 }
 
 # The form of a line that the sheet is to have there: the line before it says which, and of two the second byte.
@@ -24,7 +24,7 @@ function cause(line, column,    words, before) {
     if (place >= size) return cut_short(line, column)
     if ((words = blank_cause(line, column)) != "") return words
     if (column == 1 && byte[place] == 62) return "a mark of quoted mail; take it off every line"
-    if (before == "end") return "something stands behind the last line"
+    if (before == "end") return "something stands after the last line"
     if (before == "route" && (word(line) == "route" || word(line) == "kept")) return "the route above has no circuits: this sheet is from a planner that did not print them yet; ask for a new one"
     if (before == "route" && text(line) ~ /^\(over\)/) return "a route has at least one circuit"
     if (due(line) ~ /^a line \(route/ && text(line) ~ /^\(route [0-9]+\)/) return "a route has at least two relays"
@@ -34,7 +34,7 @@ function cause(line, column,    words, before) {
 
 # The cause where the file ends too early.
 function cut_short(line, column) {
-    if (text(line) == "(end)") return "the last line end is missing; press Enter behind (end) and save"
+    if (text(line) == "(end)") return "the last line end is missing; press Enter after (end) and save"
     if (column > 1) return "the file ends in the middle of a line"
     if (word(line - 1) == "kept") return "the file ends without its last line, (end)"
     return "the file ends too early; a sheet that is whole ends with (end)"

@@ -1,23 +1,26 @@
 # Says in words what a refusal means and where in the network file to look, with tools/lines.awk in front, which tells of the input. By
-# the environment too: typed_FROM, typed_TO, typed_K.
+# the environment too: typed_FROM, typed_TO, typed_K; greatest, the most routes that there is a sheet for, with 13.
 
 END {
     find_lines()
     find_counts()
-    if (number == 2) departs("a network file")
+    if (number == 2) departs()
     else if (number == 3) header("announces " of(relays, "relay") "; 1 to 1,000 are allowed")
     else if (number == 4) header("announces " of(links, "link") "; 3,000 are the most. Pass the file on to the network planners")
     else if (number >= 5 && number <= 7) link()
-    else if (number == 9) refused("K is " ENVIRON["typed_K"] "; 1 to 32 can be asked for")
+    else if (number == 9) wish("K is " ENVIRON["typed_K"] "; 1 to 32 can be asked for")
     else if (number == 10) ends()
-    else if (number == 11) refused("FROM and TO are the same relay, " ENVIRON["typed_FROM"])
+    else if (number == 11) wish("FROM and TO are the same relay, " ENVIRON["typed_FROM"])
     else if (number == 13) apart()
     else if (number == 16) out_lines()
     else if (number == 17) ends_withdrawn()
-    else refused("docs/DESK.md may tell more")
+    else wish("docs/DESK.md may tell more")
 }
 
-# What line 1 announces, where it is of its form, and the lines (out R) behind the links.
+# What is wrong with a wish, for this file.
+function wish(words) { refused(ENVIRON["file"] ": " words) }
+
+# What line 1 announces, where it is of its form, and the lines (out R) after the links.
 function find_counts(    parts) {
     relays = links = ""
     outs = 0
@@ -39,9 +42,9 @@ function find_outs(    line, parts) {
     }
 }
 
-function header(words) { refused(ENVIRON["file"] ", line 1, " words) }
+function header(words) { refused(at(1) ", " words) }
 
-# The form of a line that the file is to have there: behind the links the second byte says which of two.
+# The form of a line that the file is to have there: after the links the second byte says which of two.
 function due(line) {
     if (line == 1) return "a line (net (relays N) (links M))"
     if (line <= links + 1) return "a line (link A B)"
@@ -55,22 +58,40 @@ function cause(line, column,    words) {
     if ((words = file_cause(line)) != "") return words
     if ((words = other_kind("a network file")) != "") return words
     if (place >= size) return cut_short(line, column)
+    if (line > 1 && text(line - 1) == "(end)" && size > longest) return "something stands after the last line, and " too_long()
     if ((words = blank_cause(line, column)) != "") return words
+    if ((words = rest_cause(line, column)) != "") return words
     if (line > 1 && (words = line_cause(line)) != "") return words
-    return byte_cause(column, "a network file")
+    return byte_cause(column, "a network file") (size > longest ? "; besides, " too_long() : "")
+}
+
+# A longest network file has 54,929 bytes: 1,000 relays, all withdrawn, and 3,000 links, all numbers of three digits.
+BEGIN { longest = 54929 }
+
+function too_long() { return "the file has " (size < 1000000 ? size : "1,000,000 or more") " bytes, where the longest network file has 54,929" }
+
+# A cause that is a comment, or what stands after a whole line, where one is seen.
+function rest_cause(line, column,    rest, front) {
+    front = printable(start[line], place)
+    rest = printable(place, ending(line) > place + 60 ? place + 60 : ending(line))
+    if (rest ~ /^ *(#|%|;|\/\/|--)/ || column == 1 && rest ~ /^c( |$)/) return "a network file has no comments; delete " (column == 1 ? "the line" : "it")
+    if (front ~ /\)$/ && rest ~ /^ *\((link|out|end)/) return (front ~ /^\(link/ && rest ~ /^ *\(link/ ? "two links in a line; each link" : "two lines in one; each") " has a line of its own"
+    if (front ~ /^\(link [0-9]+ [0-9]+$/ && rest ~ /^ [0-9]/) return "a link has two relays; write a line for each link"
+    if (front ~ /^\(link [0-9]+$/ && rest ~ /^[,;-]/) return "one space is due between the two numbers"
+    return ""
 }
 
 # A cause that is a line where it does not belong, or a line (out R) with two relays, where one is seen.
 function line_cause(line) {
-    if (text(line - 1) == "(end)" && text(line) ~ /^\(out /) return "a line (out R) stands behind (end); put it in front of that"
-    if (text(line - 1) == "(end)") return "something stands behind the last line"
+    if (text(line - 1) == "(end)" && text(line) ~ /^\(out /) return "a line (out R) stands after (end); put it in front of that"
+    if (text(line - 1) == "(end)") return "something stands after the last line"
     if (line <= links + 1) return text(line) ~ /^\((end|out)/ ? miscounted() : ""
     if (text(line) ~ /^\(link /) return miscounted()
     if (byte[place] == 32 && text(line) ~ /^\(out [0-9]+ [0-9]/) return "a line (out R) has one relay; write a line for each"
     return ""
 }
 
-# Link lines that are too many or too few, or that stand behind lines (out R) or behind (end).
+# Link lines that are too many or too few, or that stand after lines (out R) or after (end).
 function miscounted(    line, count, passed, mixed, words) {
     count = passed = mixed = 0
     for (line = 2; line <= lines; line++) {
@@ -79,40 +100,46 @@ function miscounted(    line, count, passed, mixed, words) {
         count++
         if (passed) mixed = 1
     }
-    words = "line 1 announces " of(links, "link") ", and the file has " of(count, "link line")
+    words = "line 1 announces " of(links, "link") ", and the file has " of(count, "link line") "; if these are right, announce " count " in line 1"
     if (mixed) return (count == links ? "" : words "; ") "the lines (out R) go between the last link line and (end)"
-    return count == links ? "a link line stands behind (end)" : words
+    return count == links ? "a link line stands after (end)" : words
 }
 
 # The cause where the file ends too early.
 function cut_short(line, column) {
-    if (text(line) == "(end)") return "the last line end is missing; press Enter behind (end) and save"
+    if (text(line) == "(end)") return "the last line end is missing; press Enter after (end) and save"
     if (column > 1) return "the file ends in the middle of a line"
     if (line > links + 1) return "the file ends without its last line, (end)"
-    return "the file ends too early: line 1 announces " of(links, "link") ", and it has " of(line - 2, "link line")
+    return "the file ends too early: line 1 announces " of(links, "link") ", and it has " of(line - 2, "link line") "; if these are all, announce " line - 2 " in line 1 and end with a line (end)"
 }
 
 # 5 to 7: a link's line, its two relays, and for 7 the line that has them already.
 function link(    line, pair, where, former) {
     line = place + 2
-    where = ENVIRON["file"] ", line " line
-    if (!again) {
-        refused(where ": " (number == 5 ? "a relay that the network does not have" : number == 6 ? "the lower number is to stand first" : "this link stands in an earlier line"))
-        return
-    }
-    where = where ": " text(line)
+    where = at(line) ": " text(line)
     split(text(line), pair, /[^0-9]+/)
-    if (number == 5) refused(where " names a relay that the network does not have; " range())
-    else if (number == 6 && pair[2] == pair[3]) refused(where " joins a relay to itself")
+    if (number == 5) refused(where " names a relay that the network does not have; " range() enough())
+    else if (number == 6 && pair[2] == pair[3]) refused(where " joins a relay to itself; delete the line and announce " of(links - 1, "link") " in line 1")
     else if (number == 6) refused(where " has its numbers in falling order; write (link " pair[3] " " pair[2] ")")
     else {
         for (former = 2; former < line && text(former) != text(line);) former++
-        refused(where " stands already in line " former "; delete one of the two and announce one link less in line 1")
+        refused(where " stands already in line " former "; delete one of the two and announce " of(links - 1, "link") " in line 1")
     }
 }
 
+# How many relays would be enough for all links, where so many may be.
+function enough(    line, pair, most) {
+    most = 0
+    for (line = 2; line <= links + 1; line++) {
+        if (text(line) !~ /^\(link [0-9]+ [0-9]+\)$/) return ""
+        split(text(line), pair, /[^0-9]+/)
+        if (pair[2] + 0 > most) most = pair[2] + 0
+        if (pair[3] + 0 > most) most = pair[3] + 0
+    }
+    return most < 1000 ? "; if the links are right, announce " most + 1 " relays in line 1" : ""
+}
+
 function range() {
-    if (relays == "") return "relays are numbered from 0 to one less than their number"
     return relays == 1 ? "it has relay 0 alone" : "it has the relays 0 to " relays - 1
 }
 
@@ -120,30 +147,29 @@ function range() {
 function ends(    from, to, who) {
     from = ENVIRON["typed_FROM"]
     to = ENVIRON["typed_TO"]
-    who = "FROM " from " or TO " to
-    if (relays != "" && from + 0 < relays) who = "TO " to
-    else if (relays != "" && to + 0 < relays) who = "FROM " from
-    else if (relays != "") who = "neither FROM " from " nor TO " to
-    refused(who " is " (who ~ /^n/ ? "" : "not ") "a relay of this network; " range())
+    who = "neither FROM " from " nor TO " to
+    if (from + 0 < relays) who = "TO " to
+    else if (to + 0 < relays) who = "FROM " from
+    wish(who " is " (who ~ /^n/ ? "" : "not ") "a relay of this network; " range())
 }
 
-function apart(    k, two) {
-    k = ENVIRON["typed_K"]
+# 13: what there is instead.
+function apart(    two) {
     two = "relays " ENVIRON["typed_FROM"] " and " ENVIRON["typed_TO"]
-    if (k + 0 == 1 && outs) refused(two " are not joined through relays in service: there is no route between them (" ENVIRON["file"] " has " of(outs, "line") " (out R))")
-    else if (k + 0 == 1) refused(two " are not joined at all: there is no route between them")
-    else refused(two " are not in one tree of forest " k "; ask for a smaller K (this does not mean that there are no " k " routes)")
+    if (ENVIRON["greatest"] + 0 > 0) wish("there is no sheet with " of(ENVIRON["typed_K"], "route") " for " two "; the greatest K with a sheet is " ENVIRON["greatest"] ": " ask_instead() " (docs/DESK.md says why there may be more routes all the same)")
+    else wish("there is no route at all between " two (outs ? " through relays in service (there " (outs == 1 ? "is 1 line" : "are " outs " lines") " (out R))" : "; they are in different parts of the network"))
 }
+
+function ask_instead() { return ENVIRON["me"] " plan " ENVIRON["typed_FROM"] " " ENVIRON["typed_TO"] " " ENVIRON["greatest"] " " ENVIRON["typed_file"] }
 
 # 16: the first line (out R) that is not good.
 function out_lines(    line, words) {
     for (line = links + 2; line in relay_out; line++) {
         words = wrong_out(line)
         if (words == "") continue
-        refused(ENVIRON["file"] ", line " line ": " text(line) " " words)
+        refused(at(line) ": " text(line) " " words)
         return
     }
-    refused(ENVIRON["file"] ": a line (out R) names a relay that the network does not have, stands twice or is not in rising order")
 }
 
 # What is wrong with a line (out R), where the lines before it are good.
@@ -151,21 +177,18 @@ function wrong_out(line,    relay) {
     relay = relay_out[line]
     if (relay >= relays) return "names a relay that the network does not have; " range() ". Correct the number or delete the line"
     if (line_out[relay] < line) return "stands already in line " line_out[relay] "; delete one of the two"
-    if (line > links + 2 && relay < relay_out[line - 1]) return "is not in rising order behind " text(line - 1) "; order the lines (out R) by number, the lowest first"
+    if (line > links + 2 && relay < relay_out[line - 1]) return "is not in rising order after " text(line - 1) "; order the lines (out R) by number, the lowest first"
     return ""
 }
 
 # 17: which ends are withdrawn.
-function ends_withdrawn(    found) {
-    found = end_withdrawn("FROM")
-    if (end_withdrawn("TO") || found) return
-    refused("FROM " ENVIRON["typed_FROM"] " or TO " ENVIRON["typed_TO"] " is withdrawn; choose another relay; or, when it is back in service, delete its line (out R) and ask again")
+function ends_withdrawn() {
+    end_withdrawn("FROM")
+    end_withdrawn("TO")
 }
 
-# Says of an end that it is withdrawn; gives whether it is.
+# Says of an end that it is withdrawn, where it is.
 function end_withdrawn(name,    relay) {
     relay = ENVIRON["typed_" name]
-    if (!(relay in line_out)) return 0
-    refused(name " " relay " is withdrawn: line " line_out[relay] " of " ENVIRON["file"] " has (out " relay "); choose another relay; or, when relay " relay " is back in service, delete the line and ask again")
-    return 1
+    if (relay in line_out) refused(at(line_out[relay]) ": " name " " relay " is withdrawn, by (out " relay "); choose another relay; or, when relay " relay " is back in service, delete the line and ask again")
 }

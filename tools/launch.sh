@@ -1,38 +1,16 @@
-# Sourced by the commands `plan`, `keep`, `verify`, `import` and `sure`, which set command, program, usage and example: builds the proved
-# program where it is missing or older than its sources, runs it on a line and files, and after a refusal says in words where to look.
-set -u
-here=$(dirname -- "$(dirname -- "$(readlink -f -- "${BASH_SOURCE[0]}")")")
-binary=$here/target/bin/$program
-log=$here/target/build.log
-typed=()
+# For the commands: taking in the files of a question, running the proved program on them, and after a refusal saying in words where
+# to look.
+. "$here/tools/fresh.sh"
+limit=1000000
+numbers=()
 # The script of tools/ that says what a refusal means, for each kind of file.
 declare -A script=(['network file']=explain.awk [sheet]=explain-sheet.awk [drawing]=explain-drawing.awk)
-
-say() {
-    printf '%s: %s\n' "$command" "$1" >&2
-}
-
-fail() {
-    say "$1"
-    exit 2
-}
-
-wrong_use() {
-    fail "usage: $usage (for example $example)"
-}
-
-# Words that were typed, fit for a terminal.
-safe() {
-    local words=${1//[^[:print:]]/?}
-    [ ${#words} -le 80 ] || words=${words:0:77}...
-    printf '%s' "$words"
-}
 
 # number NAME VALUE: a number as it was typed. The program judges it; but a line end in it would begin another line of the
 # program's input.
 number() {
     case $2 in *$'\n'*) fail "$1 has a line end in it; it is to be a plain number" ;; esac
-    typed+=("$1" "$2")
+    numbers+=("$1" "$2")
     export "typed_$1=$2"
 }
 
@@ -46,143 +24,135 @@ why_no_number() {
     esac
 }
 
-# The crates of the program by crates.txt, its own among them.
-crates() {
-    program=$program awk '
-        function visit(name,    of, count, i) {
-            if (!(name in needs) || name in seen) return
-            seen[name]
-            print name
-            count = split(needs[name], of, " ")
-            for (i = 1; i <= count; i++) visit(of[i])
-        }
-        { sub(/#.*/, ""); colon = index($0, ":") }
-        colon { name = substr($0, 1, colon - 1); gsub(/[ \t]/, "", name); needs[name] = substr($0, colon + 1) }
-        END { visit(ENVIRON["program"]) }' "$here/crates.txt"
-}
-
-# Whether the program is there and none of its sources is newer.
-fresh() {
-    local crate newer sources=("$here/crates.txt")
-    [ -x "$binary" ] || return 1
-    for crate in $(crates); do sources+=("$here/crates/$crate"); done
-    newer=$(find "${sources[@]}" -name must-fail -prune -o -newer "$binary" -print 2>/dev/null) && [ -z "$newer" ]
-}
-
-# Keeps the kit's lines in the log and says which crate of how many is done.
-follow() {
-    local line ready=0 count
-    count=$(crates | wc -l)
-    while IFS= read -r line; do
-        printf '%s\n' "$line" >&9
-        case $line in
-        'rt: '*'NOT PROVED'* | 'rt: '*FAILED*) say "${line#rt: }" ;;
-        'rt: '*' proved (unchanged'*) ready=$((ready + 1)) ;;
-        'rt: '*' proved ('*) ready=$((ready + 1)) && say "$ready of $count: ${line#rt: }" ;;
-        esac
-    done
-}
-
-# Builds the program, one run at a time. A source that changes meanwhile is newer than the time the program gets.
-build() {
-    local started
-    command -v rt >/dev/null || fail "the Rattle kit (rt) is needed to build the $program, which is missing or older than its sources"
-    mkdir -p "$here/target" && exec 9>>"$log" || fail "nothing can be written to $here/target, where the $program is to be built"
-    if ! flock -n 9; then
-        say 'another run is building; waiting for it'
-        flock 9 || fail "the file $log cannot be locked"
+# spool NAME KIND [FILE]: keeps what can be read only once, standard input or a file, in a file of our own, which goes when this run
+# ends.
+spool() {
+    local words
+    if [ -z "${spooled:-}" ]; then
+        spooled=$(mktemp -d 2>/dev/null) || fail "$(unwritable "${TMPDIR:-/tmp}" "$(reason "${TMPDIR:-/tmp}/nolkisei.$$")"), where $1 is to be kept"
+        trap 'rm -rf -- "$spooled"' EXIT
     fi
-    if ! fresh; then
-        say "building the $program, some minutes, once (the kit's own words go to $log)"
-        : >"$log"
-        [ -x "$binary" ] || rm -f "$here/target/stamp/$program"
-        started=$(date +%s.%N)
-        (cd -- "$here" && rt check "$program" 2>&1) | follow
-        if [ "${PIPESTATUS[0]}" -ne 0 ] || [ ! -x "$binary" ]; then
-            rm -f "$binary"
-            fail "the $program could not be built; $log tells why"
-        fi
-        touch -d "@$started" "$binary"
-        say "the $program is built"
+    path=$spooled/$2
+    words=$(LC_ALL=C; { [ $# -eq 2 ] || exec <"$3"; head -c $((limit + 1)) >"$path"; } 2>&1) && return
+    case $words in
+    *[Ww]rit* | *'No space'*) fail "$(unwritable "${TMPDIR:-/tmp}" "${words##*: }"), where $1 is to be kept" ;;
+    *) fail "$1 cannot be read to its end" ;;
+    esac
+}
+
+# take FILE KIND: a file of a kind that is to be read, or - for standard input. Leaves in path where its bytes are, in name what words
+# call it, in typed_file how it is typed, and says what is wrong with one that cannot be read.
+take() {
+    safe "$1"
+    name=$safe path=$1
+    case $1 in
+    -)
+        name='standard input' path=/dev/stdin
+        [ -z "${shut:-}" ] || fail 'standard input is closed, so there is nothing to read'
+        ;;
+    -*) path=./$1 ;;
+    esac
+    typed "$path"
+    typed_file=$typed
+    [ -e "$path" ] || { safe "$PWD" && fail "there is no file $name (looked for from $safe)"; }
+    [ ! -d "$path" ] || fail "$name is a folder, not a $2"
+    [ "$1" = - ] || [ -r "$path" ] || fail "the file $name may not be read by you"
+    if [ -f "$path" ] && [ "$path" -ef /dev/stdout ]; then
+        [ -s "$path" ] || fail "standard output goes to $name, the file that is to be read, and > has emptied it before this command began; name another file after >"
+        fail "standard output goes to $name, the file that is to be read; nothing was written. Name another file after >"
     fi
-    exec 9>&-
+    case $1 in
+    -) typed_file=- && spool "$name" "$2" ;;
+    *) [ -f "$path" ] || spool "$name" "$2" "$path" ;;
+    esac
 }
 
-# readable FILE KIND: says what is wrong with a file of a kind that cannot be read.
-readable() {
-    local name
-    name=$(safe "$1")
-    [ -e "$1" ] || fail "there is no file $name (looked for from $(safe "$PWD"))"
-    [ ! -d "$1" ] || fail "$name is a directory, not a $2"
-    [ -r "$1" ] || fail "the file $name may not be read by you"
+# answer LINE FILE..: runs the program on the line, unless it is empty, and the files one after the other; leaves what it writes in
+# output. It is asked while its sources are looked at, and where these have changed since, what it wrote does not count.
+answer() {
+    local look
+    unchanged "$program" &
+    look=$!
+    ask "$@"
+    wait "$look" || { ready "$program" && ask "$@"; }
+    case ${ended% *} in 0 | 141) ;; *) fail "$name cannot be read to its end" ;; esac
+    [ "${ended#* }" = 0 ] && [ -n "$output" ] || no_answer "$@"
 }
 
-# explain NUMBER PLACE KIND FILE: a refusal that is about a wish or a file of a kind, in words.
-explain() {
-    local i why again
-    if [ "$1" = 1 ]; then
-        for ((i = 0; i < ${#typed[@]}; i += 2)); do
-            why=$(why_no_number "${typed[i + 1]}")
-            [ -z "$why" ] || say "refused (1): ${typed[i]} is '$(safe "${typed[i + 1]}")': $why; a number has one to four digits and no zero in front"
-        done
-        return
-    fi
-    again=0
-    [ ! -f "$4" ] || again=1
-    { [ $again -eq 0 ] || od -An -v -tu1 -N 1000000 <"$4"; } |
-        command=$command number=$1 place=$2 file=$(safe "$4") again=$again awk -f "$here/tools/lines.awk" -f "$here/tools/${script[$3]}" >&2
+# ready PROGRAM: builds it where it is not fresh.
+ready() {
+    fresh "$1" && return
+    . "$here/tools/building.sh"
+    build "$1"
 }
 
-# feed LINE FILE..: the line, unless it is empty, and the files one behind the other.
-feed() {
-    local file status
+# ask LINE FILE..: one run of the program; leaves what it writes in output, and in ended how the files and it ended.
+ask() {
+    { output=$(
+        input "$@" 2>/dev/null | "$here/target/bin/$program" 2>/dev/null
+        printf '\n%s' "${PIPESTATUS[*]}"
+    ); } 2>/dev/null
+    ended=${output##*$'\n'} output=${output%$'\n'*}
+}
+
+# input LINE FILE..: what the program reads.
+input() {
     [ -z "$1" ] || printf '%s\n' "$1"
     shift
-    for file; do
-        { cat 2>/dev/null; } <"$file" && continue
-        status=$?
-        [ $status -eq 141 ] || say "the file $(safe "$file") cannot be read to its end"
-        exit $status
-    done
+    exec cat -- "$@"
 }
 
-# answer LINE FILE..: runs the program on these and leaves what it writes in output.
-answer() {
-    fresh || build
-    output=$(
-        feed "$@" | "$binary"
-        ended=("${PIPESTATUS[@]}")
-        [ "${ended[1]}" -eq 0 ] || fail "the $program could not be run"
-        case ${ended[0]} in 0 | 141) ;; *) exit 2 ;; esac
-        echo .
-    ) || exit 2
-    output=${output%.}
-    [ -n "$output" ] || fail "the $program gave no answer"
+# no_answer LINE FILE..: why the program wrote nothing: its input is longer than it reads, or it failed.
+no_answer() {
+    local size
+    size=$(input "$@" 2>/dev/null | head -c $((limit + 1)) | wc -c)
+    [ "$size" -le "$limit" ] || fail "${too_long:-$name is too long}"
+    [ "${ended#* }" = 0 ] || fail "$name: the $program could not be run to its end (status ${ended#* })"
+    fail "$name: the $program gave no answer"
 }
 
 pass_on() {
-    printf '%s' "$output" 2>/dev/null || fail "what the $program wrote could not be passed on"
+    printf '%s' "$output" 2>/dev/null || fail "$name: the answer could not be written to standard output"
 }
 
-# turn_away KIND FILE: passes on the refused line that the program wrote for a file of a kind, and says it in words.
+# refusal: leaves number and place of the refused line that the program wrote; fails where it wrote something else.
+refusal() {
+    case $output in
+    '(refused '*' '*')'$'\n') ;;
+    *) fail "$name: what the $program wrote is not whole" ;;
+    esac
+    refused=${output#'(refused '} refused=${refused%')'*}
+}
+
+# explain NUMBER PLACE KIND: a refusal that is about a wish or about the file of a kind that was taken, in words.
+explain() {
+    local i why
+    if [ "$1" = 1 ]; then
+        for ((i = 0; i < ${#numbers[@]}; i += 2)); do
+            why=$(why_no_number "${numbers[i + 1]}")
+            [ -z "$why" ] || {
+                safe "${numbers[i + 1]}"
+                say "refused (1): $name: ${numbers[i]} is '$safe': $why; a number has one to four digits and no zero in front"
+            }
+        done
+        return
+    fi
+    words "$1" "$2" "$path" -f "$here/tools/lines.awk" -f "$here/tools/${script[$3]}"
+}
+
+# words NUMBER PLACE FILE SCRIPT..: what the scripts say of the bytes of a file, or where it is told if they cannot be run.
+words() {
+    local number=$1 place=$2 bytes=$3 said
+    shift 3
+    said=$({ od -An -v -tu1 -N "$limit" <"$bytes" | number=$number place=$place file=$name typed_file=$typed_file me=$(me) command=$command LC_ALL=C awk "$@"; } 2>/dev/null) && [ -n "$said" ] ||
+        said="nolkisei: refused ($number): $name: docs/DESK.md, 'Refusals', tells what that means (it takes awk and od to tell it here, and they could not be run)"
+    printf '%s\n' "$said" >&2
+}
+
+# turn_away KIND: passes on the refused line that the program wrote for the file of a kind that was taken, and says it in words.
 turn_away() {
-    local refusal
-    case $output in
-    '(refused '*')'$'\n') refusal=${output#'(refused '} refusal=${refusal%')'*} ;;
-    *) fail "what the $program wrote is not whole" ;;
-    esac
+    refusal
     pass_on
-    explain "${refusal% *}" "${refusal#* }" "$1" "$2"
+    explain "${refused% *}" "${refused#* }" "$1"
     exit 1
-}
-
-# launch LINE HEAD KIND FILE: LINE, unless it is empty, and FILE, of a kind, are the program's input, and HEAD is what it prints first
-# unless it refuses.
-launch() {
-    readable "$4" "$3"
-    answer "$1" "$4"
-    case $output in
-    "$2"*$'\n(end)\n') pass_on && exit 0 ;;
-    *) turn_away "$3" "$4" ;;
-    esac
 }

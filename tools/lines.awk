@@ -1,16 +1,15 @@
 # The lines of a file for the scripts that explain a refusal: its bytes, the usual causes of a departure, and showing a line.
-# Input: the file's bytes as decimal numbers. By the environment: command; number and place of the refusal; file, its name; again, 0
-# where its bytes cannot be had a second time.
+# Input: the file's bytes as decimal numbers. By the environment: command; number and place of the refusal; file, its name; typed_file
+# and me, the file and this command as they are typed.
 
 BEGIN {
     size = 0
     number = ENVIRON["number"] + 0
     place = ENVIRON["place"] + 0
-    again = ENVIRON["again"] + 0
 }
 { for (i = 1; i <= NF; i++) byte[size++] = $i + 0 }
 
-function say(words) { print ENVIRON["command"] ": " words }
+function say(words) { print "nolkisei: " words }
 
 function refused(words) { say("refused (" number "): " words) }
 
@@ -58,24 +57,21 @@ function show(line, column,    first, last, front, pad) {
     print "    " pad "^"
 }
 
+# A line of the file, by its name.
+function at(line) { return ENVIRON["file"] ", line " line }
+
 # What is wrong at a column of a line, and the line.
 function wrong(line, column, words) {
-    refused(ENVIRON["file"] ", line " line ", column " column ": " words)
+    refused(at(line) ", column " column ": " words)
     show(line, column)
 }
 
-# Where and why a file of a kind departs from its form; the script that is run with this one has the cause and what is due. Where
-# another file stands behind this one, the place may be in that.
-function departs(kind,    line, column) {
-    if (!again) {
-        refused(ENVIRON["file"] " departs from the form of " kind " at byte " place ", counted from 0 (its lines cannot be shown)")
-        return
-    }
-    if (place > size) place = size
+# Where and why a file departs from its form; the script that is run with this one has the cause and what is due.
+function departs(    line, column) {
     line = line_there()
     column = place - start[line] + 1
     wrong(line, column, cause(line, column))
-    say("due there: " due(line))
+    say(at(line) ": due there: " due(line))
 }
 
 function blank(code) { return code == 32 || code == 9 || code == 13 }
@@ -83,12 +79,12 @@ function blank(code) { return code == 32 || code == 9 || code == 13 }
 function digit(code) { return code >= 48 && code <= 57 }
 
 # Whether all bytes from here to a line's end are blank.
-function blank_from(at, line) {
-    while (at < ending(line) && blank(byte[at])) at++
-    return at >= ending(line)
+function blank_from(i, line) {
+    while (i < ending(line) && blank(byte[i])) i++
+    return i >= ending(line)
 }
 
-# The word that a line begins with behind its bracket.
+# The word that a line begins with after its bracket.
 function word(line) {
     if (line < 1 || !match(text(line), /^\([a-z]+/)) return ""
     return substr(text(line), 2, RLENGTH - 1)
@@ -113,7 +109,7 @@ function kind_seen() {
 function other_kind(kind,    seen) {
     seen = kind_seen()
     if (seen == "" || seen == kind) return ""
-    if (seen == "a drawing" && kind == "a network file") return "this looks like a drawing in the DIMACS form; make a network file of it first: ./import " ENVIRON["file"] " > NEW.net"
+    if (seen == "a drawing" && kind == "a network file") return "this looks like a drawing in the DIMACS form; make a network file of it first: " ENVIRON["me"] " import " ENVIRON["typed_file"] " > NEW.net"
     if (seen == "a network file" && kind == "a drawing") return "this is a network file already; it needs no import"
     if (ENVIRON["command"] == "verify" && seen ~ /^a (network file|sheet)$/) return "this is " seen "; the network file is named first, the sheet second"
     return "this is " seen ", not " kind
@@ -122,6 +118,7 @@ function other_kind(kind,    seen) {
 # A cause that is the whole file's, where one is seen.
 function file_cause(line) {
     if (size == 0) return "the file is empty"
+    if (line == 1 && (byte[0] == 31 && (byte[1] == 139 || byte[1] == 157) || text(1) ~ /^(BZh[0-9]|PK|.7zXZ)/ || byte[0] == 40 && byte[1] == 181)) return "the file is compressed; unpack it first (gunzip, bunzip2, unxz, unzstd or unzip)"
     if (line == 1 && byte[0] == 239 && byte[1] == 187 && byte[2] == 191) return "the file begins with a byte-order mark; save it without one"
     if (line == 1 && (byte[0] == 255 && byte[1] == 254 || byte[0] == 254 && byte[1] == 255)) return "the file is in UTF-16; save it as plain text (ASCII or UTF-8)"
     return ""
