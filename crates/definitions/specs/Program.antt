@@ -37,11 +37,12 @@ unfoldable pub printed : {A : Type 0} (textOf : A → List ℕ) (outcome : Outco
 printed textOf (refused number place) = writeForm refusedForm (number ∷ place ∷ [])
 printed textOf (done value) = textOf value
 
--- One of a program's own lists: zeros.
+-- A program lends an operation a list of its own, which holds zeros.
 unfoldable pub room : (size : ℕ) → List ℕ
 room size = replicate size 0
 
--- The bytes of its input that a program which reads a network takes in at most: a longer input is answered from these alone.
+-- A program that reads a network takes in at most so many bytes of its input, and answers a longer one from these alone: 22 for the
+-- longest line in front, `(want 9999 9999 9999)` with its line end, and 54,934, past which no reading of a network text looks.
 unfoldable pub inputRoom : ℕ
 inputRoom = 54956
 

@@ -16,7 +16,7 @@ use text::put;
 pub const LINE_ROOM: usize = 52;
 
 // `(refused NUMBER PLACE)` and its line end, from the output's first byte on.
-pub fn put_refused(output: &mut [u8], number: usize, place: usize) -> usize
+fn put_refused(output: &mut [u8], number: usize, place: usize) -> usize
     requires { ⌜ length (writeForm refusedForm (number ∷ place ∷ [])) ≤ length (now output) ⌝ }
     ensures { λ r. ⌜ Put (now (output .entry)) 0 (writeForm refusedForm (number ∷ place ∷ [])) (now (output .exit)) r ⌝ }
 {

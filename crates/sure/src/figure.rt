@@ -11,6 +11,7 @@ ghost use Rattle.sure.specs.Lines.{LastOf};
 use crate::links::links_at;
 use forests::idle::serving;
 use forests::results::place_relays;
+use network::Relay;
 use plan::stages::plan_accepted;
 use program::line::put_single;
 use program::rooms;
@@ -32,20 +33,20 @@ fn put_last(
     lows: &[u16],
     highs: &[u16],
     states: &[u16],
-    last: u16,
-    prior: u16,
+    last: Relay,
+    prior: Relay,
     links: u16,
 ) -> usize
-    requires { ⌜ LastOf (networkOf n (now lows) (now highs) (now states)) last prior links ⌝ }
+    requires { ⌜ LastOf (networkOf n (now lows) (now highs) (now states)) (last .0) (prior .0) links ⌝ }
     requires { ⌜ length (figureText (networkOf n (now lows) (now highs) (now states))) ≤ length (now output) ⌝ }
     ensures { λ r. ⌜ Put (now (output .entry)) 0 (figureText (networkOf n (now (lows .entry)) (now (highs .entry)) (now (states .entry))))
         (now (output .exit)) r ⌝ }
 {
     if links < 1 {
-        return put_none(output, last as usize, prior as usize, links as usize);
+        return put_none(output, last.0 as usize, prior.0 as usize, links as usize);
     }
     if 32 < links {
-        return put_none(output, last as usize, prior as usize, links as usize);
+        return put_none(output, last.0 as usize, prior.0 as usize, links as usize);
     }
     plan_accepted(output, n, lows, highs, states, last, prior, links)
 }
@@ -72,6 +73,15 @@ pub(crate) fn put_figure(
     place_relays(n, lows, highs, states, &mut relays, &mut places);
     let last = relays[count - 1];
     let prior = relays[count - 2];
-    let links = links_at(lows, highs, states, last);
-    put_last(output, n, lows, highs, states, last, prior, links)
+    let links = links_at(lows, highs, states, Relay(last));
+    put_last(
+        output,
+        n,
+        lows,
+        highs,
+        states,
+        Relay(last),
+        Relay(prior),
+        links,
+    )
 }

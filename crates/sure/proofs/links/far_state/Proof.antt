@@ -15,8 +15,8 @@ returns : tie.Need-returns
 returns c =
     let start = c .before .before in
     let a = start .args in
-    far-high (now (a .states)) (a .low) (a .high) (a .relay) (start .pre .3) (c .before .if1 .taken)
-    (start .pre .2 .either (a .high) (start .pre .1))
+    far-high (now (a .states)) (a .low .0) (a .high .0) (a .relay .0) (start .pre .3) (c .before .if1 .taken)
+    (start .pre .2 .either (a .high .0) (start .pre .1))
 
 mul-result-2 : tie.Need-mul-result-2
 mul-result-2 c = search needs
@@ -28,14 +28,14 @@ returns-2 : tie.Need-returns-2
 returns-2 c =
     let start = c .before .before .before in
     let a = start .args in
-    far-low (now (a .states)) (a .low) (a .high) (a .relay) (start .pre .3) (c .before .before .if1 .left) (c .before .if2 .taken)
-    (start .pre .2 .either (a .low) (start .pre .0))
+    far-low (now (a .states)) (a .low .0) (a .high .0) (a .relay .0) (start .pre .3) (c .before .before .if1 .left) (c .before .if2 .taken)
+    (start .pre .2 .either (a .low .0) (start .pre .0))
 
 returns-3 : tie.Need-returns-3
 returns-3 c =
     let start = c .before .before in
     let a = start .args in
-    far-none (now (a .states)) (a .low) (a .high) (a .relay) (start .pre .3) (c .before .if1 .left) (c .if2 .left)
+    far-none (now (a .states)) (a .low .0) (a .high .0) (a .relay .0) (start .pre .3) (c .before .if1 .left) (c .if2 .left)
 
 pub far-state-spec : {M : Type 1} → statement M
 far-state-spec =

@@ -23,7 +23,7 @@ abbrev μ-loop : tie.MeasureT-loop
 loop-holds : tie.Need-loop-holds Inv-loop μ-loop
 loop-holds c =
     let a = c .before .before .before .args in
-    (omega arith, omega (arith, links-all (now (a .lows)) (now (a .highs)) (now (a .states)) (a .relay)))
+    (omega arith, omega (arith, links-all (now (a .lows)) (now (a .highs)) (now (a .states)) (a .relay .0)))
 
 mul-low : tie.Need-mul-low Inv-loop μ-loop
 mul-low c = search needs
@@ -57,8 +57,8 @@ add-found c =
     let start = atLoop .before .before .before .before in
     let a = start .args in
     let network = networkOf (length (now (a .states))) (now (a .lows)) (now (a .highs)) (now (a .states)) in
-    let step = links-step (now (a .lows)) (now (a .highs)) (now (a .states)) (a .relay) (atLoop .loop .i) (turn .loop-test .taken) in
-    omega (arith, c .far-state .ensures, atLoop .loop .inv .1, links-small network (start .pre .0) (a .relay))
+    let step = links-step (now (a .lows)) (now (a .highs)) (now (a .states)) (a .relay .0) (atLoop .loop .i) (turn .loop-test .taken) in
+    omega (arith, c .far-state .ensures, atLoop .loop .inv .1, links-small network (start .pre .0) (a .relay .0))
 
 add-i : tie.Need-add-i Inv-loop μ-loop
 add-i c = omega arith
@@ -71,14 +71,14 @@ loop-again c =
     let turn = c .before .before .before in
     let atLoop = turn .before in
     let a = atLoop .before .before .before .before .args in
-    let step = links-step (now (a .lows)) (now (a .highs)) (now (a .states)) (a .relay) (atLoop .loop .i) (turn .loop-test .taken) in
+    let step = links-step (now (a .lows)) (now (a .highs)) (now (a .states)) (a .relay .0) (atLoop .loop .i) (turn .loop-test .taken) in
     (omega (arith, turn .loop-test .taken), omega (arith, c .far-state .ensures, atLoop .loop .inv .1))
 
 returns : tie.Need-returns Inv-loop μ-loop
 returns c =
     let at = c .before .loop in
     let a = c .before .before .before .before .before .args in
-    let none = links-end (now (a .lows)) (now (a .highs)) (now (a .states)) (a .relay) (at .i) (omega (arith, c .loop-test .left)) in
+    let none = links-end (now (a .lows)) (now (a .highs)) (now (a .states)) (a .relay .0) (at .i) (omega (arith, c .loop-test .left)) in
     omega (arith, at .inv .1)
 
 pub links-at-spec : {M : Type 1} → statement M
