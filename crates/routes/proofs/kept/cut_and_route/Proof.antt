@@ -3,7 +3,7 @@ use mathlib.Core.Bool.{true}
 use mathlib.Core.Path.{sym, _∙_, ap}
 use Rattle.network.specs.Answers.{refusalOf, checkOutcome}
 use Rattle.network.specs.Refusals.{refusal-then}
-use Rattle.theory.specs.Accepted.{accepted}
+use Rattle.theory.specs.Accepted.{accepted, accepted-states}
 use Rattle.forests.specs.Answers.{cutOutcome}
 use Rattle.routes.proofs.Answers.Refusals.{wish-refused, wish-passed, route-answered}
 use Rattle.routes.proofs.Answers.Lent.{counted-links}
@@ -14,8 +14,10 @@ use Rattle.routes.proofs.kept.cut_and_route.Tie as tie
 wish-check-requires : tie.Need-wish-check-requires
 wish-check-requires c κs =
     let start = c .before .before .before .before .before .before .before in
-    let a = start .args in
-    accepted (a .n) (a .lows .now) (a .highs .now) (a .states .now) (start .pre) .few
+    let a = start .args in (
+      accepted (a .n) (a .lows .now) (a .highs .now) (a .states .now) (start .pre) .few,
+      accepted-states (a .n) (a .lows .now) (a .highs .now) (a .states .now) (start .pre) .long,
+    )
 
 enum-known-refusal : tie.Need-enum-known-refusal
 enum-known-refusal c = search needs
