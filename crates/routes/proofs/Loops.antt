@@ -1,5 +1,4 @@
 -- The code's loops and calls, turn by turn, are the definitions on lists of specs/.
-pub mod Sweep
 pub mod Write
 pub mod Links
 pub mod Between

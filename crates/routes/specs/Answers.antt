@@ -17,9 +17,9 @@ use Rattle.definitions.specs.Over.{oversOf, routeLinksAnswer}
 use Rattle.network.specs.Answers.{refusalOf}
 use Rattle.forests.specs.Scan.{Scanned}
 use Rattle.forests.specs.Left.{LeftTable}
+use Rattle.sweep.specs.Side.{NoPaths}
 use Rattle.routes.specs.declared.RouteAnswer.{RouteAnswer}
 use Rattle.routes.specs.declared.RouteAnswer.the-variants.{Written}
-use Rattle.routes.specs.Side.{NoPaths}
 use Rattle.routes.specs.Between.{oneTreeIn, betweenIn, linksBetween}
 
 -- The count of relays written, or a refusal.

@@ -6,7 +6,7 @@ use mathlib.Core.List.{List}
 use lib.Dec.{eqb, ltb}
 use Rattle.definitions.specs.Outcome.{pick}
 use Rattle.definitions.specs.Forests.{Entry}
-use Rattle.routes.specs.Sides.{sweptIn}
+use Rattle.sweep.specs.Sides.{sweptIn}
 use Rattle.routes.specs.Writing.{Written, writeFrom}
 use Rattle.routes.specs.WrittenLinks.{linksFrom}
 

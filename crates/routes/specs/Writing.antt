@@ -6,7 +6,7 @@ use lib.Dec.{eqb}
 use lib.ListN.{set}
 use Rattle.definitions.specs.Outcome.{pick}
 use Rattle.definitions.specs.Order.{relayAt}
-use Rattle.routes.specs.Side.{endIn, secondIn, priorIn}
+use Rattle.sweep.specs.Side.{endIn, secondIn, priorIn}
 
 -- No route is written from further on: the 31 before it have 2,001 entries each at most. Nor is its second half, which begins 1,001
 -- entries further on at most.

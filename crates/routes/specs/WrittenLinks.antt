@@ -3,7 +3,7 @@
 use Prim.Native.Nat.{ℕ, zero, suc, _+_}
 use mathlib.Core.List.{List}
 use lib.ListN.{set}
-use Rattle.routes.specs.Side.{secondIn, linkIn, priorIn, priorLinkIn}
+use Rattle.sweep.specs.Side.{secondIn, linkIn, priorIn, priorLinkIn}
 use Rattle.routes.specs.Writing.{countIn}
 
 -- `count` links back from x, `link` the first of them, written downwards to `from`.

@@ -2,8 +2,6 @@
 use crate::RouteAnswer;
 use crate::between::between;
 use crate::between::one_tree;
-use crate::sides::side_for_128_relays;
-use crate::sides::side_for_1000_relays;
 use forests::arrays::few_link_zeros;
 use forests::arrays::few_relay_copies;
 use forests::arrays::link_zeros;
@@ -16,11 +14,13 @@ use forests::scan::scan;
 use network::Place;
 use network::Refusal;
 use network::Relay;
+use sweep::sides::side_for_128_relays;
+use sweep::sides::side_for_1000_relays;
 ghost use mathlib.Core.Path.{_≡_};
 ghost use Prim.Native.Nat.{_+_, _*_, _≤_, _<_};
 ghost use lib.ListN.{length};
 ghost use Rattle.definitions.specs.Lists.{zeroed};
-ghost use Rattle.routes.specs.Side.{tableEntry, priorStart};
+ghost use Rattle.sweep.specs.Side.{tableEntry, priorStart};
 ghost use Rattle.routes.specs.Answers.{routeOutcome, answered, answerIn, treeAnswer, Routable, RouteArrays, OverSome, OverEach};
 
 // The routes from p to q, or 13.

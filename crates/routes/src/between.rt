@@ -2,15 +2,15 @@
 ghost use mathlib.Core.Path.{_≡_};
 ghost use Prim.Native.Nat.{_+_, _-_, _*_, _≤_, _<_};
 ghost use lib.ListN.{length};
-ghost use Rattle.routes.specs.Side.{tableEntry, priorStart};
+ghost use Rattle.sweep.specs.Side.{tableEntry, priorStart};
 ghost use Rattle.routes.specs.Writing.{written};
 ghost use Rattle.routes.specs.Between.{aliveIn, oneTreeIn, betweenIn, linksBetween};
 use crate::links::write_links;
-use crate::side::left;
-use crate::side::one_before;
-use crate::sweep::sweep;
 use crate::write::write_routes;
 use network::Place;
+use sweep::side::left;
+use sweep::side::one_before;
+use sweep::sweep;
 
 // Each place after t up to s has a left entry of index k.
 fn alive(table: &[u16], ends: &[u16], n: u16, k: u16, t: Place, s: Place) -> bool

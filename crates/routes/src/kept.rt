@@ -1,7 +1,6 @@
 // Route with links and the count of the links that Cut keeps, from one scan of an accepted table.
 use crate::RouteAnswer;
 use crate::accepted::route_over;
-use crate::sides::side_for_1000_relays;
 use crate::wish::wish_check;
 use forests::CutAnswer;
 use forests::arrays::link_zeros;
@@ -10,6 +9,7 @@ use forests::marks::kept_links;
 use forests::scan::scan;
 use network::Check;
 use network::Relay;
+use sweep::sides::side_for_1000_relays;
 ghost use mathlib.Core.List.{[], _∷_};
 ghost use mathlib.Core.Path.{_≡_};
 ghost use Rattle.definitions.specs.Lists.{zeroed};

@@ -15,9 +15,6 @@ mod accepted;
 mod between;
 pub mod kept;
 mod links;
-mod side;
-mod sides;
-mod sweep;
 mod wish;
 mod write;
 

@@ -1,15 +1,15 @@
 // Writes the links of the routes out of the two sides' lists.
 ghost use mathlib.Core.Path.{_≡_};
 ghost use Prim.Native.Nat.{_+_, _≤_};
-ghost use Rattle.routes.specs.Side.{secondIn, linkIn};
+ghost use Rattle.sweep.specs.Side.{secondIn, linkIn};
 ghost use Rattle.routes.specs.Writing.{lastStart, lastTurn, countIn};
 ghost use Rattle.routes.specs.WrittenLinks.{linksDown, linksUp, routeLinks, linksFrom};
-use crate::side::link_of;
-use crate::side::prior_link_of;
-use crate::side::prior_of;
-use crate::side::put;
-use crate::side::second_of;
 use crate::write::count;
+use sweep::side::link_of;
+use sweep::side::prior_link_of;
+use sweep::side::prior_of;
+use sweep::side::put;
+use sweep::side::second_of;
 
 // The `count` links of path i, written downwards to `from`.
 fn links_down(links: &mut [u16], side: &[u16], i: u16, count: usize, from: usize)

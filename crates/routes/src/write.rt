@@ -2,16 +2,16 @@
 ghost use mathlib.Core.Path.{_≡_};
 ghost use Prim.Native.Nat.{_≤_};
 ghost use Rattle.definitions.specs.Order.{relayAt};
-ghost use Rattle.routes.specs.Side.{secondIn};
+ghost use Rattle.sweep.specs.Side.{secondIn};
 ghost use Rattle.routes.specs.Writing.{lastStart, lastTurn, countIn, writeDown, writeUp, routeLength, writeRoute, written, writeFrom};
-use crate::side::end_of;
-use crate::side::get;
-use crate::side::prior_of;
-use crate::side::put;
-use crate::side::second_of;
 use network::Place;
 use network::Relay;
 use network::limits::RELAY_ROOM;
+use sweep::side::end_of;
+use sweep::side::get;
+use sweep::side::prior_of;
+use sweep::side::put;
+use sweep::side::second_of;
 
 // The relay at a place of the order.
 fn relay_at(order: &[u16], p: Place) -> Relay

@@ -31,7 +31,7 @@ use Rattle.theory.specs.PlaceRoutes.{RoutesWithin}
 use Rattle.theory.specs.SweepRoutes.{routes-between}
 use Rattle.theory.specs.OverLinks.{placeLink, pair-turn, overs-in}
 use Rattle.forests.specs.Left.{LeftTable}
-use Rattle.routes.specs.Side.{tableEntry, NoPaths}
+use Rattle.sweep.specs.Side.{tableEntry, NoPaths}
 use Rattle.routes.specs.Writing.{Written, written}
 use Rattle.routes.specs.Between.{oneTreeIn, betweenIn, linksBetween}
 use Rattle.routes.proofs.Routes.Between.{routed-down, routed-up}

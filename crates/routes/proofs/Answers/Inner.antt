@@ -22,7 +22,7 @@ use Rattle.theory.specs.Places.{relay-placed}
 use Rattle.forests.specs.Scan.{Scannable, Scanned}
 use Rattle.forests.specs.Left.{LeftInput, LeftTable}
 use Rattle.forests.proofs.ClearLaws.{cleared}
-use Rattle.routes.specs.Side.{priorStart, tableEntry}
+use Rattle.sweep.specs.Side.{priorStart, tableEntry}
 use Rattle.routes.specs.Writing.{Written, written}
 use Rattle.routes.specs.Between.{oneTreeIn, betweenIn, linksBetween}
 use Rattle.routes.specs.Answers.{Answered, answered, answerIn, treeAnswer, Routable, RouteArrays, Prepared, ScanGave}

@@ -18,7 +18,7 @@ use Rattle.theory.specs.LeftEntries.{entry-place, entry-link, entry-earlier-in}
 use Rattle.theory.specs.OverLinks.{placeLink, look-gives}
 use Rattle.forests.specs.Left.{leftIndex, LeftTable}
 use Rattle.forests.proofs.LeftTableLaws.{code-some, code-none}
-use Rattle.routes.specs.Side.{linkEntry, tableEntry}
+use Rattle.sweep.specs.Side.{linkEntry, tableEntry}
 
 module _ (n k : ℕ) (lows highs states : List ℕ) (ok : Accepted n lows highs states) (old table ends : List ℕ)
     (made : LeftTable n k lows highs states old table ends) where

@@ -7,7 +7,7 @@ use mathlib.Core.Path.{_≡_, sym, _∙_, ap}
 use native.Mathlib.Omega.{arith}
 use borrow.Author.Tests.{eq-eqb, ne-eqb, lt-ltb, le-ltb}
 use Rattle.definitions.specs.Forests.{Entry}
-use Rattle.routes.specs.Sides.{Sides, sides, sweptIn}
+use Rattle.sweep.specs.Sides.{Sides, sides, sweptIn}
 use Rattle.routes.specs.Writing.{written, writeFrom}
 use Rattle.routes.specs.WrittenLinks.{linksFrom}
 use Rattle.routes.specs.Between.{aliveIn, betweenIn, linksBetween}

@@ -4,7 +4,7 @@ use mathlib.Core.List.{List, [], _∷_}
 use mathlib.Core.Path.{_≡_, refl, sym, _∙_, ap}
 use native.Mathlib.Omega.{arith}
 use lib.ListN.{length, set}
-use Rattle.routes.specs.Side.{secondIn, linkIn, priorIn, priorLinkIn}
+use Rattle.sweep.specs.Side.{secondIn, linkIn, priorIn, priorLinkIn}
 use Rattle.routes.specs.Writing.{countIn}
 use Rattle.routes.specs.WrittenLinks.{linksDown, linksUp, routeLinks, linksFrom}
 use Rattle.routes.proofs.Loops.Write.{counted}

@@ -9,7 +9,7 @@ use lib.Dec.{eqb}
 use lib.ListN.{set}
 use Rattle.definitions.specs.Outcome.{pick}
 use Rattle.definitions.specs.Order.{relayAt}
-use Rattle.routes.specs.Side.{endIn, secondIn, priorIn}
+use Rattle.sweep.specs.Side.{endIn, secondIn, priorIn}
 use Rattle.routes.specs.Writing.{chainLength, countIn, writeDown, writeUp, routeLength, writeRoute, written, writeFrom}
 
 chain-stop : (side : List ℕ) (fuel x : ℕ) → x ≡ 0 → chainLength side fuel x ≡ 0

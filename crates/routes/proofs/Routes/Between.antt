@@ -21,11 +21,11 @@ use Rattle.theory.specs.SweepPaths.{trail-length}
 use Rattle.theory.specs.SweepInvariant.{ClosedSlot}
 use Rattle.theory.specs.SweepHolds.{sweep-ends}
 use Rattle.theory.specs.SweepRoutes.{sweep-length, getD-sweepRoutes, all-closed}
-use Rattle.routes.specs.Side.{NoPaths}
-use Rattle.routes.specs.Sides.{Sides, sweptIn}
+use Rattle.sweep.specs.Side.{NoPaths}
+use Rattle.sweep.specs.Sides.{Sides, sweptIn}
+use Rattle.sweep.proofs.Paths.Side.{HoldsPath}
+use Rattle.sweep.proofs.Paths.Sweep.{swept-holds}
 use Rattle.routes.specs.Writing.{written, writeFrom}
-use Rattle.routes.proofs.Paths.Side.{HoldsPath}
-use Rattle.routes.proofs.Paths.Sweep.{swept-holds}
 use Rattle.routes.proofs.Routes.Write.{HoldsRoute, routes-write}
 
 module _ (left : ℕ → ℕ → ℕ) (look : ℕ → ℕ → Entry) (laws : LeftLaws left) (k s t : ℕ) (less : t < s) (alive : Alive left k t s) (positive : 1 ≤ t)

@@ -17,12 +17,12 @@ use Rattle.lists.specs.Stores.{sets-append}
 use Rattle.lists.specs.Steps.{stepsOf, length-stepsOf, stepsOf-reverseAux}
 use Rattle.theory.specs.LeftLaws.{LeftLaws}
 use Rattle.theory.specs.Trees.{Alive}
-use Rattle.routes.specs.Side.{secondIn, linkIn, priorIn, priorLinkIn, NoPaths}
-use Rattle.routes.specs.Sides.{Sides, sweptIn}
+use Rattle.sweep.specs.Side.{secondIn, linkIn, priorIn, priorLinkIn, NoPaths}
+use Rattle.sweep.specs.Sides.{Sides, sweptIn}
+use Rattle.sweep.proofs.Paths.Side.{Chain}
+use Rattle.sweep.proofs.Paths.Links.{Joins, LinksHeld, BothLinked, swept-links}
 use Rattle.routes.specs.Writing.{countIn}
 use Rattle.routes.specs.WrittenLinks.{linksDown, linksUp, routeLinks, linksFrom}
-use Rattle.routes.proofs.Paths.Side.{Chain}
-use Rattle.routes.proofs.Paths.Links.{Joins, LinksHeld, BothLinked, swept-links}
 use Rattle.routes.proofs.Routes.Write.{HoldsRoute, countDown, countUp}
 use Rattle.routes.proofs.Routes.Between.{falling, turned, routes-length}
 

@@ -12,9 +12,9 @@ use Rattle.definitions.specs.Lists.{joinAll}
 use Rattle.definitions.specs.Order.{relayAt}
 use Rattle.lists.specs.Reversed.{map-reverseAux}
 use Rattle.lists.specs.Stores.{sets-append}
-use Rattle.routes.specs.Side.{secondIn, priorIn}
+use Rattle.sweep.specs.Side.{secondIn, priorIn}
+use Rattle.sweep.proofs.Paths.Side.{Chain, HoldsPath}
 use Rattle.routes.specs.Writing.{chainLength, countIn, writeDown, writeUp, routeLength, writeRoute, written, writeFrom}
-use Rattle.routes.proofs.Paths.Side.{Chain, HoldsPath}
 
 chain-count : (side : List ℕ) (fuel x : ℕ) (path : List ℕ) → length path ≤ fuel → Chain side x path → chainLength side fuel x ≡ length path
 unfolding chainLength

@@ -1,6 +1,6 @@
 -- `answer` meets its contract. Assumes nothing.
+use Rattle.sweep.specs.Side.{tableEntry}
 use Rattle.routes.proofs.Answers.Inner.{answer-some, answer-none}
-use Rattle.routes.specs.Side.{tableEntry}
 use borrow.Author.Needs.{needs}
 use Rattle.routes.proofs.accepted.answer.Statement.{statement}
 use Rattle.routes.proofs.accepted.answer.Tie as tie

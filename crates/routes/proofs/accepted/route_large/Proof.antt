@@ -1,9 +1,9 @@
 -- `route_large` meets its contract. Assumes nothing.
 use native.Mathlib.Omega.{arith}
+use Rattle.sweep.specs.Side.{priorStart}
 use Rattle.routes.proofs.Answers.Inner.{route-arrays}
 use Prim.Native.Nat.{_+_}
 use Rattle.theory.specs.Accepted.{accepted}
-use Rattle.routes.specs.Side.{priorStart}
 use borrow.Author.Needs.{needs}
 use Rattle.routes.proofs.accepted.route_large.Statement.{statement}
 use Rattle.routes.proofs.accepted.route_large.Tie as tie

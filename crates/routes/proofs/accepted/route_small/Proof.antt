@@ -1,7 +1,7 @@
 -- `route_small` meets its contract. Assumes nothing.
 use native.Mathlib.Omega.{arith}
 use Prim.Native.Nat.{_+_}
-use Rattle.routes.specs.Side.{priorStart}
+use Rattle.sweep.specs.Side.{priorStart}
 use Rattle.routes.proofs.Answers.Inner.{route-arrays}
 use borrow.Author.Needs.{needs}
 use Rattle.routes.proofs.accepted.route_small.Statement.{statement}

@@ -1,7 +1,7 @@
 -- `alive` meets its contract. The loop's invariant: what is left to do gives what the whole gives. Assumes nothing.
+use Rattle.sweep.specs.Side.{entryOf, tableEntry}
 use Rattle.routes.proofs.Loops.Between.{alive-turn, alive-stop, alive-end}
 use Rattle.routes.specs.Between.{aliveIn}
-use Rattle.routes.specs.Side.{entryOf, tableEntry}
 use native.Mathlib.Omega.{arith}
 use mathlib.Core.Path.{_≡_, refl, sym, _∙_, ap}
 use Prim.Native.Nat.{ℕ, _-_}

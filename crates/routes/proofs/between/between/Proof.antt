@@ -1,6 +1,6 @@
 -- `between` meets its contract. Assumes nothing.
+use Rattle.sweep.specs.Side.{tableEntry}
 use Rattle.routes.proofs.Loops.Between.{between-falls, between-rises, links-fall, links-rise}
-use Rattle.routes.specs.Side.{tableEntry}
 use borrow.Author.Needs.{needs}
 use Rattle.routes.proofs.between.between.Statement.{statement}
 use Rattle.routes.proofs.between.between.Tie as tie

@@ -7,7 +7,7 @@ use native.Mathlib.Omega.{arith}
 use Rattle.definitions.specs.Outcome.{done, andThen}
 use Rattle.theory.specs.Accepted.{accepted}
 use Rattle.forests.proofs.AnswerLaws.{kept-counted}
-use Rattle.routes.specs.Side.{priorStart}
+use Rattle.sweep.specs.Side.{priorStart}
 use Rattle.routes.specs.Answers.{routeOutcome, RouteArrays, ScanGave}
 use Rattle.routes.proofs.Answers.Inner.{route-arrays, scan-asks, scan-gave}
 use borrow.Author.Needs.{needs}
