@@ -31,10 +31,10 @@
  *    (net (relays N) (links M))
  *    (link A B)                     M such lines, A below B
  *    (out R)                        one for each withdrawn relay, in rising order; all others are in service
- *    (end)                          and nothing behind it
+ *    (end)                          and nothing after it
  *
  * What a caller owes:
- *   - every list goes with its length behind it, in entries: as many can be read there, and written where the list is not const;
+ *   - every list goes with its length after it, in entries: as many can be read there, and written where the list is not const;
  *     of `answer` 2 can be written;
  *   - a pointer is not null and is aligned for its type, even where the length is 0;
  *   - a list that is not const overlaps no other list of the call, and nobody else reads or writes it while the call runs;
@@ -109,7 +109,7 @@ uint32_t nolkisei_check(uint16_t n, const uint16_t *lows, size_t lows_length, co
 /* The pair number of the link a b: 5, 6. answer: b * (b - 1) / 2 + a, which no other link has. */
 uint32_t nolkisei_pair(uint16_t a, uint16_t b, uint64_t answer[2]);
 
-/* Reads a text into a table: 2 where it is met; 3, 4, 8 behind the first line; 5, 6, 7 behind a link's line; 16, with place 0, behind
+/* Reads a text into a table: 2 where it is met; 3, 4, 8 after the first line; 5, 6, 7 after a link's line; 16, with place 0, after
  * the line of an `out`. answer: n and m.
  * Done, the first m entries of lows and highs are the links and the first n of states the states, and all others are 0; refused, all
  * three lists are all zeros. Each list may be longer than it need be. */
@@ -121,10 +121,10 @@ uint32_t nolkisei_read(const uint8_t *text, size_t text_length, uint16_t *lows, 
  *
  *    c ANYTHING                     a comment: c alone, or c, a space and any or no bytes other than 10; any number of them, anywhere
  *    p edge N M                     one such line
- *    e U V                          M such lines behind it, relays counted from 1, in either order
+ *    e U V                          M such lines after it, relays counted from 1, in either order
  *
  * The links come in the order of their lines, with numbers one lower, the lower one as the low relay.
- * 18 where it is met; 3, 4, 8 behind the line of p; behind a line of e 5 where U or V is not 1 to N, 6 where they are equal, 7 where an
+ * 18 where it is met; 3, 4, 8 after the line of p; after a line of e 5 where U or V is not 1 to N, 6 where they are equal, 7 where an
  * earlier line has the two in either order. The place of 5 to 7 is the line's index among those of e, from 0. Answer and lists are as of
  * nolkisei_read. */
 uint32_t nolkisei_import(const uint8_t *text, size_t text_length, uint16_t *lows, size_t lows_length, uint16_t *highs,
@@ -184,7 +184,7 @@ uint32_t nolkisei_route_links(uint16_t n, const uint16_t *lows, size_t lows_leng
  *    (route RELAY RELAY ..)
  *    (over INDEX ..)
  *    (kept COUNT)
- *    (end)                          and nothing behind it
+ *    (end)                          and nothing after it
  *
  * It holds exactly if there are K routes, each from FROM to TO along links of the network and with no relay twice, all relays on them
  * are in service, its indices are those of its links in turn, no two routes share a link or a relay but the ends, and COUNT is what a
@@ -193,7 +193,7 @@ uint32_t nolkisei_verify(uint16_t n, const uint16_t *lows, size_t lows_length, c
                          const uint16_t *states, size_t states_length, const uint8_t *text, size_t text_length,
                          uint64_t answer[2]);
 
-/* The two programs. Their input is a line that asks, with line end, spaces and numbers as in every text, and right behind it a
+/* The two programs. Their input is a line that asks, with line end, spaces and numbers as in every text, and right after it a
  * network's text; what they print goes to the output. The return value is 0 with the number of bytes printed as answer, which stand at
  * the output's start, and the rest of it is unchanged; or 12 where the output is shorter than what is to be printed, and then it is
  * unchanged. For an input that is refused they print one line, and that is a success too:
@@ -201,10 +201,10 @@ uint32_t nolkisei_verify(uint16_t n, const uint16_t *lows, size_t lows_length, c
  *    (refused NUMBER PLACE)
  *
  * with the first refusal met: 1 where the line that asks departs from its form, at the byte; then 2, at the byte counted from the
- * first one behind that line, 3, 4, 5, 6, 7, 16; then 9; and of nolkisei_plan then 10, 11, 17, 13. */
+ * first one after that line, 3, 4, 5, 6, 7, 16; then 9; and of nolkisei_plan then 10, 11, 17, 13. */
 
 /* The planner: routes between two relays. The line is (want FROM TO K), and this is printed, with K lines `route`, each with the
- * relays of a route in turn, behind each of them a line `over` with the indices of its links in turn, one fewer than its relays,
+ * relays of a route in turn, after each of them a line `over` with the indices of its links in turn, one fewer than its relays,
  * and the number of links that a cut down to K keeps:
  *
  *    (sheet (from FROM) (to TO) (k K))

@@ -1,13 +1,13 @@
 # For the scripts beside it that run stored inputs: comparing what is due with what is written, and networks to ask about.
 set -u
 cd "$(dirname "${BASH_SOURCE[0]}")/.." || exit 1
-tried=0
+tested=0
 wrong=0
 
 # same WHAT DUE WRITTEN, where line ends at the end count: both with a last '.'. What is set in what_for is said with it.
 same() {
     set -- "$1${what_for:-}" "$2" "$3"
-    tried=$((tried + 1))
+    tested=$((tested + 1))
     if [ "$2" != "$3" ]; then
         wrong=$((wrong + 1))
         printf '%s\n  due     %q\n  written %q\n' "$1" "${2:0:2000}" "${3:0:2000}" >&2
@@ -19,9 +19,9 @@ try() {
     same "$1" "$(printf '%b' "$3"; echo .)" "$(printf '%b' "$2" | "$program"; echo .)"
 }
 
-# finish NAME: says how many were tried, and fails where one was wrong.
+# finish NAME: says how many were tested, and fails where one was wrong.
 finish() {
-    echo "$1: $tried tried, $wrong wrong"
+    echo "$1: $tested tested, $wrong wrong"
     [ "$wrong" -eq 0 ]
 }
 

@@ -81,8 +81,7 @@ pub(crate) fn route_over(
     links: &mut [u16],
     scratch: &mut [u16],
 ) -> RouteAnswer
-    requires { ⌜ OverSome n (now lows) (now highs) k (from .0) (to .0) (now order) (now places) (now numbers) (now a) (now b) (now counts)
-        (now relays) (now scratch) ⌝ }
+    requires { ⌜ OverSome n (now lows) (now highs) k (from .0) (to .0) (now order) (now places) (now numbers) (now a) (now b) (now counts) (now relays) (now scratch) ⌝ }
     ensures { λ r. ⌜ OverEach n (now (lows .entry)) (now (highs .entry)) k (from .0) (to .0) (now (order .entry)) (now (places .entry))
         (now (numbers .entry)) (now (a .entry)) (now (b .entry)) (now (counts .entry)) (now (relays .entry)) (now (links .entry))
         (now (scratch .entry)) (answered (now (counts .exit)) (now (relays .exit)) (now (links .exit)) (routeOutcome r)) ⌝ }

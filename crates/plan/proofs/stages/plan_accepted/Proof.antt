@@ -86,6 +86,12 @@ put-refusal-requires c κs = fits-as _ _ _ _ (refused (c .before .before)) (c .b
 enum-known-kept : tie.Need-enum-known-kept
 enum-known-kept c = search needs
 
+cast-put-sheet : tie.Need-cast-put-sheet
+cast-put-sheet c = search needs
+
+cast-put-sheet-2 : tie.Need-cast-put-sheet-2
+cast-put-sheet-2 c = search needs
+
 slice-aggregate-put-sheet : tie.Need-slice-aggregate-put-sheet
 slice-aggregate-put-sheet c = search needs
 
@@ -95,12 +101,12 @@ slice-aggregate-put-sheet-2 c = search needs
 slice-aggregate-put-sheet-3 : tie.Need-slice-aggregate-put-sheet-3
 slice-aggregate-put-sheet-3 c = search needs
 
-cast-put-sheet : tie.Need-cast-put-sheet
-cast-put-sheet c = search needs
+cast-put-sheet-3 : tie.Need-cast-put-sheet-3
+cast-put-sheet-3 c = search needs
 
 put-sheet-requires : tie.Need-put-sheet-requires
 put-sheet-requires c κs =
-    let atKept = c .before .before .before .before .before in
+    let atKept = c .before .before .before .before .before .before .before in
     let start = atKept .before .before .before .before .before .before .before .before .before .before .before .before .before .before .before .before .before .before .before in
     let sheet = routed atKept in
     let fits = subst (λ (lines : List ℕ). length lines ≤ length (now (start .args .output))) (sheet .lines) (start .pre .1) in
@@ -118,7 +124,7 @@ same-length-2 c = search needs
 
 returns-2 : tie.Need-returns-2
 returns-2 c =
-    let atKept = c .before .before .before .before .before .before .before .before in
+    let atKept = c .before .before .before .before .before .before .before .before .before .before in
     let output = now (atKept .before .before .before .before .before .before .before .before .before .before .before .before .before .before .before .before .before .before .before .args .output) in
     let put = c .before .before .put-sheet in
     subst (λ (lines : List ℕ). Put output 0 lines (put .last .0) (put .result)) (sym (routed atKept .lines)) (put .ensures)
@@ -139,10 +145,12 @@ plan-accepted-spec =
     enum-known-refusal
     put-refusal-requires
     enum-known-kept
+    cast-put-sheet
+    cast-put-sheet-2
     slice-aggregate-put-sheet
     slice-aggregate-put-sheet-2
     slice-aggregate-put-sheet-3
-    cast-put-sheet
+    cast-put-sheet-3
     put-sheet-requires
     same-length
     returns
