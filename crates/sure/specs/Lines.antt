@@ -123,7 +123,7 @@ none-length last before links = ap length (none-written last before links) ∙ s
 
 -- Read, and what is printed of the network.
 abbrev pub readStage : (input : List ℕ) → Outcome Network
-readStage input = andThen (ownRead input) (λ network. done network)
+readStage input = andThen (ownRead [] input) (λ network. done network)
 
 sure-read : (input : List ℕ) → sureText input ≡ printed figureText (readStage input)
 unfolding sureText outcomeOf onScan scanForm passing

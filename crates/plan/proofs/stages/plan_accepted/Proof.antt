@@ -49,60 +49,9 @@ routed c =
     (c .kept .given .0 .0) _ _ _ (sym (made .ensures .0) ∙ ap cutOutcome (c .kept .given .1))
     (made .ensures .1 .0) (made .ensures .1 .1 .0) (made .ensures .1 .1 .1 .0)
 
-counts-requires : tie.Need-counts-requires
-counts-requires c κs = search needs
-
-relays-requires : tie.Need-relays-requires
-relays-requires c κs = search needs
-
-route-links-requires : tie.Need-route-links-requires
-route-links-requires c κs = search needs
-
-scratch-requires : tie.Need-scratch-requires
-scratch-requires c κs = search needs
-
-slice-aggregate-cut-and-route : tie.Need-slice-aggregate-cut-and-route
-slice-aggregate-cut-and-route c = search needs
-
-slice-aggregate-cut-and-route-2 : tie.Need-slice-aggregate-cut-and-route-2
-slice-aggregate-cut-and-route-2 c = search needs
-
-slice-aggregate-cut-and-route-3 : tie.Need-slice-aggregate-cut-and-route-3
-slice-aggregate-cut-and-route-3 c = search needs
-
-slice-aggregate-cut-and-route-4 : tie.Need-slice-aggregate-cut-and-route-4
-slice-aggregate-cut-and-route-4 c = search needs
-
-cut-and-route-requires : tie.Need-cut-and-route-requires
-cut-and-route-requires c κs = search needs
-
-enum-known-refusal : tie.Need-enum-known-refusal
-enum-known-refusal c = search needs
-
 put-refusal-requires : tie.Need-put-refusal-requires
 unfolding printed
 put-refusal-requires c κs = fits-as _ _ _ _ (refused (c .before .before)) (c .before .before .before .before .before .before .before .before .before .before .before .before .before .before .before .before .before .before .before .before .before .pre .1)
-
-enum-known-kept : tie.Need-enum-known-kept
-enum-known-kept c = search needs
-
-cast-put-sheet : tie.Need-cast-put-sheet
-cast-put-sheet c = search needs
-
-cast-put-sheet-2 : tie.Need-cast-put-sheet-2
-cast-put-sheet-2 c = search needs
-
-slice-aggregate-put-sheet : tie.Need-slice-aggregate-put-sheet
-slice-aggregate-put-sheet c = search needs
-
-slice-aggregate-put-sheet-2 : tie.Need-slice-aggregate-put-sheet-2
-slice-aggregate-put-sheet-2 c = search needs
-
-slice-aggregate-put-sheet-3 : tie.Need-slice-aggregate-put-sheet-3
-slice-aggregate-put-sheet-3 c = search needs
-
-cast-put-sheet-3 : tie.Need-cast-put-sheet-3
-cast-put-sheet-3 c = search needs
 
 put-sheet-requires : tie.Need-put-sheet-requires
 put-sheet-requires c κs =
@@ -112,15 +61,9 @@ put-sheet-requires c κs =
     let fits = subst (λ (lines : List ℕ). length lines ≤ length (now (start .args .output))) (sheet .lines) (start .pre .1) in
     (sheet .sizes, (sheet .within, (sheet .linked, fits)))
 
-same-length : tie.Need-same-length
-same-length c = search needs
-
 returns : tie.Need-returns
 unfolding printed
 returns c = put-as _ _ _ _ _ _ (refused (c .before .before .before .before .before)) (c .before .before .put-refusal .ensures)
-
-same-length-2 : tie.Need-same-length-2
-same-length-2 c = search needs
 
 returns-2 : tie.Need-returns-2
 returns-2 c =
@@ -132,27 +75,6 @@ returns-2 c =
 pub plan-accepted-spec : {M : Type 1} → statement M
 plan-accepted-spec =
     tie.close
-    (tie.spec
-    counts-requires
-    relays-requires
-    route-links-requires
-    scratch-requires
-    slice-aggregate-cut-and-route
-    slice-aggregate-cut-and-route-2
-    slice-aggregate-cut-and-route-3
-    slice-aggregate-cut-and-route-4
-    cut-and-route-requires
-    enum-known-refusal
-    put-refusal-requires
-    enum-known-kept
-    cast-put-sheet
-    cast-put-sheet-2
-    slice-aggregate-put-sheet
-    slice-aggregate-put-sheet-2
-    slice-aggregate-put-sheet-3
-    cast-put-sheet-3
-    put-sheet-requires
-    same-length
-    returns
-    same-length-2
-    returns-2)
+    (tie.spec (λ c κs. search needs) (λ c κs. search needs) (λ c κs. search needs) (λ c κs. search needs) (search needs) (search needs)
+    (search needs) (search needs) (λ c κs. search needs) (search needs) put-refusal-requires (search needs) (search needs) (search needs)
+    (search needs) (search needs) (search needs) (search needs) put-sheet-requires (search needs) returns (search needs) returns-2)

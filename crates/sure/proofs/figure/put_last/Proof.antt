@@ -11,31 +11,25 @@ use Rattle.sure.proofs.figure.put_last.Tie as tie
 
 put-none-requires : tie.Need-put-none-requires
 put-none-requires c κs =
-    let atIf = c .before in
+    let atIf = c .before .before .before in
     let start = atIf .before .before .before .before .before in
     omega (arith, start .pre .1, ap length (none-text _ _ _ _ (start .pre .0) (below 1 32 _ (atIf .if1 .taken))))
 
-same-length : tie.Need-same-length
-same-length c = search needs
-
 returns : tie.Need-returns
 returns c =
-    let atIf = c .before .before .before .before in
+    let atIf = c .before .before .before .before .before .before in
     let start = atIf .before .before .before .before .before in
     rw (none-text _ _ _ _ (start .pre .0) (below 1 32 _ (atIf .if1 .taken))) (c .before .before .put-none .ensures)
 
 put-none-requires-2 : tie.Need-put-none-requires-2
 put-none-requires-2 c κs =
-    let atIf = c .before in
+    let atIf = c .before .before .before in
     let start = atIf .before .before .before .before .before .before in
     omega (arith, start .pre .1, ap length (none-text _ _ _ _ (start .pre .0) (above 1 32 _ (omega (arith, atIf .before .if1 .left)) (atIf .if2 .taken))))
 
-same-length-2 : tie.Need-same-length-2
-same-length-2 c = search needs
-
 returns-2 : tie.Need-returns-2
 returns-2 c =
-    let atIf = c .before .before .before .before in
+    let atIf = c .before .before .before .before .before .before in
     let start = atIf .before .before .before .before .before .before in
     rw (none-text _ _ _ _ (start .pre .0) (above 1 32 _ (omega (arith, atIf .before .if1 .left)) (atIf .if2 .taken))) (c .before .before .put-none2 .ensures)
 
@@ -46,9 +40,6 @@ plan-accepted-requires c κs =
     let sheet = sheet-text _ _ _ _ (start .pre .0) (omega (arith, atIf .before .if1 .left)) (omega (arith, atIf .if2 .left)) in
     (start .pre .0 .accepted, omega (arith, start .pre .1, ap length sheet))
 
-same-length-3 : tie.Need-same-length-3
-same-length-3 c = search needs
-
 returns-3 : tie.Need-returns-3
 returns-3 c =
     let atIf = c .before .before .before .before in
@@ -58,13 +49,5 @@ returns-3 c =
 pub put-last-spec : {M : Type 1} → statement M
 put-last-spec =
     tie.close
-    (tie.spec
-    put-none-requires
-    same-length
-    returns
-    put-none-requires-2
-    same-length-2
-    returns-2
-    plan-accepted-requires
-    same-length-3
-    returns-3)
+    (tie.spec (search needs) (search needs) put-none-requires (search needs) returns (search needs) (search needs) put-none-requires-2
+    (search needs) returns-2 plan-accepted-requires (search needs) returns-3)

@@ -15,7 +15,7 @@ use Rattle.sure.proofs.links.links_at.Tie as tie
 
 abbrev Inv-loop : tie.InvT-loop
 Inv-loop lows highs states relay i₀ found₀ i found =
-    (i ≤ length lows) × (linksAt lows highs states relay ≡ found + linksFrom lows highs states relay i)
+    (i ≤ length lows) × (linksAt lows highs states (relay .0) ≡ found + linksFrom lows highs states (relay .0) i)
 
 abbrev μ-loop : tie.MeasureT-loop
 μ-loop lows highs states relay i₀ found₀ i found = length lows - i
