@@ -8,7 +8,7 @@ use lib.ListN.{length, take, drop, drop-of-length-le}
 use lib.Seq.{take-all, take-append-seam, drop-append-seam}
 use Rattle.definitions.specs.Outcome.{Outcome, refused, done, Answer, andThen}
 use Rattle.definitions.specs.Lists.{outside}
-use Rattle.definitions.specs.Form.{departs, reads, scanForm, onScan, writeForm}
+use Rattle.definitions.specs.Form.{departs, reads, scanForm, onScan, Fits, writeForm}
 use Rattle.definitions.specs.Text.{Network, readNetwork}
 use Rattle.definitions.specs.Program.{passing, outcomeOf, printed, on}
 use Rattle.definitions.specs.SheetTest.{sheetAnswer}
@@ -26,7 +26,7 @@ use Rattle.definitions.specs.Verify.{
   verdictOf,
 }
 use Rattle.lists.specs.Parts.{part-start}
-use Rattle.text_theory.specs.Forms.{noZero, goodWord, wellFormedBehind, wellFormed, endsInNumber, Line, Fits}
+use Rattle.text_theory.specs.Forms.{noZero, goodWord, wellFormedBehind, wellFormed, endsInNumber, Line}
 use Rattle.text_theory.specs.NetworkLines.{line-read}
 use Rattle.network.specs.Answers.{refusalOf}
 use Rattle.network.specs.declared.refusal.Refusal.the-variants.{Wish}

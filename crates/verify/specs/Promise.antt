@@ -43,7 +43,7 @@ use Rattle.lists.specs.RefusedWithin.{RefusedAs, refused-as, refuse-as, then-as
 use Rattle.lists.specs.SameOutcomes.{done-same, done-then}
 use Rattle.theory.specs.Columns.{no-mark, mark-entry}
 use Rattle.text_theory.specs.RoundTrip.{written-read}
-use Rattle.text_theory.specs.RefusalFourteen.{refused-as-fourteen}
+use Rattle.text_theory.specs.RefusalFourteen.{refusal-fourteen}
 use Rattle.text_theory.specs.Longest.{longest}
 use Rattle.text_theory.specs.Programs.{AllDone, AnswersAs, outcome-as, answered}
 use Rattle.program.specs.Printable.{read-printable, roomy}
@@ -179,7 +179,7 @@ unfolding sheetAnswer
 sheet-roomy w text ok =
     rw (then-done (tableCheck (w .relays) (w .lows) (w .highs) (w .states)) _ [] ok)
     (then-as Roomy (readSheet text) _
-    (refused-as Roomy (readSheet text) (λ number place e. rw (refused-as-fourteen text number place e) (roomy-number 14 place refl refl)))
+    (refused-as Roomy (readSheet text) (λ number place e. rw (refusal-fourteen .alone text number place e) (roomy-number 14 place refl refl)))
     (λ sheet _. refuse-as Roomy (outside 1 32 (sheet .k)) 15 0 _ (λ _. roomy-number 15 0 refl refl) (λ _. tt)))
 
 -- The network that was read is an accepted one.

@@ -6,7 +6,7 @@ use native.Mathlib.Omega.{arith}
 use denote.Ref.{now}
 use lib.ListN.{length, take, drop}
 use Rattle.network.specs.Answers.{refusalOf}
-use Rattle.network.specs.declared.Refusal.the-variants.{Wish}
+use Rattle.network.specs.declared.refusal.Refusal.the-variants.{Wish}
 use Rattle.definitions.specs.Program.{printed}
 use Rattle.definitions.specs.Keep.{leaseRoom, leased, leaseText, keepText}
 use Rattle.text.specs.Scans.{numberGives}

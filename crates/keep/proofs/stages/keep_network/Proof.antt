@@ -8,54 +8,12 @@ use borrow.Author.Needs.{needs}
 use Rattle.keep.proofs.stages.keep_network.Statement.{statement}
 use Rattle.keep.proofs.stages.keep_network.Tie as tie
 
-links-requires : tie.Need-links-requires
-links-requires c κs = search needs
-
-links-requires-2 : tie.Need-links-requires-2
-links-requires-2 c κs = search needs
-
-states-requires : tie.Need-states-requires
-states-requires c κs = search needs
-
-load-requires : tie.Need-load-requires
-load-requires c κs = search needs
-
-enum-known-refusal : tie.Need-enum-known-refusal
-enum-known-refusal c = search needs
-
 put-refusal-requires : tie.Need-put-refusal-requires
 unfolding printed
 put-refusal-requires c κs =
     let atRefusal = c .before .before in
     let atLoad = atRefusal .before .before in
     fits-as _ _ _ _ (loaded-refused _ _ _ _ _ _ _ (atLoad .load .ensures) (atRefusal .refusal .given .1)) (atLoad .before .before .before .before .before .before .before .before .before .pre)
-
-enum-known-n : tie.Need-enum-known-n
-enum-known-n c = search needs
-
-cast-size : tie.Need-cast-size
-cast-size c = search needs
-
-cast-relays : tie.Need-cast-relays
-cast-relays c = search needs
-
-array-share-prefix-lows : tie.Need-array-share-prefix-lows
-array-share-prefix-lows c = (c .before .before .before .before .load .ensures .gives _ _ (c .before .before .n .given .1) .inLows)
-
-slice-aggregate-keep-cut : tie.Need-slice-aggregate-keep-cut
-slice-aggregate-keep-cut c = sym (length-take-le _ _ (c .before .before .before .before .before .load .ensures .gives _ _ (c .before .before .before .n .given .1) .inLows))
-
-array-share-prefix-highs : tie.Need-array-share-prefix-highs
-array-share-prefix-highs c = (c .before .before .before .before .before .load .ensures .gives _ _ (c .before .before .before .n .given .1) .inHighs)
-
-slice-aggregate-keep-cut-2 : tie.Need-slice-aggregate-keep-cut-2
-slice-aggregate-keep-cut-2 c = sym (length-take-le _ _ (c .before .before .before .before .before .before .load .ensures .gives _ _ (c .before .before .before .before .n .given .1) .inHighs))
-
-array-share-prefix-states : tie.Need-array-share-prefix-states
-array-share-prefix-states c = (c .before .before .before .before .before .before .load .ensures .gives _ _ (c .before .before .before .before .n .given .1) .inStates)
-
-slice-aggregate-keep-cut-3 : tie.Need-slice-aggregate-keep-cut-3
-slice-aggregate-keep-cut-3 c = sym (length-take-le _ _ (c .before .before .before .before .before .before .before .load .ensures .gives _ _ (c .before .before .before .before .before .n .given .1) .inStates))
 
 keep-cut-requires : tie.Need-keep-cut-requires
 keep-cut-requires c κs =
@@ -64,9 +22,6 @@ keep-cut-requires c κs =
     let table = atLoad .load .ensures .gives _ _ (atN .n .given .1) in
     (table .accepted, fits-as _ _ _ _ (loaded-table _ _ _ _ _ _ _ table) (atLoad .before .before .before .before .before .before .before .before .before .pre))
 
-same-length : tie.Need-same-length
-same-length c = search needs
-
 returns : tie.Need-returns
 unfolding printed
 returns c =
@@ -74,9 +29,6 @@ returns c =
     let atRefusal = atPut .before .before .before in
     put-as _ _ _ _ _ _
     (loaded-refused _ _ _ _ _ _ _ (atRefusal .before .before .load .ensures) (atRefusal .refusal .given .1)) (atPut .put-refusal .ensures)
-
-same-length-2 : tie.Need-same-length-2
-same-length-2 c = search needs
 
 returns-2 : tie.Need-returns-2
 returns-2 c =
@@ -87,24 +39,12 @@ returns-2 c =
 pub keep-network-spec : {M : Type 1} → statement M
 keep-network-spec =
     tie.close
-    (tie.spec
-    links-requires
-    links-requires-2
-    states-requires
-    load-requires
-    enum-known-refusal
-    put-refusal-requires
-    enum-known-n
-    cast-size
-    cast-relays
-    array-share-prefix-lows
-    slice-aggregate-keep-cut
-    array-share-prefix-highs
-    slice-aggregate-keep-cut-2
-    array-share-prefix-states
-    slice-aggregate-keep-cut-3
-    keep-cut-requires
-    same-length
-    returns
-    same-length-2
-    returns-2)
+    (tie.spec (λ c κs. search needs) (λ c κs. search needs) (λ c κs. search needs) (λ c κs. search needs) (search needs)
+    put-refusal-requires (search needs) (search needs) (search needs)
+    (λ c. (c .before .before .before .before .load .ensures .gives _ _ (c .before .before .n .given .1) .inLows))
+    (λ c. sym (length-take-le _ _ (c .before .before .before .before .before .load .ensures .gives _ _ (c .before .before .before .n .given .1) .inLows)))
+    (λ c. (c .before .before .before .before .before .load .ensures .gives _ _ (c .before .before .before .n .given .1) .inHighs))
+    (λ c. sym (length-take-le _ _ (c .before .before .before .before .before .before .load .ensures .gives _ _ (c .before .before .before .before .n .given .1) .inHighs)))
+    (λ c. (c .before .before .before .before .before .before .load .ensures .gives _ _ (c .before .before .before .before .n .given .1) .inStates))
+    (λ c. sym (length-take-le _ _ (c .before .before .before .before .before .before .before .load .ensures .gives _ _ (c .before .before .before .before .before .n .given .1) .inStates)))
+    keep-cut-requires (search needs) returns (search needs) returns-2)
