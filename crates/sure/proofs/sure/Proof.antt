@@ -7,11 +7,15 @@ use lib.Seq.{length-take-le}
 use Rattle.definitions.specs.Program.{printed}
 use Rattle.definitions.specs.Plan.{outputRoom}
 use Rattle.definitions.specs.Sure.{figureText}
-use Rattle.program.specs.ReadStage.{fits-as, put-as, loaded-refused, loaded-table}
+use Rattle.program.specs.ReadStage.{LoadedTable, fits-as, put-as, loaded-refused, loaded-table}
 use Rattle.sure.specs.Lines.{sure-fits, sure-put}
 use borrow.Author.Needs.{needs}
 use Rattle.sure.proofs.sure.Statement.{statement}
 use Rattle.sure.proofs.sure.Tie as tie
+
+-- The table that is read, once Read has answered with n and m.
+table : (c : tie.After-n) → LoadedTable (c .before .before .load .ensures) (c .n .given .1)
+table c = c .before .before .load .ensures .gives _ _ (c .n .given .1)
 
 put-refusal-requires : tie.Need-put-refusal-requires
 unfolding printed outputRoom
@@ -29,9 +33,8 @@ put-figure-requires c κs =
     let atN = c .before .before .before .before .before in
     let atLoad = atN .before .before in
     let a = atLoad .before .before .before .before .before .before .before .before .args in
-    let table = atLoad .load .ensures .gives _ _ (atN .n .given .1) in
-    let lines = fits-as figureText _ _ _ (loaded-table _ _ _ _ _ _ _ table) (sure-fits (now (a .input))) in
-    (table .accepted, omega arith)
+    let lines = fits-as figureText _ _ _ (loaded-table _ _ _ _ _ _ _ (table atN)) (sure-fits (now (a .input))) in
+    (table atN .accepted, omega arith)
 
 returns : tie.Need-returns
 unfolding printed outputRoom
@@ -49,17 +52,14 @@ returns-2 c =
     let atLoad = atN .before .before in
     let a = atLoad .before .before .before .before .before .before .before .before .args in
     sure-put (now (a .input)) _ _ _ (omega arith)
-    (put-as figureText _ _ _ _ _ (loaded-table _ _ _ _ _ _ _ (atLoad .load .ensures .gives _ _ (atN .n .given .1))) (c .put-figure .ensures))
+    (put-as figureText _ _ _ _ _ (loaded-table _ _ _ _ _ _ _ (table atN)) (c .put-figure .ensures))
 
 pub sure-spec : {M : Type 1} → statement M
 sure-spec =
     tie.close
     (tie.spec (λ c κs. search needs) (λ c κs. search needs) (λ c κs. search needs) (λ c κs. search needs) (search needs)
     put-refusal-requires (search needs) (search needs) (search needs)
-    (λ c. (c .before .before .before .before .load .ensures .gives _ _ (c .before .before .n .given .1) .inLows))
-    (λ c. sym (length-take-le _ _ (c .before .before .before .before .before .load .ensures .gives _ _ (c .before .before .before .n .given .1) .inLows)))
-    (λ c. (c .before .before .before .before .before .load .ensures .gives _ _ (c .before .before .before .n .given .1) .inHighs))
-    (λ c. sym (length-take-le _ _ (c .before .before .before .before .before .before .load .ensures .gives _ _ (c .before .before .before .before .n .given .1) .inHighs)))
-    (λ c. (c .before .before .before .before .before .before .load .ensures .gives _ _ (c .before .before .before .before .n .given .1) .inStates))
-    (λ c. sym (length-take-le _ _ (c .before .before .before .before .before .before .before .load .ensures .gives _ _ (c .before .before .before .before .before .n .given .1) .inStates)))
+    (λ c. table (c .before .before) .inLows) (λ c. sym (length-take-le _ _ (table (c .before .before .before) .inLows)))
+    (λ c. table (c .before .before .before) .inHighs) (λ c. sym (length-take-le _ _ (table (c .before .before .before .before) .inHighs)))
+    (λ c. table (c .before .before .before .before) .inStates) (λ c. sym (length-take-le _ _ (table (c .before .before .before .before .before) .inStates)))
     put-figure-requires returns returns-2)
