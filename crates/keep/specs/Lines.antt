@@ -1,14 +1,14 @@
 -- The lines of a list of links by their parts, and the links' lines one by one. Assumes nothing.
 use Prim.Native.Nat.{ℕ, zero, suc, _+_, _-_, _≤_, _<_}
 use mathlib.Core.Bool.{Bool, true, false, _&&_}
-use mathlib.Core.List.{List, [], _∷_, _++_, append-assoc, append-nil}
+use mathlib.Core.List.{List, [], _∷_, _++_}
 use mathlib.Core.Path.{_≡_, refl, _∙_, ap, ap₂}
 use native.Mathlib.Omega.{arith}
 use lib.Dec.{eqb}
 use lib.ListN.{length, getD, length-append}
 use Rattle.definitions.specs.Lists.{overwrite}
 use Rattle.definitions.specs.Network.{serves, linkServes}
-use Rattle.definitions.specs.Form.{bytes, Item, word, numeral, writeForm}
+use Rattle.definitions.specs.Form.{bytes, Item, writeForm}
 use Rattle.definitions.specs.Text.{endForm}
 use Rattle.definitions.specs.Plan.{keptForm}
 use Rattle.definitions.specs.Keep.{
@@ -23,24 +23,12 @@ use Rattle.definitions.specs.Keep.{
   idleCount,
 }
 use Rattle.lists.specs.Overwritten.{getD-overwrite}
-use Rattle.text.specs.Scans.{pairForm}
 use Rattle.program.specs.Single.{singleForm}
+use Rattle.program.specs.Single as Single
 
 -- A line of three numbers, as a link has it.
 abbrev pub tripleForm : List ℕ → List Item
-tripleForm front = word front ∷ numeral ∷ pairForm (bytes " ") (bytes " ") (bytes ")\n")
-
-pub triple-written : (front : List ℕ) (i a b : ℕ)
-    → writeForm (tripleForm front) (i ∷ a ∷ b ∷ [])
-    ≡ writeForm (word front ∷ numeral ∷ []) (i ∷ []) ++ writeForm (pairForm (bytes " ") (bytes " ") (bytes ")\n")) (a ∷ b ∷ [])
-unfolding writeForm
-triple-written front i a b = simp (append-nil, append-assoc)
-
-pub triple-length : (front : List ℕ) (i a b : ℕ)
-    → length (writeForm (tripleForm front) (i ∷ a ∷ b ∷ []))
-    ≡ length (writeForm (word front ∷ numeral ∷ []) (i ∷ []))
-    + length (writeForm (pairForm (bytes " ") (bytes " ") (bytes ")\n")) (a ∷ b ∷ []))
-triple-length front i a b = ap length (triple-written front i a b) ∙ simp length-append
+tripleForm front = Single.tripleForm front (bytes " ") (bytes " ") (bytes ")\n")
 
 -- The line of a link, by its mark and by whether both its ends are in service.
 module _ (mark i a b : ℕ) where

@@ -12,6 +12,7 @@ ghost use Rattle.keep.specs.Lines.{tripleForm, EndsWithin, countLines, l
 use crate::idle::both_serve;
 use crate::idle::idle_links;
 use network::Relay;
+use program::line;
 use program::line::put_kept;
 use program::line::put_single;
 use text::put;
@@ -21,10 +22,9 @@ fn put_triple(output: &mut [u8], at: usize, front: &[u8], i: usize, a: Relay, b:
     requires { ⌜ at + length (writeForm (tripleForm (now front)) (i ∷ a .0 ∷ b .0 ∷ [])) ≤ length (now output) ⌝ }
     ensures { λ r. ⌜ Put (now (output .entry)) at (writeForm (tripleForm (now (front .entry))) (i ∷ a .0 ∷ b .0 ∷ [])) (now (output .exit)) r ⌝ }
 {
-    let p = put::put_word_number(output, at, front, i);
     let low = a.0 as usize;
     let high = b.0 as usize;
-    put::put_pair(output, p, b" ", low, b" ", high, b")\n")
+    line::put_triple(output, at, front, i, b" ", low, b" ", high, b")\n")
 }
 
 // The line of a link: kept with mark 1; without it dropped if both its ends are in service, and idle if one is withdrawn.

@@ -13,7 +13,6 @@ use Rattle.definitions.specs.Lists.{total}
 use Rattle.definitions.specs.Text.{endForm}
 use Rattle.definitions.specs.Plan.{sheetForm, keptForm, spaced, numbersLine, routeLines}
 use Rattle.lists.specs.Front.{drop-take}
-use Rattle.text.specs.Scans.{pairForm}
 
 -- The wish, the routes with their links, the count of kept links, and the end.
 unfoldable pub sheetLines : (from to k : ℕ) (routes overs : List (List ℕ)) (kept : ℕ) → List ℕ
@@ -22,25 +21,12 @@ sheetLines from to k routes overs kept =
     (routeLines routes overs ++ (writeForm keptForm (kept ∷ []) ++ writeForm endForm []))
 
 -- A line by its parts.
-pub wish-written : (from to k : ℕ)
-    → writeForm sheetForm (from ∷ to ∷ k ∷ [])
-    ≡ writeForm (pairForm (bytes "(sheet (from ") (bytes ") (to ") (bytes ") (k ")) (from ∷ to ∷ [])
-    ++ (decimal k ++ bytes "))\n")
-unfolding writeForm sheetForm
-wish-written from to k = simp (append-nil, append-assoc)
-
 pub route-written : (route over : List ℕ)
     → routeLines (route ∷ []) (over ∷ []) ≡ numbersLine (bytes "(route") route ++ numbersLine (bytes "(over") over
 unfolding routeLines
 route-written route over = simp append-nil
 
 -- Their lengths.
-pub wish-length : (from to k : ℕ)
-    → length (writeForm sheetForm (from ∷ to ∷ k ∷ []))
-    ≡ length (writeForm (pairForm (bytes "(sheet (from ") (bytes ") (to ") (bytes ") (k ")) (from ∷ to ∷ []))
-    + (length (decimal k) + 3)
-wish-length from to k = ap length (wish-written from to k) ∙ simp length-append
-
 pub line-length : (name numbers : List ℕ) → length (numbersLine name numbers) ≡ length name + (length (spaced numbers) + 2)
 unfolding numbersLine
 line-length name numbers = simp length-append

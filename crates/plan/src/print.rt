@@ -12,6 +12,7 @@ ghost use Rattle.definitions.specs.Plan.{sheetForm, spaced, numbersLine, routeL
 ghost use Rattle.text.specs.Put.{Put};
 ghost use Rattle.plan.specs.SheetLines.{sheetLines};
 use program::line::put_kept;
+use program::line::put_triple;
 use text::put;
 
 // `(sheet (from FROM) (to TO) (k K))` and its line end.
@@ -19,9 +20,17 @@ fn put_wish(output: &mut [u8], at: usize, from: usize, to: usize, k: usize) -> u
     requires { ⌜ at + length (writeForm sheetForm (from ∷ to ∷ k ∷ [])) ≤ length (now output) ⌝ }
     ensures { λ r. ⌜ Put (now (output .entry)) at (writeForm sheetForm (from ∷ to ∷ k ∷ [])) (now (output .exit)) r ⌝ }
 {
-    let p = put::put_pair(output, at, b"(sheet (from ", from, b") (to ", to, b") (k ");
-    let q = put::put_number(output, p, k);
-    put::put_word(output, q, b"))\n")
+    put_triple(
+        output,
+        at,
+        b"(sheet (from ",
+        from,
+        b") (to ",
+        to,
+        b") (k ",
+        k,
+        b"))\n",
+    )
 }
 
 // The numbers of a list from index `first` up to `last`, each behind a space.

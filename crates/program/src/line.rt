@@ -1,4 +1,4 @@
-// Parts of lines: a number and the word behind it is read, a line of one number is printed.
+// Parts of lines: a number and the word behind it is read, a line of one number or of three is printed.
 ghost use mathlib.Core.Bool.{true};
 ghost use mathlib.Core.List.{[], _∷_};
 ghost use mathlib.Core.Path.{_≡_};
@@ -9,7 +9,7 @@ ghost use Rattle.definitions.specs.Plan.{keptForm};
 ghost use Rattle.text_theory.specs.Forms.{noZero};
 ghost use Rattle.text.specs.Put.{Put};
 ghost use Rattle.text.specs.Scans.{numberGives};
-ghost use Rattle.program.specs.Single.{singleForm};
+ghost use Rattle.program.specs.Single.{singleForm, tripleForm};
 use text::put;
 use text::scan;
 use text::scan::NumberScan;
@@ -37,6 +37,27 @@ pub fn put_single(output: &mut [u8], at: usize, front: &[u8], x: usize, back: &[
 {
     let p = put::put_word_number(output, at, front, x);
     put::put_word(output, p, back)
+}
+
+// A line of three numbers: four words with the numbers between them.
+pub fn put_triple(
+    output: &mut [u8],
+    at: usize,
+    front: &[u8],
+    x: usize,
+    second: &[u8],
+    y: usize,
+    third: &[u8],
+    z: usize,
+    back: &[u8],
+) -> usize
+    requires { ⌜ at + length (writeForm (tripleForm (now front) (now second) (now third) (now back)) (x ∷ y ∷ z ∷ [])) ≤ length (now output) ⌝ }
+    ensures { λ r. ⌜ Put (now (output .entry)) at
+        (writeForm (tripleForm (now (front .entry)) (now (second .entry)) (now (third .entry)) (now (back .entry))) (x ∷ y ∷ z ∷ []))
+        (now (output .exit)) r ⌝ }
+{
+    let p = put::put_word_number(output, at, front, x);
+    put::put_pair(output, p, second, y, third, z, back)
 }
 
 // `(kept COUNT)` and its line end.

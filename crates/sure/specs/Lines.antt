@@ -1,19 +1,18 @@
--- What is printed for a network, by what is known of it, and the line where no sheet has d routes by its parts. Rests on #107: neither
--- Cut nor Route refuses between the last two relays.
-use Prim.Native.Nat.{ℕ, suc, _+_, _-_, _≤_, _<_}
+-- What is printed for a network, by what is known of it. Rests on #107: neither Cut nor Route refuses between the last two relays.
+use Prim.Native.Nat.{ℕ, suc, _-_, _≤_, _<_}
 use mathlib.Core.Bool.{true}
-use mathlib.Core.List.{List, [], _∷_, _++_, append-nil}
+use mathlib.Core.List.{List, [], _∷_}
 use mathlib.Core.Path.{_≡_, refl, sym, _∙_, ap, subst}
 use native.Mathlib.Omega.{arith}
 use borrow.Author.Tests.{lt-ltb, le-ltb}
 use lib.Dec.{ltb}
-use lib.ListN.{length, getD, length-append}
+use lib.ListN.{length, getD}
 use Rattle.definitions.specs.Outcome.{Outcome, done, andThen}
 use Rattle.definitions.specs.Lists.{outside, overwrite, total}
 use Rattle.definitions.specs.Network.{serves, tableCheck, Accepted}
 use Rattle.definitions.specs.Order.{linksAt, orderOf, relayAt}
 use Rattle.definitions.specs.Forests.{marksOf, cutAnswer}
-use Rattle.definitions.specs.Form.{bytes, word, numeral, scanForm, onScan, writeForm}
+use Rattle.definitions.specs.Form.{bytes, scanForm, onScan, writeForm}
 use Rattle.definitions.specs.Text.{Network}
 use Rattle.definitions.specs.Program.{passing, outcomeOf, ownRead, printed, room}
 use Rattle.definitions.specs.Plan.{outputRoom, sheetAnswers, sheetText}
@@ -23,7 +22,6 @@ use Rattle.lists.specs.Ranges.{inside}
 use Rattle.theory.specs.Accepted.{accepted}
 use Rattle.theory.specs.Places.{place-named, relay-entry}
 use Rattle.text.specs.Put.{Put}
-use Rattle.text.specs.Scans.{pairForm}
 use Rattle.program.specs.ReadStage.{length-room, whole-put}
 use Rattle.program.specs.Single.{singleForm}
 use Rattle.plan.specs.Stages.{cutStage}
@@ -106,20 +104,6 @@ module _ (w : Network) (last before links : ℕ) (given : LastOf w last before l
         cut-answers (w .relays) (w .lows) (w .highs) (w .states) (figureOf w) (given .accepted) some few,
         sheet .routed,
       )
-
--- The line, its parts, and its length.
-pub none-written : (last before links : ℕ)
-    → writeForm noneForm (last ∷ before ∷ links ∷ [])
-    ≡ writeForm (word (bytes "(none (from ") ∷ numeral ∷ []) (last ∷ []) ++
-    writeForm (pairForm (bytes ") (to ") (bytes ") (links ") (bytes "))\n")) (before ∷ links ∷ [])
-unfolding writeForm noneForm
-none-written last before links = simp append-nil
-
-pub none-length : (last before links : ℕ)
-    → length (writeForm noneForm (last ∷ before ∷ links ∷ []))
-    ≡ length (writeForm (word (bytes "(none (from ") ∷ numeral ∷ []) (last ∷ []))
-    + length (writeForm (pairForm (bytes ") (to ") (bytes ") (links ") (bytes "))\n")) (before ∷ links ∷ []))
-none-length last before links = ap length (none-written last before links) ∙ simp length-append
 
 -- Read, and what is printed of the network.
 abbrev pub readStage : (input : List ℕ) → Outcome Network

@@ -14,16 +14,25 @@ use forests::results::place_relays;
 use network::Relay;
 use plan::stages::plan_accepted;
 use program::line::put_single;
+use program::line::put_triple;
 use program::rooms;
-use text::put;
 
 // `(none (from LAST) (to PRIOR) (links LINKS))` and its line end.
 fn put_none(output: &mut [u8], last: usize, prior: usize, links: usize) -> usize
     requires { ⌜ length (writeForm noneForm (last ∷ prior ∷ links ∷ [])) ≤ length (now output) ⌝ }
     ensures { λ r. ⌜ Put (now (output .entry)) 0 (writeForm noneForm (last ∷ prior ∷ links ∷ [])) (now (output .exit)) r ⌝ }
 {
-    let p = put::put_word_number(output, 0, b"(none (from ", last);
-    put::put_pair(output, p, b") (to ", prior, b") (links ", links, b"))\n")
+    put_triple(
+        output,
+        0,
+        b"(none (from ",
+        last,
+        b") (to ",
+        prior,
+        b") (links ",
+        links,
+        b"))\n",
+    )
 }
 
 // The sheet for the last two relays, or the line where the last has no link or more than 32.

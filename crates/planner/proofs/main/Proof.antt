@@ -12,50 +12,11 @@ use Rattle.plan.specs.Reach.{plan-reach}
 use Rattle.planner.proofs.main.Statement.{statement}
 use Rattle.planner.proofs.main.Tie as tie
 
-room-requires : tie.Need-room-requires
-room-requires c κs = search needs
-
-slice-aggregate-read-all : tie.Need-slice-aggregate-read-all
-slice-aggregate-read-all c = search needs
-
-read-all-requires : tie.Need-read-all-requires
-read-all-requires c κs = search needs
-
-is-failure-requires : tie.Need-is-failure-requires
-is-failure-requires c κs = search needs
-
-slice-aggregate-complain : tie.Need-slice-aggregate-complain
-slice-aggregate-complain c = search needs
-
-complain-requires : tie.Need-complain-requires
-complain-requires c κs = search needs
-
-returns : tie.Need-returns
-returns c = search needs
-
-size-requires : tie.Need-size-requires
-size-requires c κs = search needs
-
-output-requires : tie.Need-output-requires
-output-requires c κs = search needs
-
-array-share-prefix-buffer : tie.Need-array-share-prefix-buffer
-array-share-prefix-buffer c = search needs
-
 slice-aggregate-plan : tie.Need-slice-aggregate-plan
 slice-aggregate-plan c =
     let atSize = c .before .before in
     let atReadAll = atSize .before .before .before .before in
     sym (length-take-le _ _ (omega (arith, atSize .size .ensures, atReadAll .read-all .ensures .0 .0)))
-
-plan-requires : tie.Need-plan-requires
-plan-requires c κs = search needs
-
-array-share-prefix-output : tie.Need-array-share-prefix-output
-array-share-prefix-output c = front-within _ _ _ _ (c .plan .ensures .0) (c .plan .ensures .1)
-
-slice-aggregate-hand-over : tie.Need-slice-aggregate-hand-over
-slice-aggregate-hand-over c = sym (length-take-le _ _ (front-within _ _ _ _ (c .before .plan .ensures .0) (c .before .plan .ensures .1)))
 
 hand-over-requires : tie.Need-hand-over-requires
 hand-over-requires c κs =
@@ -70,26 +31,11 @@ hand-over-requires c κs =
     plan-reach
     (λ more. omega (arith, atReadAll .before .before .room .ensures, said .1 (sym (atSize .before .before .is-failure .ensures) ∙ atSize .before .if1 .left) more))
 
-returns-2 : tie.Need-returns-2
-returns-2 c = search needs
-
 pub main-spec : {M : Type 1} → statement M
 main-spec =
     tie.close
-    (tie.spec
-    room-requires
-    slice-aggregate-read-all
-    read-all-requires
-    is-failure-requires
-    slice-aggregate-complain
-    complain-requires
-    returns
-    size-requires
-    output-requires
-    array-share-prefix-buffer
-    slice-aggregate-plan
-    plan-requires
-    array-share-prefix-output
-    slice-aggregate-hand-over
-    hand-over-requires
-    returns-2)
+    (tie.spec (λ c κs. search needs) (search needs) (λ c κs. search needs) (λ c κs. search needs) (search needs)
+    (λ c κs. search needs) (search needs) (λ c κs. search needs) (λ c κs. search needs) (search needs) slice-aggregate-plan
+    (λ c κs. search needs) (λ c. front-within _ _ _ _ (c .plan .ensures .0) (c .plan .ensures .1))
+    (λ c. sym (length-take-le _ _ (front-within _ _ _ _ (c .before .plan .ensures .0) (c .before .plan .ensures .1))))
+    hand-over-requires (search needs))

@@ -7,26 +7,15 @@ use lib.Seq.{length-take-le}
 use Rattle.definitions.specs.Program.{printed}
 use Rattle.definitions.specs.Plan.{outputRoom}
 use Rattle.definitions.specs.Sure.{figureText}
-use Rattle.program.specs.ReadStage.{fits-as, put-as, loaded-refused, loaded-table}
+use Rattle.program.specs.ReadStage.{LoadedTable, fits-as, put-as, loaded-refused, loaded-table}
 use Rattle.sure.specs.Lines.{sure-fits, sure-put}
 use borrow.Author.Needs.{needs}
 use Rattle.sure.proofs.sure.Statement.{statement}
 use Rattle.sure.proofs.sure.Tie as tie
 
-links-requires : tie.Need-links-requires
-links-requires c κs = search needs
-
-links-requires-2 : tie.Need-links-requires-2
-links-requires-2 c κs = search needs
-
-states-requires : tie.Need-states-requires
-states-requires c κs = search needs
-
-load-requires : tie.Need-load-requires
-load-requires c κs = search needs
-
-enum-known-refusal : tie.Need-enum-known-refusal
-enum-known-refusal c = search needs
+-- The table that is read, once Read has answered with n and m.
+table : (c : tie.After-n) → LoadedTable (c .before .before .load .ensures) (c .n .given .1)
+table c = c .before .before .load .ensures .gives _ _ (c .n .given .1)
 
 put-refusal-requires : tie.Need-put-refusal-requires
 unfolding printed outputRoom
@@ -38,42 +27,14 @@ put-refusal-requires c κs =
     (sure-fits (now (a .input))) in
     omega arith
 
-enum-known-n : tie.Need-enum-known-n
-enum-known-n c = search needs
-
-cast-size : tie.Need-cast-size
-cast-size c = search needs
-
-cast-relays : tie.Need-cast-relays
-cast-relays c = search needs
-
-array-share-prefix-lows : tie.Need-array-share-prefix-lows
-array-share-prefix-lows c = (c .before .before .before .before .load .ensures .gives _ _ (c .before .before .n .given .1) .inLows)
-
-slice-aggregate-put-figure : tie.Need-slice-aggregate-put-figure
-slice-aggregate-put-figure c = sym (length-take-le _ _ (c .before .before .before .before .before .load .ensures .gives _ _ (c .before .before .before .n .given .1) .inLows))
-
-array-share-prefix-highs : tie.Need-array-share-prefix-highs
-array-share-prefix-highs c = (c .before .before .before .before .before .load .ensures .gives _ _ (c .before .before .before .n .given .1) .inHighs)
-
-slice-aggregate-put-figure-2 : tie.Need-slice-aggregate-put-figure-2
-slice-aggregate-put-figure-2 c = sym (length-take-le _ _ (c .before .before .before .before .before .before .load .ensures .gives _ _ (c .before .before .before .before .n .given .1) .inHighs))
-
-array-share-prefix-states : tie.Need-array-share-prefix-states
-array-share-prefix-states c = (c .before .before .before .before .before .before .load .ensures .gives _ _ (c .before .before .before .before .n .given .1) .inStates)
-
-slice-aggregate-put-figure-3 : tie.Need-slice-aggregate-put-figure-3
-slice-aggregate-put-figure-3 c = sym (length-take-le _ _ (c .before .before .before .before .before .before .before .load .ensures .gives _ _ (c .before .before .before .before .before .n .given .1) .inStates))
-
 put-figure-requires : tie.Need-put-figure-requires
 unfolding printed outputRoom
 put-figure-requires c κs =
     let atN = c .before .before .before .before .before in
     let atLoad = atN .before .before in
     let a = atLoad .before .before .before .before .before .before .before .before .args in
-    let table = atLoad .load .ensures .gives _ _ (atN .n .given .1) in
-    let lines = fits-as figureText _ _ _ (loaded-table _ _ _ _ _ _ _ table) (sure-fits (now (a .input))) in
-    (table .accepted, omega arith)
+    let lines = fits-as figureText _ _ _ (loaded-table _ _ _ _ _ _ _ (table atN)) (sure-fits (now (a .input))) in
+    (table atN .accepted, omega arith)
 
 returns : tie.Need-returns
 unfolding printed outputRoom
@@ -91,27 +52,14 @@ returns-2 c =
     let atLoad = atN .before .before in
     let a = atLoad .before .before .before .before .before .before .before .before .args in
     sure-put (now (a .input)) _ _ _ (omega arith)
-    (put-as figureText _ _ _ _ _ (loaded-table _ _ _ _ _ _ _ (atLoad .load .ensures .gives _ _ (atN .n .given .1))) (c .put-figure .ensures))
+    (put-as figureText _ _ _ _ _ (loaded-table _ _ _ _ _ _ _ (table atN)) (c .put-figure .ensures))
 
 pub sure-spec : {M : Type 1} → statement M
 sure-spec =
     tie.close
-    (tie.spec
-    links-requires
-    links-requires-2
-    states-requires
-    load-requires
-    enum-known-refusal
-    put-refusal-requires
-    enum-known-n
-    cast-size
-    cast-relays
-    array-share-prefix-lows
-    slice-aggregate-put-figure
-    array-share-prefix-highs
-    slice-aggregate-put-figure-2
-    array-share-prefix-states
-    slice-aggregate-put-figure-3
-    put-figure-requires
-    returns
-    returns-2)
+    (tie.spec (λ c κs. search needs) (λ c κs. search needs) (λ c κs. search needs) (λ c κs. search needs) (search needs)
+    put-refusal-requires (search needs) (search needs) (search needs)
+    (λ c. table (c .before .before) .inLows) (λ c. sym (length-take-le _ _ (table (c .before .before .before) .inLows)))
+    (λ c. table (c .before .before .before) .inHighs) (λ c. sym (length-take-le _ _ (table (c .before .before .before .before) .inHighs)))
+    (λ c. table (c .before .before .before .before) .inStates) (λ c. sym (length-take-le _ _ (table (c .before .before .before .before .before) .inStates)))
+    put-figure-requires returns returns-2)

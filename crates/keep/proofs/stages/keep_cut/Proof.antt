@@ -33,63 +33,22 @@ marked c =
     cut-marked (a .n) (now (a .lows)) (now (a .highs)) (now (a .states)) (a .k) _ _ _ (start .pre .0) (atLinks .links .ensures)
     (sym (atCut .cut .ensures .0) ∙ ap cutOutcome (c .kept .given .1)) (atCut .cut .ensures .1)
 
-links-requires : tie.Need-links-requires
-links-requires c κs = search needs
-
-slice-aggregate-cut : tie.Need-slice-aggregate-cut
-slice-aggregate-cut c = search needs
-
-cut-requires : tie.Need-cut-requires
-cut-requires c κs = search needs
-
-enum-known-refusal : tie.Need-enum-known-refusal
-enum-known-refusal c = search needs
-
 put-refusal-requires : tie.Need-put-refusal-requires
 unfolding printed
 put-refusal-requires c κs = fits-as _ _ _ _ (refused (c .before .before)) (c .before .before .before .before .before .before .before .before .before .before .before .before .pre .1)
-
-enum-known-kept : tie.Need-enum-known-kept
-enum-known-kept c = search needs
-
-slice-aggregate-put-list : tie.Need-slice-aggregate-put-list
-slice-aggregate-put-list c = search needs
-
-cast-put-list : tie.Need-cast-put-list
-cast-put-list c = search needs
 
 put-list-requires : tie.Need-put-list-requires
 put-list-requires c κs =
     let list = marked (c .before .before .before) in
     ((list .inHighs, list .inMarks, list .inStates), (list .few, rw (list .lines) at (c .before .before .before .before .before .before .before .before .before .before .before .before .before .pre .1)))
 
-same-length : tie.Need-same-length
-same-length c = search needs
-
 returns : tie.Need-returns
 unfolding printed
 returns c = put-as _ _ _ _ _ _ (refused (c .before .before .before .before .before)) (c .before .before .put-refusal .ensures)
 
-same-length-2 : tie.Need-same-length-2
-same-length-2 c = search needs
-
-returns-2 : tie.Need-returns-2
-returns-2 c = rw (marked (c .before .before .before .before .before .before) .lines) (c .before .before .put-list .ensures)
-
 pub keep-cut-spec : {M : Type 1} → statement M
 keep-cut-spec =
     tie.close
-    (tie.spec
-    links-requires
-    slice-aggregate-cut
-    cut-requires
-    enum-known-refusal
-    put-refusal-requires
-    enum-known-kept
-    slice-aggregate-put-list
-    cast-put-list
-    put-list-requires
-    same-length
-    returns
-    same-length-2
-    returns-2)
+    (tie.spec (λ c κs. search needs) (search needs) (λ c κs. search needs) (search needs) put-refusal-requires (search needs)
+    (search needs) (search needs) put-list-requires (search needs) returns (search needs)
+    (λ c. rw (marked (c .before .before .before .before .before .before) .lines) (c .before .before .put-list .ensures)))

@@ -3,25 +3,14 @@
 use mathlib.Core.Path.{sym}
 use lib.Seq.{length-take-le}
 use Rattle.definitions.specs.Program.{printed}
-use Rattle.program.specs.ReadStage.{fits-as, put-as, loaded-refused, loaded-table}
+use Rattle.program.specs.ReadStage.{LoadedTable, fits-as, put-as, loaded-refused, loaded-table}
 use borrow.Author.Needs.{needs}
 use Rattle.keep.proofs.stages.keep_network.Statement.{statement}
 use Rattle.keep.proofs.stages.keep_network.Tie as tie
 
-links-requires : tie.Need-links-requires
-links-requires c κs = search needs
-
-links-requires-2 : tie.Need-links-requires-2
-links-requires-2 c κs = search needs
-
-states-requires : tie.Need-states-requires
-states-requires c κs = search needs
-
-load-requires : tie.Need-load-requires
-load-requires c κs = search needs
-
-enum-known-refusal : tie.Need-enum-known-refusal
-enum-known-refusal c = search needs
+-- The table that is read, once Read has answered with n and m.
+table : (c : tie.After-n) → LoadedTable (c .before .before .load .ensures) (c .n .given .1)
+table c = c .before .before .load .ensures .gives _ _ (c .n .given .1)
 
 put-refusal-requires : tie.Need-put-refusal-requires
 unfolding printed
@@ -30,42 +19,11 @@ put-refusal-requires c κs =
     let atLoad = atRefusal .before .before in
     fits-as _ _ _ _ (loaded-refused _ _ _ _ _ _ _ (atLoad .load .ensures) (atRefusal .refusal .given .1)) (atLoad .before .before .before .before .before .before .before .before .before .pre)
 
-enum-known-n : tie.Need-enum-known-n
-enum-known-n c = search needs
-
-cast-size : tie.Need-cast-size
-cast-size c = search needs
-
-cast-relays : tie.Need-cast-relays
-cast-relays c = search needs
-
-array-share-prefix-lows : tie.Need-array-share-prefix-lows
-array-share-prefix-lows c = (c .before .before .before .before .load .ensures .gives _ _ (c .before .before .n .given .1) .inLows)
-
-slice-aggregate-keep-cut : tie.Need-slice-aggregate-keep-cut
-slice-aggregate-keep-cut c = sym (length-take-le _ _ (c .before .before .before .before .before .load .ensures .gives _ _ (c .before .before .before .n .given .1) .inLows))
-
-array-share-prefix-highs : tie.Need-array-share-prefix-highs
-array-share-prefix-highs c = (c .before .before .before .before .before .load .ensures .gives _ _ (c .before .before .before .n .given .1) .inHighs)
-
-slice-aggregate-keep-cut-2 : tie.Need-slice-aggregate-keep-cut-2
-slice-aggregate-keep-cut-2 c = sym (length-take-le _ _ (c .before .before .before .before .before .before .load .ensures .gives _ _ (c .before .before .before .before .n .given .1) .inHighs))
-
-array-share-prefix-states : tie.Need-array-share-prefix-states
-array-share-prefix-states c = (c .before .before .before .before .before .before .load .ensures .gives _ _ (c .before .before .before .before .n .given .1) .inStates)
-
-slice-aggregate-keep-cut-3 : tie.Need-slice-aggregate-keep-cut-3
-slice-aggregate-keep-cut-3 c = sym (length-take-le _ _ (c .before .before .before .before .before .before .before .load .ensures .gives _ _ (c .before .before .before .before .before .n .given .1) .inStates))
-
 keep-cut-requires : tie.Need-keep-cut-requires
 keep-cut-requires c κs =
     let atN = c .before .before .before .before .before in
     let atLoad = atN .before .before in
-    let table = atLoad .load .ensures .gives _ _ (atN .n .given .1) in
-    (table .accepted, fits-as _ _ _ _ (loaded-table _ _ _ _ _ _ _ table) (atLoad .before .before .before .before .before .before .before .before .before .pre))
-
-same-length : tie.Need-same-length
-same-length c = search needs
+    (table atN .accepted, fits-as _ _ _ _ (loaded-table _ _ _ _ _ _ _ (table atN)) (atLoad .before .before .before .before .before .before .before .before .before .pre))
 
 returns : tie.Need-returns
 unfolding printed
@@ -75,36 +33,18 @@ returns c =
     put-as _ _ _ _ _ _
     (loaded-refused _ _ _ _ _ _ _ (atRefusal .before .before .load .ensures) (atRefusal .refusal .given .1)) (atPut .put-refusal .ensures)
 
-same-length-2 : tie.Need-same-length-2
-same-length-2 c = search needs
-
 returns-2 : tie.Need-returns-2
 returns-2 c =
     let atPut = c .before .before in
     let atN = atPut .before .before .before .before .before .before in
-    put-as _ _ _ _ _ _ (loaded-table _ _ _ _ _ _ _ (atN .before .before .load .ensures .gives _ _ (atN .n .given .1))) (atPut .keep-cut .ensures)
+    put-as _ _ _ _ _ _ (loaded-table _ _ _ _ _ _ _ (table atN)) (atPut .keep-cut .ensures)
 
 pub keep-network-spec : {M : Type 1} → statement M
 keep-network-spec =
     tie.close
-    (tie.spec
-    links-requires
-    links-requires-2
-    states-requires
-    load-requires
-    enum-known-refusal
-    put-refusal-requires
-    enum-known-n
-    cast-size
-    cast-relays
-    array-share-prefix-lows
-    slice-aggregate-keep-cut
-    array-share-prefix-highs
-    slice-aggregate-keep-cut-2
-    array-share-prefix-states
-    slice-aggregate-keep-cut-3
-    keep-cut-requires
-    same-length
-    returns
-    same-length-2
-    returns-2)
+    (tie.spec (λ c κs. search needs) (λ c κs. search needs) (λ c κs. search needs) (λ c κs. search needs) (search needs)
+    put-refusal-requires (search needs) (search needs) (search needs)
+    (λ c. table (c .before .before) .inLows) (λ c. sym (length-take-le _ _ (table (c .before .before .before) .inLows)))
+    (λ c. table (c .before .before .before) .inHighs) (λ c. sym (length-take-le _ _ (table (c .before .before .before .before) .inHighs)))
+    (λ c. table (c .before .before .before .before) .inStates) (λ c. sym (length-take-le _ _ (table (c .before .before .before .before .before) .inStates)))
+    keep-cut-requires (search needs) returns (search needs) returns-2)

@@ -11,12 +11,6 @@ returns c =
     let a = c .before .before .before .args in
     print-short (now (a .text)) (now (a .output)) (omega (arith, c .if1 .taken))
 
-put-word-requires : tie.Need-put-word-requires
-put-word-requires c κs = search needs
-
-same-length : tie.Need-same-length
-same-length c = search needs
-
 returns-2 : tie.Need-returns-2
 returns-2 c =
     let atPutWord = c .before .before in
@@ -25,4 +19,6 @@ returns-2 c =
     print-done (now (a .text)) (now (a .output)) _ _ (omega (arith, atIf .if1 .left)) (atPutWord .put-word .ensures)
 
 pub print-into-spec : {M : Type 1} → statement M
-print-into-spec = tie.close (tie.spec returns put-word-requires same-length returns-2)
+print-into-spec =
+    tie.close
+    (tie.spec returns (λ c κs. search needs) (search needs) returns-2)

@@ -8,24 +8,6 @@ use borrow.Author.Needs.{needs}
 use Rattle.program.proofs.line.number_word.Statement.{statement}
 use Rattle.program.proofs.line.number_word.Tie as tie
 
-number-requires : tie.Need-number-requires
-number-requires c κs = search needs
-
-enum-known-p : tie.Need-enum-known-p
-enum-known-p c = search needs
-
-enum-known-x : tie.Need-enum-known-x
-enum-known-x c = search needs
-
-word-requires : tie.Need-word-requires
-word-requires c κs = search needs
-
-enum-known-q : tie.Need-enum-known-q
-enum-known-q c = search needs
-
-enum-known-q-2 : tie.Need-enum-known-q-2
-enum-known-q-2 c = search needs
-
 returns : tie.Need-returns
 returns c =
     let atNumber = c .before .before .before in
@@ -61,13 +43,5 @@ returns-3 c =
 pub number-word-spec : {M : Type 1} → statement M
 number-word-spec =
     tie.close
-    (tie.spec
-    number-requires
-    enum-known-p
-    enum-known-x
-    word-requires
-    enum-known-q
-    enum-known-q-2
-    returns
-    returns-2
-    returns-3)
+    (tie.spec (λ c κs. search needs) (search needs) (search needs) (λ c κs. search needs) (search needs) (search needs) returns
+    returns-2 returns-3)

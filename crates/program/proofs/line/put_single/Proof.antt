@@ -18,9 +18,6 @@ put-word-requires c κs =
     let a = c .before .before .before .before .before .before .before .before .args in
     omega (arith, single-length (now (a .front)) (now (a .back)) (a .x), one .ends, one .same)
 
-same-length : tie.Need-same-length
-same-length c = search needs
-
 returns : tie.Need-returns
 returns c =
     let atPutWordNumber = c .before .before .before .before .before .before in
@@ -30,4 +27,5 @@ returns c =
 
 pub put-single-spec : {M : Type 1} → statement M
 put-single-spec =
-    tie.close (tie.spec put-word-number-requires put-word-requires same-length returns)
+    tie.close
+    (tie.spec put-word-number-requires put-word-requires (search needs) returns)

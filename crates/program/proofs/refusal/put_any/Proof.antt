@@ -5,15 +5,6 @@ use borrow.Author.Needs.{needs}
 use Rattle.program.proofs.refusal.put_any.Statement.{statement}
 use Rattle.program.proofs.refusal.put_any.Tie as tie
 
-refusal-number-requires : tie.Need-refusal-number-requires
-refusal-number-requires c κs = search needs
-
-cast-number : tie.Need-cast-number
-cast-number c = search needs
-
-refusal-place-requires : tie.Need-refusal-place-requires
-refusal-place-requires c κs = search needs
-
 put-refused-requires : tie.Need-put-refused-requires
 put-refused-requires c κs =
     let atPlace = c .before in
@@ -22,9 +13,6 @@ put-refused-requires c κs =
       refused-fits (atPlace .before .refusal-number .result) (atPlace .refusal-place .result) (omega arith) (omega arith),
       atPlace .before .before .before .pre,
     )
-
-same-length : tie.Need-same-length
-same-length c = search needs
 
 returns : tie.Need-returns
 returns c =
@@ -39,10 +27,4 @@ returns c =
 pub put-any-spec : {M : Type 1} → statement M
 put-any-spec =
     tie.close
-    (tie.spec
-    refusal-number-requires
-    cast-number
-    refusal-place-requires
-    put-refused-requires
-    same-length
-    returns)
+    (tie.spec (λ c κs. search needs) (search needs) (λ c κs. search needs) put-refused-requires (search needs) returns)

@@ -33,41 +33,17 @@ serving-requires c κs =
     let good = c .before .before .before .before .pre .0 in
     (accepted _ _ _ _ good .few, accepted-states _ _ _ _ good)
 
-cast-count : tie.Need-cast-count
-cast-count c = search needs
-
-slice-aggregate-put-single : tie.Need-slice-aggregate-put-single
-slice-aggregate-put-single c = search needs
-
-slice-aggregate-put-single-2 : tie.Need-slice-aggregate-put-single-2
-slice-aggregate-put-single-2 c = search needs
-
 put-single-requires : tie.Need-put-single-requires
 put-single-requires c κs =
     let atIf = c .before .before .before in
     let start = atIf .before .before .before .before .before .before in
     omega (arith, start .pre .1, ap length (few-text (network start) _ (atIf .before .serving .ensures) (atIf .if1 .taken)))
 
-same-length : tie.Need-same-length
-same-length c = search needs
-
 returns : tie.Need-returns
 returns c =
     let atIf = c .before .before .before .before .before .before in
     let start = atIf .before .before .before .before .before .before in
     rw (few-text (network start) _ (atIf .before .serving .ensures) (atIf .if1 .taken)) (c .before .before .put-single .ensures)
-
-states-requires : tie.Need-states-requires
-states-requires c κs = search needs
-
-states-requires-2 : tie.Need-states-requires-2
-states-requires-2 c κs = search needs
-
-slice-aggregate-place-relays : tie.Need-slice-aggregate-place-relays
-slice-aggregate-place-relays c = search needs
-
-slice-aggregate-place-relays-2 : tie.Need-slice-aggregate-place-relays-2
-slice-aggregate-place-relays-2 c = search needs
 
 place-relays-requires : tie.Need-place-relays-requires
 place-relays-requires c κs =
@@ -77,21 +53,6 @@ place-relays-requires c κs =
       omega (arith, ap length (c .before .before .before .states .ensures), length-room 1000),
       omega (arith, ap length (c .before .before .states2 .ensures), length-room 1000),
     )
-
-sub-last : tie.Need-sub-last
-sub-last c = search needs
-
-mul-last : tie.Need-mul-last
-mul-last c = search needs
-
-array-read-last : tie.Need-array-read-last
-array-read-last c = omega (arith, few (c .before .before .before .before .before .before .before .before))
-
-mul-prior : tie.Need-mul-prior
-mul-prior c = search needs
-
-array-read-prior : tie.Need-array-read-prior
-array-read-prior c = omega (arith, few (c .before .before .before .before .before .before .before .before))
 
 links-at-requires : tie.Need-links-at-requires
 links-at-requires c κs =
@@ -114,34 +75,11 @@ put-last-requires c κs =
       start .pre .1,
     )
 
-same-length-2 : tie.Need-same-length-2
-same-length-2 c = search needs
-
-returns-2 : tie.Need-returns-2
-returns-2 c = c .before .before .put-last .ensures
-
 pub put-figure-spec : {M : Type 1} → statement M
 put-figure-spec =
     tie.close
-    (tie.spec
-    serving-requires
-    cast-count
-    slice-aggregate-put-single
-    slice-aggregate-put-single-2
-    put-single-requires
-    same-length
-    returns
-    states-requires
-    states-requires-2
-    slice-aggregate-place-relays
-    slice-aggregate-place-relays-2
-    place-relays-requires
-    sub-last
-    mul-last
-    array-read-last
-    mul-prior
-    array-read-prior
-    links-at-requires
-    put-last-requires
-    same-length-2
-    returns-2)
+    (tie.spec serving-requires (search needs) (search needs) (search needs) put-single-requires (search needs) returns
+    (λ c κs. search needs) (λ c κs. search needs) (search needs) (search needs) place-relays-requires (search needs)
+    (search needs) (λ c. omega (arith, few (c .before .before .before .before .before .before .before .before))) (search needs)
+    (λ c. omega (arith, few (c .before .before .before .before .before .before .before .before))) links-at-requires
+    put-last-requires (search needs) (λ c. c .before .before .put-last .ensures))

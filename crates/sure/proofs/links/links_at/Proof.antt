@@ -25,15 +25,6 @@ loop-holds c =
     let a = c .before .before .before .args in
     (omega arith, omega (arith, links-all (now (a .lows)) (now (a .highs)) (now (a .states)) (a .relay .0)))
 
-mul-low : tie.Need-mul-low Inv-loop μ-loop
-mul-low c = search needs
-
-shared-slice-read-low : tie.Need-shared-slice-read-low Inv-loop μ-loop
-shared-slice-read-low c = omega arith
-
-mul-high : tie.Need-mul-high Inv-loop μ-loop
-mul-high c = search needs
-
 shared-slice-read-high : tie.Need-shared-slice-read-high Inv-loop μ-loop
 shared-slice-read-high c =
     omega (arith, accepted _ _ _ _ (c .before .before .before .before .before .before .before .pre .0) .even)
@@ -60,12 +51,6 @@ add-found c =
     let step = links-step (now (a .lows)) (now (a .highs)) (now (a .states)) (a .relay .0) (atLoop .loop .i) (turn .loop-test .taken) in
     omega (arith, c .far-state .ensures, atLoop .loop .inv .1, links-small network (start .pre .0) (a .relay .0))
 
-add-i : tie.Need-add-i Inv-loop μ-loop
-add-i c = omega arith
-
-loop-less : tie.Need-loop-less Inv-loop μ-loop
-loop-less c = omega arith
-
 loop-again : tie.Need-loop-again Inv-loop μ-loop
 loop-again c =
     let turn = c .before .before .before in
@@ -84,17 +69,5 @@ returns c =
 pub links-at-spec : {M : Type 1} → statement M
 links-at-spec =
     tie.close
-    (tie.spec
-    Inv-loop
-    μ-loop
-    loop-holds
-    mul-low
-    shared-slice-read-low
-    mul-high
-    shared-slice-read-high
-    far-state-requires
-    add-found
-    add-i
-    loop-less
-    loop-again
-    returns)
+    (tie.spec Inv-loop μ-loop loop-holds (search needs) (λ c. omega arith) (search needs) shared-slice-read-high
+    far-state-requires add-found (λ c. omega arith) (λ c. omega arith) loop-again returns)
