@@ -1,24 +1,19 @@
 -- The output has room for everything that is printed. Rests on demand 3, which bounds the relays of all the routes.
 use Prim.Native.Nat.{ℕ, _-_, _≤_, _<_}
-use mathlib.Core.Bool.{Bool, true, false}
 use mathlib.Core.List.{List, [], _∷_}
 use mathlib.Core.Path.{_≡_, refl, subst}
 use native.Mathlib.Omega.{arith}
-use borrow.Author.Tests.{ltb-true, ltb-false}
-use lib.Dec.{ltb}
 use lib.ListN.{length, getD}
-use Rattle.definitions.specs.Outcome.{Outcome, refused, done, pick}
-use Rattle.definitions.specs.Lists.{outside, table}
+use Rattle.definitions.specs.Outcome.{Outcome, refused, done}
+use Rattle.definitions.specs.Lists.{table}
 use Rattle.definitions.specs.Network.{Accepted}
 use Rattle.definitions.specs.Order.{linksAt, orderOf}
-use Rattle.definitions.specs.Form.{writeForm}
 use Rattle.definitions.specs.Text.{Network}
 use Rattle.definitions.specs.Program.{outcomeOf, printed}
-use Rattle.definitions.specs.Plan.{outputRoom, sheetFor, sheetText}
+use Rattle.definitions.specs.Plan.{outputRoom}
 use Rattle.definitions.specs.Sure.{fewForm, noneForm, lastOf, beforeOf, figureOf, servingOf, figureText, surer, sureText}
 use Rattle.lists.specs.Counting.{count-length}
 use Rattle.lists.specs.Members.{has-at}
-use Rattle.lists.specs.Ranges.{inside-range}
 use Rattle.lists.specs.RefusedWithin.{RefusedAs}
 use Rattle.lists.specs.Tables.{length-table}
 use Rattle.theory.specs.Accepted.{accepted}
@@ -29,7 +24,7 @@ use Rattle.text_theory.specs.Spans.{span, written-span}
 use Rattle.program.specs.Printable.{Printable, refused-length}
 use Rattle.program.specs.ReadStage.{asked-accepted}
 use Rattle.plan.specs.Longest.{sheet-length}
-use Rattle.sure.specs.Promise.{sheet-given, sure-printable}
+use Rattle.sure.specs.Promise.{figure-by, sheet-given, sure-printable}
 
 module _ (w : Network) (good : Accepted (w .relays) (w .lows) (w .highs) (w .states)) where
   -- A relay of the order, and how many links one has, in four digits.
@@ -52,33 +47,19 @@ module _ (w : Network) (good : Accepted (w .relays) (w .lows) (w .highs) (w .sta
       )
 
   pub figure-length : length (figureText w) ≤ outputRoom
-  unfolding figureText outputRoom span fewForm noneForm
-  figure-length = serving (ltb (servingOf w) 2) refl
-    where
-      sheet : 2 ≤ servingOf w → (b : Bool) → outside 1 32 (figureOf w) ≡ b
-          → length (pick b (writeForm noneForm (lastOf w ∷ beforeOf w ∷ figureOf w ∷ []))
-          (sheetText (sheetFor (lastOf w) (beforeOf w) (figureOf w) w)))
-          ≤ outputRoom
-      sheet two true _ =
-          omega (
-            arith,
-            written-span 3 noneForm (lastOf w ∷ beforeOf w ∷ figureOf w ∷ [])
-                (relay-small (servingOf w - 1) (omega arith), (relay-small (servingOf w - 2) (omega arith), (links-small (lastOf w), tt))),
-          )
-      sheet two false inside =
-          let range = inside-range 1 32 (figureOf w) inside in
-          sheet-length (lastOf w) (beforeOf w) (figureOf w) w _ (relay-small (servingOf w - 1) (omega arith))
-          (relay-small (servingOf w - 2) (omega arith)) (sheet-given w good two (range .0) (range .1))
-
-      serving : (b : Bool) → ltb (servingOf w) 2 ≡ b
-          → length (pick b (writeForm fewForm (servingOf w ∷ []))
-          (pick (outside 1 32 (figureOf w)) (writeForm noneForm (lastOf w ∷ beforeOf w ∷ figureOf w ∷ []))
-          (sheetText (sheetFor (lastOf w) (beforeOf w) (figureOf w) w))))
-          ≤ outputRoom
-      serving true few =
-          let less = ltb-true (servingOf w) 2 few in
-          omega (arith, written-span 3 fewForm (servingOf w ∷ []) (omega arith, tt))
-      serving false many = sheet (ltb-false (servingOf w) 2 many) (outside 1 32 (figureOf w)) refl
+  unfolding outputRoom span fewForm noneForm
+  figure-length =
+      figure-by w (λ (text : List ℕ). length text ≤ outputRoom)
+      (λ few. omega (arith, written-span 3 fewForm (servingOf w ∷ []) (omega arith, tt)))
+      (λ two _.
+      omega (
+        arith,
+        written-span 3 noneForm (lastOf w ∷ beforeOf w ∷ figureOf w ∷ [])
+            (relay-small (servingOf w - 1) (omega arith), (relay-small (servingOf w - 2) (omega arith), (links-small (lastOf w), tt))),
+      ))
+      (λ two some few.
+      sheet-length (lastOf w) (beforeOf w) (figureOf w) w _ (relay-small (servingOf w - 1) (omega arith))
+      (relay-small (servingOf w - 2) (omega arith)) (sheet-given w good two some few))
 
 pub sure-length : (input : List ℕ) → length (sureText input) ≤ outputRoom
 unfolding outputRoom sureText printed

@@ -21,7 +21,7 @@ use Rattle.definitions.specs.Promised.{Answered}
 use Rattle.definitions.specs.Plan.{sheetFor, sheetText}
 use Rattle.definitions.specs.LastTwo.{lastRelay, lastButOne, sureFigure, RoutesInService, LastTwoHolds}
 use Rattle.definitions.specs.Sure.{fewForm, noneForm, lastOf, beforeOf, figureOf, servingOf, figureText, surer, sureText}
-use Rattle.definitions.specs.SurePromise.{FigureSheet, FigureLine, Figure, TooFew, SurePrinted, SurePromise}
+use Rattle.definitions.specs.SurePromise.{FigureSheet, Figure, TooFew, SurePrinted, SurePromise}
 use Rattle.lists.specs.Ranges.{inside-range}
 use Rattle.lists.specs.RefusedWithin.{RefusedAs}
 use Rattle.theory.specs.Accepted.{accepted}
@@ -51,6 +51,21 @@ lineOf w = writeForm noneForm (lastOf w ∷ beforeOf w ∷ figureOf w ∷ [])
 
 abbrev sheetBytes : (w : Network) → List ℕ
 sheetBytes w = sheetText (sheetFor (lastOf w) (beforeOf w) (figureOf w) w)
+
+-- What holds of each of the three that can be printed holds of what is printed.
+pub figure-by : (w : Network) (P : List ℕ → Type 0) → (servingOf w < 2 → P (writeForm fewForm (servingOf w ∷ [])))
+    → (2 ≤ servingOf w → outside 1 32 (figureOf w) ≡ true → P (lineOf w))
+    → (2 ≤ servingOf w → 1 ≤ figureOf w → figureOf w ≤ 32 → P (sheetBytes w)) → P (figureText w)
+unfolding figureText
+figure-by w P few line sheet = go (ltb (servingOf w) 2) refl (outside 1 32 (figureOf w)) refl
+  where
+    go : (b : Bool) → ltb (servingOf w) 2 ≡ b → (o : Bool) → outside 1 32 (figureOf w) ≡ o
+        → P (pick b (writeForm fewForm (servingOf w ∷ [])) (pick o (lineOf w) (sheetBytes w)))
+    go true below o _ = few (ltb-true (servingOf w) 2 below)
+    go false above true out = line (ltb-false (servingOf w) 2 above) out
+    go false above false within =
+        let range = inside-range 1 32 (figureOf w) within in
+        sheet (ltb-false (servingOf w) 2 above) (range .0) (range .1)
 
 module _ (w : Network) (good : Accepted (w .relays) (w .lows) (w .highs) (w .states)) (two : 2 ≤ servingOf w) where
   -- Order's list in a lent one as long as the network.
@@ -116,25 +131,17 @@ module _ (w : Network) (good : Accepted (w .relays) (w .lows) (w .highs) (w .sta
         holds = sheet-holds (lastOf w) (beforeOf w) (figureOf w) w (sheetFor (lastOf w) (beforeOf w) (figureOf w) w) given;
       }
 
-  figure-told : Figure w (pick (outside 1 32 (figureOf w)) (lineOf w) (sheetBytes w))
-  figure-told = record { two = two; told = go (outside 1 32 (figureOf w)) refl; noMore = no-more }
-    where
-      go : (b : Bool) → outside 1 32 (figureOf w) ≡ b
-          → FigureSheet w (pick b (lineOf w) (sheetBytes w)) ⊎ FigureLine w (pick b (lineOf w) (sheetBytes w))
-      go true e = inr (record { printed = refl; many = missed (figureOf w) e })
-      go false e =
-          let range = inside-range 1 32 (figureOf w) e in
-          inl (figure-sheet (range .0) (range .1))
-
 figured : (numbers : List ℕ) (w : Network) → Accepted (w .relays) (w .lows) (w .highs) (w .states) → SurePrinted numbers w (figureText w)
-unfolding figureText
-figured numbers w good = record { accepted = good; figure = go (ltb (servingOf w) 2) refl }
-  where
-    go : (b : Bool) → ltb (servingOf w) 2 ≡ b
-        → Figure w (pick b (writeForm fewForm (servingOf w ∷ [])) (pick (outside 1 32 (figureOf w)) (lineOf w) (sheetBytes w)))
-        ⊎ TooFew w (pick b (writeForm fewForm (servingOf w ∷ [])) (pick (outside 1 32 (figureOf w)) (lineOf w) (sheetBytes w)))
-    go true e = inr (record { few = ltb-true (servingOf w) 2 e; printed = refl })
-    go false e = inl (figure-told w good (ltb-false (servingOf w) 2 e))
+figured numbers w good =
+    record {
+      accepted = good;
+      figure =
+          figure-by w (λ (text : List ℕ). Figure w text ⊎ TooFew w text)
+          (λ few. inr (record { few = few; printed = refl }))
+          (λ two out.
+          inl (record { two = two; told = inr (record { printed = refl; many = missed (figureOf w) out }); noMore = no-more w good two }))
+          (λ two some few. inl (record { two = two; told = inl (figure-sheet w good two some few); noMore = no-more w good two }));
+    }
 
 pub sure-printable : (input : List ℕ) → RefusedAs Printable (outcomeOf surer (λ _ network. network) input)
 unfolding span AnswersAs
