@@ -67,14 +67,18 @@ take() {
     esac
 }
 
+# look: begins to look at the program's sources, beside what comes next.
+look() {
+    unchanged "$program" &
+    looking=$!
+}
+
 # answer LINE FILE..: runs the program on the line, unless it is empty, and the files one after the other; leaves what it writes in
 # output. It is asked while its sources are looked at, and where these have changed since, what it wrote does not count.
 answer() {
-    local look
-    unchanged "$program" &
-    look=$!
+    [ -n "${looking:-}" ] || look
     ask "$@"
-    wait "$look" || { ready "$program" && ask "$@"; }
+    wait "$looking" || { ready "$program" && ask "$@"; }
     case ${ended% *} in 0 | 141) ;; *) fail "$name cannot be read to its end" ;; esac
     [ "${ended#* }" = 0 ] && [ -n "$output" ] || no_answer "$@"
 }

@@ -45,6 +45,7 @@ network=$path network_name=$name network_typed=$typed_file
 take "$2" sheet
 sheet=$path sheet_name=$name
 too_long="$network_name and $sheet_name have more than 1,000,000 bytes together, and at most so many are read"
+look
 size=$(wc -c 2>/dev/null <"$network") || fail "$network_name cannot be counted"
 [ "$size" -le "$limit" ] || fail "$too_long"
 answer "(verify $((size / 10000)) $((size % 10000)))" "$network" "$sheet"

@@ -12,6 +12,7 @@ use crate::links::links_at;
 use forests::idle::serving;
 use forests::results::place_relays;
 use network::Relay;
+use network::limits::ROUTES;
 use plan::stages::plan_accepted;
 use program::line::put_single;
 use program::line::put_triple;
@@ -54,7 +55,7 @@ fn put_last(
     if links < 1 {
         return put_none(output, last.0 as usize, prior.0 as usize, links as usize);
     }
-    if 32 < links {
+    if ROUTES < links {
         return put_none(output, last.0 as usize, prior.0 as usize, links as usize);
     }
     plan_accepted(output, n, lows, highs, states, last, prior, links)
