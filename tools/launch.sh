@@ -73,16 +73,32 @@ ready() {
 # ask LINE FILE..: one run of the program; leaves what it writes in output, and in ended how the files and it ended. A file alone is its
 # standard input, and then it writes nothing where that cannot be read.
 ask() {
+    local text own=$here/target/bin/$program
     { output=$(
-        if [ -n "$1" ]; then
-            input "$@" | "$here/target/bin/$program"
-            printf '\n%s' "${PIPESTATUS[*]}"
-        else
-            "$here/target/bin/$program" <"$2"
+        if [ -z "$1" ]; then
+            "$own" <"$2"
             printf '\n0 %s' "$?"
+        elif in_hand "${@:2}"; then
+            "$own" <<<"$1"$'\n'"${text%$'\n'}"
+            printf '\n0 %s' "$?"
+        else
+            input "$@" | "$own"
+            printf '\n%s' "${PIPESTATUS[*]}"
         fi
     ); } 2>/dev/null
     ended=${output##*$'\n'} output=${output%$'\n'*}
+}
+
+# in_hand FILE..: leaves in text the bytes of the files, which takes no other process. Fails where one has a byte 0 or does not end with
+# the line (end), as a network and a sheet do: then it is not for the shell, or the read broke off.
+in_hand() {
+    local LC_ALL=C file bytes
+    text=''
+    for file; do
+        bytes=''
+        ! { IFS= read -r -d '' -n "$limit" bytes <"$file"; } 2>/dev/null && [[ $bytes == *$'\n(end)\n' ]] || return 1
+        text+=$bytes
+    done
 }
 
 # input LINE FILE..: what the program reads.

@@ -38,11 +38,10 @@ why() {
     esac
 }
 
-# count FILE NAME: leaves in size how many bytes it has. The shell reads them, which takes no other process; where a byte 0 or the limit
-# ends that read, or nothing was read, wc counts.
+# count FILE NAME: leaves in size how many bytes it has.
 count() {
-    local LC_ALL=C text=''
-    if ! { IFS= read -r -d '' -n $((limit + 1)) text <"$1"; } 2>/dev/null && [ -n "$text" ]; then
+    local LC_ALL=C text
+    if in_hand "$1"; then
         size=${#text}
     else
         size=$(wc -c 2>/dev/null <"$1") || fail "$2 cannot be counted"
