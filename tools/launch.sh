@@ -89,16 +89,18 @@ ask() {
     ended=${output##*$'\n'} output=${output%$'\n'*}
 }
 
-# in_hand FILE..: leaves in text the bytes of the files, which takes no other process. Fails where one has a byte 0 or does not end with
-# the line (end), as a network and a sheet do: then it is not for the shell, or the read broke off.
+# in_hand FILE..: leaves in text the bytes of the files, which takes no other process. Fails where there are more than fit into a pipe,
+# where one is a byte 0, which a shell cannot hold, and where a file does not end with the line (end), as a network and a sheet do: there
+# the read may have broken off.
 in_hand() {
-    local LC_ALL=C file bytes
+    local LC_ALL=C file bytes most=65000
     text=''
     for file; do
         bytes=''
-        ! { IFS= read -r -d '' -n "$limit" bytes <"$file"; } 2>/dev/null && [[ $bytes == *$'\n(end)\n' ]] || return 1
+        ! { IFS= read -r -d '' -n "$most" bytes <"$file"; } 2>/dev/null && [[ $bytes == *$'\n(end)\n' ]] || return 1
         text+=$bytes
     done
+    [ ${#text} -le "$most" ]
 }
 
 # input LINE FILE..: what the program reads.
