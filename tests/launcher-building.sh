@@ -42,6 +42,14 @@ built 'no program' 'check planner'
 sleep 3.1
 built 'at rest' ''
 same 'the listing is kept' yes "$([ -s "$copy/target/bin/planner.listing" ] && echo yes || echo no)"
+# Its first line names the sources. One that names none, or one source less, leaves it to the sums.
+sed -i 1d "$copy/target/bin/planner.listing"
+built 'a listing that names no sources' ''
+same 'the listing names them again' 'crates.txt crates/planner crates/upper crates/lower' "$(head -n 1 "$copy/target/bin/planner.listing")"
+echo 'fn less' >>"$copy/crates/lower/src/lib.rt" && sed -i '1s, crates/lower,,' "$copy/target/bin/planner.listing"
+built 'a listing that names one source less, and an edit of that' 'check planner'
+sleep 3.1
+built 'at rest again' ''
 echo 'fn last' >>"$copy/crates/lower/src/lib.rt" && touch -d '-1 year' "$copy/crates/lower/src/lib.rt"
 built 'an edit after that, with an older date' 'check planner'
 

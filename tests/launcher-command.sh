@@ -105,8 +105,11 @@ ask "$copy/nolkisei" plan 4 1 2 none.net
 says 'a missing file' 2 'nolkisei: there is no file none.net'
 ask "$copy/nolkisei" keep 4 .
 says 'a folder' 2 'nolkisei: . is a folder, not a network file'
-ask "$copy/nolkisei" plan 4 1 2 /proc/self/mem
-says 'a file that breaks off' 2 'nolkisei: /proc/self/mem cannot be read to its end'
+for command in 'plan 4 1 2' 'keep 1' sure; do
+    # shellcheck disable=SC2086
+    ask "$copy/nolkisei" $command /proc/self/mem
+    says "$command, a file that breaks off" 2 'nolkisei: /proc/self/mem cannot be read to its end'
+done
 : >"$work/shut.net" && chmod 0 "$work/shut.net"
 other=()
 [ "$(id -u)" -ne 0 ] || other=(setpriv --reuid=65534 --regid=65534 --clear-groups)

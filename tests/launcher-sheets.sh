@@ -20,6 +20,7 @@ wrong_one() {
 }
 
 reads 'a sheet that holds' "$front$via2$via3$back" '(holds)' 0 ''
+reads 'a byte 0 behind the end' "$front$via2$via3$back\0" '(refused 14 95)' 1 $'nolkisei: refused (14): a.sheet, line 8, column 1: something stands after the last line\n    ?\n    ^\nnolkisei: a.sheet, line 8: due there: nothing, since (end) is the last line'
 reads 'routes in another order' "$front$via3$via2$back" '(holds)' 0 ''
 wrong_one 'equal ends' "(sheet (from 1) (to 1) (k 1))\n(route 1 0 1)\n(over 0 0)\n(kept 4)\n(end)\n" 1 'from and to are the same relay, 1'
 wrong_one 'an end that is no relay' "(sheet (from 4) (to 9) (k 1))\n(route 4 9)\n(over 0)\n(kept 4)\n(end)\n" 1 'relay 9 is not in the network; it has the relays 0 to 4'

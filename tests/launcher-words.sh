@@ -52,6 +52,8 @@ departs 'two links in a line' "$head(link 0 1) (link 0 2)\n(end)\n" 37 2 11 'two
 departs 'two links in a line, without a space' "$head(link 0 1)(link 0 2)\n(end)\n" 37 2 11 'two links in a line; each link has a line of its own' '(link 0 1)(link 0 2)' "$link_due"
 departs 'a link in line 1' '(net (relays 5) (links 2)) (link 0 1)\n(link 0 2)\n(end)\n' 26 1 27 'two lines in one; each has a line of its own' '(net (relays 5) (links 2)) (link 0 1)' 'a line (net (relays N) (links M))'
 departs 'a link of three relays' "$head(link 0 1 2)\n(end)\n" 36 2 10 'a link has two relays; write a line for each link' '(link 0 1 2)' "$link_due"
+departs 'a byte 0 between the relays' "$head(link 0\x001)\n(end)\n" 34 2 8 'this is not the form that is due' '(link 0?1)' "$link_due"
+departs 'bytes that shells keep for themselves' "$head(link 0\x01\x7f\xff1)\n(end)\n" 34 2 8 'this is not the form that is due' '(link 0???1)' "$link_due"
 departs 'a comma between the relays' "$head(link 0,1)\n(end)\n" 34 2 8 'one space is due between the two numbers' '(link 0,1)' "$link_due"
 departs 'a sheet' '(sheet (from 4) (to 1) (k 2))\n' 1 1 2 'this is a sheet, not a network file' '(sheet (from 4) (to 1) (k 2))' 'a line (net (relays N) (links M))'
 departs 'a refusal' '(refused 18 0)\n' 1 1 2 'this is a refusal, not a network file' '(refused 18 0)' 'a line (net (relays N) (links M))'

@@ -1,5 +1,6 @@
-# For the commands: proving and building programs with the kit, one run at a time, with what is done of how many. tools/fresh.sh says
+# For the commands: proving and building programs with the kit, one run at a time, with what is done of how many. tools/sums.sh says
 # when a program is built; the kit's own lines go to target/build.log.
+. "$here/tools/sums.sh"
 
 # waiting: leaves in waits the crates that are not done yet, of all in crates, and in busy those of them that need no other that waits.
 waiting() {

@@ -1,10 +1,7 @@
-# For the commands: taking in the files of a question, running the proved program on them, and after a refusal saying in words where
-# to look.
+# For the commands: taking in the files of a question, running the proved program on them, and passing on what it writes.
 . "$here/tools/fresh.sh"
 limit=1000000
 numbers=()
-# The script of tools/ that says what a refusal means, for each kind of file.
-declare -A script=(['network file']=explain.awk [sheet]=explain-sheet.awk [drawing]=explain-drawing.awk)
 
 # number NAME VALUE: a number as it was typed. The program judges it; but a line end in it would begin another line of the
 # program's input.
@@ -12,16 +9,6 @@ number() {
     case $2 in *$'\n'*) fail "$1 has a line end in it; it is to be a plain number" ;; esac
     numbers+=("$1" "$2")
     export "typed_$1=$2"
-}
-
-# Why a typed value is not a number of one to four digits; nothing where it is one.
-why_no_number() {
-    case $1 in
-    '') echo 'it is empty' ;;
-    *[!0123456789]*) echo 'it has something other than digits in it' ;;
-    0?*) echo 'it has a zero in front' ;;
-    ?????*) echo 'it has more than four digits' ;;
-    esac
 }
 
 # spool NAME KIND [FILE]: keeps what can be read only once, standard input or a file, in a file of our own, which goes when this run
@@ -67,49 +54,73 @@ take() {
     esac
 }
 
-# look: begins to look at the program's sources, beside what comes next.
-look() {
-    unchanged "$program" &
-    looking=$!
-}
-
 # answer LINE FILE..: runs the program on the line, unless it is empty, and the files one after the other; leaves what it writes in
 # output. It is asked while its sources are looked at, and where these have changed since, what it wrote does not count.
 answer() {
-    [ -n "${looking:-}" ] || look
+    [ -n "${looking+begun}" ] || look "$program"
     ask "$@"
-    wait "$looking" || { ready "$program" && ask "$@"; }
-    case ${ended% *} in 0 | 141) ;; *) fail "$name cannot be read to its end" ;; esac
+    unchanged || { ready "$program" && ask "$@"; }
+    readable "${ended% *}"
     [ "${ended#* }" = 0 ] && [ -n "$output" ] || no_answer "$@"
 }
 
 # ready PROGRAM: builds it where it is not fresh.
 ready() {
-    fresh "$1" && return
     . "$here/tools/building.sh"
-    build "$1"
+    fresh "$1" || build "$1"
 }
 
-# ask LINE FILE..: one run of the program; leaves what it writes in output, and in ended how the files and it ended.
+# ask LINE FILE..: one run of the program; leaves what it writes in output, and in ended how the files and it ended. A file alone is its
+# standard input, and then it writes nothing where that cannot be read.
 ask() {
+    local text own=$here/target/bin/$program
     { output=$(
-        input "$@" 2>/dev/null | "$here/target/bin/$program" 2>/dev/null
-        printf '\n%s' "${PIPESTATUS[*]}"
+        if [ -z "$1" ]; then
+            "$own" <"$2"
+            printf '\n0 %s' "$?"
+        elif in_hand "${@:2}"; then
+            "$own" <<<"$1"$'\n'"${text%$'\n'}"
+            printf '\n0 %s' "$?"
+        else
+            input "$@" | "$own"
+            printf '\n%s' "${PIPESTATUS[*]}"
+        fi
     ); } 2>/dev/null
     ended=${output##*$'\n'} output=${output%$'\n'*}
+}
+
+# in_hand FILE..: leaves in text the bytes of the files, which takes no other process. Fails where there are more than fit into a pipe,
+# where one is a byte 0, which a shell cannot hold, and where a file does not end with the line (end), as a network and a sheet do: there
+# the read may have broken off.
+in_hand() {
+    local LC_ALL=C file bytes most=65000
+    text=''
+    for file; do
+        bytes=''
+        ! { IFS= read -r -d '' -n "$most" bytes <"$file"; } 2>/dev/null && [[ $bytes == *$'\n(end)\n' ]] || return 1
+        text+=$bytes
+    done
+    [ ${#text} -le "$most" ]
 }
 
 # input LINE FILE..: what the program reads.
 input() {
     [ -z "$1" ] || printf '%s\n' "$1"
     shift
-    exec cat -- "$@"
+    LC_ALL=C exec cat -- "$@"
 }
 
-# no_answer LINE FILE..: why the program wrote nothing: its input is longer than it reads, or it failed.
+# readable STATUS: fails where the files that were handed on with this status could not all be read. 141 is that of a pipe that nobody
+# reads to its end.
+readable() {
+    case $1 in 0 | 141) ;; *) fail "$name cannot be read to its end" ;; esac
+}
+
+# no_answer LINE FILE..: why the program wrote nothing: its input cannot be read, or is longer than it reads, or it failed.
 no_answer() {
     local size
-    size=$(input "$@" 2>/dev/null | head -c $((limit + 1)) | wc -c)
+    size=$(input "$@" 2>/dev/null | head -c $((limit + 1)) | wc -c; exit "${PIPESTATUS[0]}")
+    readable $?
     [ "$size" -le "$limit" ] || fail "${too_long:-$name is too long}"
     [ "${ended#* }" = 0 ] || fail "$name: the $program could not be run to its end (status ${ended#* })"
     fail "$name: the $program gave no answer"
@@ -119,42 +130,12 @@ pass_on() {
     printf '%s' "$output" 2>/dev/null || fail "$name: the answer could not be written to standard output"
 }
 
-# refusal: leaves number and place of the refused line that the program wrote; fails where it wrote something else.
-refusal() {
-    case $output in
-    '(refused '*' '*')'$'\n') ;;
-    *) fail "$name: what the $program wrote is not whole" ;;
-    esac
-    refused=${output#'(refused '} refused=${refused%')'*}
-}
-
-# explain NUMBER PLACE KIND: a refusal that is about a wish or about the file of a kind that was taken, in words.
-explain() {
-    local i why
-    if [ "$1" = 1 ]; then
-        for ((i = 0; i < ${#numbers[@]}; i += 2)); do
-            why=$(why_no_number "${numbers[i + 1]}")
-            [ -z "$why" ] || {
-                safe "${numbers[i + 1]}"
-                say "refused (1): $name: ${numbers[i]} is '$safe': $why; a number has one to four digits and no zero in front"
-            }
-        done
-        return
-    fi
-    words "$1" "$2" "$path" -f "$here/tools/lines.awk" -f "$here/tools/${script[$3]}"
-}
-
-# words NUMBER PLACE FILE SCRIPT..: what the scripts say of the bytes of a file, or where it is told if they cannot be run.
-words() {
-    local number=$1 place=$2 bytes=$3 said
-    shift 3
-    said=$({ od -An -v -tu1 -N "$limit" <"$bytes" | number=$number place=$place file=$name typed_file=$typed_file me=$(me) command=$command LC_ALL=C awk "$@"; } 2>/dev/null) && [ -n "$said" ] ||
-        said="nolkisei: refused ($number): $name: docs/DESK.md, 'Refusals', tells what that means (it takes awk and od to tell it here, and they could not be run)"
-    printf '%s\n' "$said" >&2
-}
-
-# turn_away KIND: passes on the refused line that the program wrote for the file of a kind that was taken, and says it in words.
+# turn_away KIND: passes on the refused line that the program wrote for the file of a kind that was taken, and says it in words. A file of
+# the system's own may seem empty to a program that did not open it itself, so it is read once more first.
 turn_away() {
+    (input '' "$path") >/dev/null 2>&1
+    readable $?
+    . "$here/tools/refusals.sh"
     refusal
     pass_on
     explain "${refused% *}" "${refused#* }" "$1"

@@ -38,6 +38,16 @@ why() {
     esac
 }
 
+# count FILE NAME: leaves in size how many bytes it has.
+count() {
+    local LC_ALL=C text
+    if in_hand "$1"; then
+        size=${#text}
+    else
+        size=$(wc -c 2>/dev/null <"$1") || fail "$2 cannot be counted"
+    fi
+}
+
 [ $# -eq 2 ] || wrong_use
 [ "$1 $2" != '- -' ] || fail 'standard input can be one of the two files, not both'
 take "$1" 'network file'
@@ -45,15 +55,13 @@ network=$path network_name=$name network_typed=$typed_file
 take "$2" sheet
 sheet=$path sheet_name=$name
 too_long="$network_name and $sheet_name have more than 1,000,000 bytes together, and at most so many are read"
-look
-size=$(wc -c 2>/dev/null <"$network") || fail "$network_name cannot be counted"
+look "$program"
+count "$network" "$network_name"
 [ "$size" -le "$limit" ] || fail "$too_long"
 answer "(verify $((size / 10000)) $((size % 10000)))" "$network" "$sheet"
-case $output in
-'(holds)'$'\n') pass_on && exit 0 ;;
-'(fails)'$'\n') refused='0 0' ;;
-*) refusal ;;
-esac
+case $output in '(holds)'$'\n') pass_on && exit 0 ;; esac
+. "$here/tools/refusals.sh"
+case $output in '(fails)'$'\n') refused='0 0' ;; *) refusal ;; esac
 pass_on
 why "${refused% *}" "${refused#* }"
 exit 1
