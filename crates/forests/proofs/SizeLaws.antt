@@ -55,27 +55,33 @@ wide-table h few t =
       once = t .once;
     }
 
--- Arrays of enough relays and links.
+-- Arrays of enough relays and links: for the chains, and for the scan.
+pub chain-arrays : (size halves n : ℕ) (lows : List ℕ) {first nexts counts : List ℕ} → n ≤ size → size ≤ 1000 → 2 * length lows ≤ halves
+    → first ≡ replicate size (2 * length lows) → nexts ≡ replicate halves 0 → counts ≡ replicate size 0
+    → ChainArrays n lows first nexts counts
+chain-arrays size halves n lows {first} {nexts} {counts} heads few room f h c =
+    let long : length first ≡ size = ap length f ∙ length-replicate size (2 * length lows) in
+    let counted : length counts ≡ size = ap length c ∙ length-replicate {A = ℕ} size 0 in
+    record {
+      heads = omega arith;
+      few = omega arith;
+      noChains =
+          record {
+            none = λ r p. ap (λ z. getD z r 0) f ∙ getD-replicate size r (2 * length lows) 0 (omega arith);
+            room = omega (arith, ap length h, length-replicate {A = ℕ} halves 0);
+          };
+      countRoom = omega arith;
+      noCounts = none-counted size counts c;
+    }
+
 pub scan-arrays : (size halves columns n : ℕ) (lows : List ℕ) {first nexts counts bits : List ℕ} → n ≤ size → size ≤ 1000 → 2 * length lows ≤ halves
     → size ≤ columns * wordBits → first ≡ replicate size (2 * length lows) → nexts ≡ replicate halves 0
     → counts ≡ replicate size 0 → bits ≡ replicate (columns * columnWords) 0
     → ChainArrays n lows first nexts counts × NoBits (length counts) bits
-scan-arrays size halves columns n lows {first} {nexts} {counts} {bits} heads few room wide f h c b =
-    let long : length first ≡ size = ap length f ∙ length-replicate size (2 * length lows) in
-    let counted : length counts ≡ size = ap length c ∙ length-replicate {A = ℕ} size 0 in (
-      record {
-        heads = omega arith;
-        few = omega arith;
-        noChains =
-            record {
-              none = λ r p. ap (λ z. getD z r 0) f ∙ getD-replicate size r (2 * length lows) 0 (omega arith);
-              room = omega (arith, ap length h, length-replicate {A = ℕ} halves 0);
-            };
-        countRoom = omega arith;
-        noCounts = none-counted size counts c;
-      },
-      no-bits columns (length counts) bits b (omega arith),
-    )
+scan-arrays size halves columns n lows {first} {nexts} {counts} {bits} heads few room wide f h c b = (
+  chain-arrays size halves n lows heads few room f h c,
+  no-bits columns (length counts) bits b (omega (arith, ap length c, length-replicate {A = ℕ} size 0)),
+)
 
 -- Columns of more relays are columns of fewer.
 fewer-columns : {size fewer : ℕ} {bits : List ℕ} → fewer ≤ size → NoBits size bits → NoBits fewer bits

@@ -13,7 +13,7 @@ use lib.Seq.{getD-set-same, getD-set-other}
 use Rattle.definitions.specs.Outcome.{pick}
 use Rattle.definitions.specs.Lists.{someBelow}
 use Rattle.definitions.specs.Network.{isPair, joins, touches}
-use Rattle.lists.specs.Tests.{and-false, or-none, or-either}
+use Rattle.lists.specs.Tests.{and-true, and-false, or-none, or-either}
 use Rattle.lists.specs.Below.{none-below}
 use Rattle.lists.specs.Stretches.{some-skip, and-skip}
 use Rattle.theory.specs.Accepted.{ProperTable}
@@ -27,10 +27,6 @@ pick-eq x y a b e = rw (eq-eqb x y e)
 
 pub pick-ne : {A : Type 0} (x y : ℕ) (a b : A) → (x ≡ y → ⊥) → pick (eqb x y) a b ≡ b
 pick-ne x y a b e = rw (ne-eqb x y e)
-
-and-true : (a : Bool) → (a && true) ≡ a
-and-true true = refl
-and-true false = refl
 
 module _ (lows highs : List ℕ) (x : ℕ) where
   -- A link that joins x and another relay has x as an end.

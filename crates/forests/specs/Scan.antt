@@ -12,6 +12,7 @@ use Rattle.definitions.specs.Order.{weight, nextRelay, placedAfter, servingRela
 use Rattle.definitions.specs.Forests.{forestsOf}
 use Rattle.forests.specs.Fronts.{SameBeyond}
 use Rattle.forests.specs.Chains.{NoChains, ChainedFrom}
+use Rattle.forests.specs.LinkCounts.{ServingCounted}
 use Rattle.forests.specs.Counts.{NoneBeyond, turnsOf, StartCounts}
 use Rattle.forests.specs.Buckets.{columnWords, Buckets, NoBits}
 use Rattle.forests.specs.Walk.{Walkable, Walked}
@@ -103,9 +104,11 @@ pub record ChainArrays (n : ℕ) (lows first nexts counts : List ℕ) : Type 0 w
   pub countRoom : length first ≤ length counts
   pub noCounts : NoneBeyond 0 counts
 
--- What is made in them: the chains; and the first relay of the order is found, if there is one.
+-- What is made in them: the chains, and the count of links with both ends in service; and the first relay of the order is found, if
+-- there is one.
 pub record Prepared (n : ℕ) (lows highs states first nexts counts : List ℕ) (start : ℕ) : Type 0 where
   pub chained : ChainedFrom lows highs 0 first nexts
+  pub counted : ServingCounted lows highs states counts
   pub noneBeyond : NoneBeyond n counts
   pub starts : 0 < turnsOf n states → start ≡ firstRelay n lows highs states
 

@@ -1,7 +1,7 @@
 -- What the import leaves in the front of its lists, that its text fits, and what is printed. Assumes nothing.
 use Prim.Native.Nat.{ℕ, _≤_}
 use mathlib.Core.List.{List, [], _∷_}
-use mathlib.Core.Path.{_≡_, _∙_}
+use mathlib.Core.Path.{_≡_, _∙_, ap}
 use native.Mathlib.Omega.{arith}
 use lib.ListN.{length, take}
 use Rattle.definitions.specs.Lists.{overwrite}
@@ -44,8 +44,9 @@ pub refusal-printed : (input before after : List ℕ) (next : ℕ) (refusal : Re
     → Printed before (importText input) after next
 unfolding importText printed
 refusal-printed input before after next refusal roomy e line =
-    let (size, bytes) = whole-put _ before after next (omega (arith, line .fits)) (line .put) in
-    rw (import-outcome input ∙ e) (record { size = size; bytes = bytes })
+    let told = ap (printed networkText) (import-outcome input ∙ e) in
+    let (size, bytes) = whole-put (importText input) _ before after next told (omega (arith, line .fits, ap length told)) (line .put) in
+    record { size = size; bytes = bytes }
 
 pub network-printed : (input before after : List ℕ) (next n m : ℕ) (lows highs states : List ℕ)
     → FrontTable (importNetwork input 3000 3000 1000) n m lows highs states

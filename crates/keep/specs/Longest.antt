@@ -3,17 +3,15 @@
 use Prim.Native.Nat.{ℕ, zero, suc, _+_, _*_, _≤_, _<_}
 use mathlib.Core.Bool.{Bool, true, false}
 use mathlib.Core.List.{List, [], _∷_, _++_}
-use mathlib.Core.Path.{_≡_, refl}
 use native.Mathlib.Omega.{arith}
 use lib.Dec.{eqb}
 use lib.ListN.{length, getD, length-append}
-use Rattle.definitions.specs.Outcome.{pick, Outcome, refused, done}
+use Rattle.definitions.specs.Outcome.{pick}
 use Rattle.definitions.specs.Lists.{count}
 use Rattle.definitions.specs.Network.{linkServes, Accepted}
 use Rattle.definitions.specs.Forests.{marksOf}
 use Rattle.definitions.specs.Form.{writeForm}
 use Rattle.definitions.specs.Text.{Network, endForm}
-use Rattle.definitions.specs.Program.{printed}
 use Rattle.definitions.specs.Plan.{keptForm}
 use Rattle.definitions.specs.Keep.{
   leaseForm,
@@ -22,7 +20,6 @@ use Rattle.definitions.specs.Keep.{
   idleLinkForm,
   droppedForm,
   withdrawnForm,
-  Lease,
   leaseRoom,
   leased,
   leaseLine,
@@ -32,12 +29,10 @@ use Rattle.definitions.specs.Keep.{
   leaseText,
   keepText,
 }
-use Rattle.lists.specs.RefusedWithin.{RefusedAs}
 use Rattle.theory.specs.Accepted.{accepted}
 use Rattle.text_theory.specs.Spans.{span, written-span}
-use Rattle.program.specs.Printable.{refused-length}
-use Rattle.program.specs.Printable.{Printable}
-use Rattle.keep.specs.Listed.{leaseOf, ListedLinks, listed-links}
+use Rattle.program.specs.Printable.{printed-fits}
+use Rattle.keep.specs.Listed.{leaseOf, listed-links}
 use Rattle.keep.specs.Counts.{counts-all}
 use Rattle.keep.specs.Promise.{leased-printable}
 
@@ -107,12 +102,8 @@ lease-length k network few good =
     )
 
 pub keep-length : (input : List ℕ) → length (keepText input) ≤ leaseRoom
-unfolding leaseRoom keepText printed
-keep-length input = go (leased input) (leased-printable input) (listed-links input)
-  where
-    go : (outcome : Outcome Lease) → RefusedAs Printable outcome
-        → ((lease : Lease) → outcome ≡ done lease → ListedLinks lease) → length (printed leaseText outcome) ≤ leaseRoom
-    go (refused number place) given _ = omega (arith, refused-length number place given)
-    go (done lease) _ behind =
-        let found = behind lease refl in
-        rw (found .leaseIs) (lease-length (found .k) (found .network) (found .few) (found .accepted))
+unfolding leaseRoom keepText
+keep-length input =
+    printed-fits leaseText leaseRoom (leased input) (omega arith) (leased-printable input) (λ lease e.
+    let found = listed-links input lease e in
+    rw (found .leaseIs) (lease-length (found .k) (found .network) (found .few) (found .accepted)))

@@ -12,17 +12,16 @@ use Rattle.definitions.specs.Forests.{marksOf, cutAnswer, marksAfter}
 use Rattle.definitions.specs.Form.{departs, reads, scanForm}
 use Rattle.definitions.specs.Text.{Network, readNetwork}
 use Rattle.definitions.specs.Program.{passing, room, printed}
-use Rattle.definitions.specs.Keep.{keepForm, Lease, leaseFor, leaseAnswers, keeper, leased, droppedCount, idleCount, leaseText, keepText}
+use Rattle.definitions.specs.Keep.{keepForm, Lease, leaseFor, leaseAnswers, keeper, leased, droppedCount, idleCount, leaseText}
 use Rattle.lists.specs.Outcomes.{then-done, if-done}
 use Rattle.theory.specs.Accepted.{accepted, accepted-states}
 use Rattle.theory.specs.Columns.{length-marks}
-use Rattle.text.specs.Put.{Put}
 use Rattle.network.specs.Answers.{refusalOf}
 use Rattle.network.specs.declared.refusal.Refusal.{Refusal}
 use Rattle.network.specs.declared.refusal.Refusal.the-variants.{Wish}
 use Rattle.program.specs.Front.{longer}
 use Rattle.program.specs.CutPassed.{cut-passed}
-use Rattle.program.specs.ReadStage.{whole-put, networkOf, stage-refused, cut-rooms, line-departed, line-taken}
+use Rattle.program.specs.ReadStage.{networkOf, stage-refused, cut-rooms, line-departed, line-taken}
 use Rattle.keep.specs.Lines.{EndsWithin, lines-front, countLines, listLines}
 use Rattle.keep.specs.Listed.{keep-line}
 use Rattle.keep.specs.Counts.{counts-all}
@@ -91,9 +90,3 @@ cut-marked n lows highs states k kept marks marksNow good marksAre e after =
           (cut-rooms n lows highs states k marks marksAre (done (kept ∷ [])) e))
           ∙ rw (written, lines-front lows highs states all marks (length lows) 0 (omega arith), ← ones, ← zeros);
     }
-
--- The whole output, from its first byte on.
-pub keep-put : (input before after : List ℕ) (next : ℕ) → length (keepText input) ≤ length before
-    → Put before 0 (printed leaseText (leased input)) after next → (next ≡ length (keepText input)) × (after ≡ overwrite (keepText input) before)
-unfolding keepText
-keep-put input before after next fits put = whole-put (printed leaseText (leased input)) before after next fits put

@@ -46,6 +46,10 @@ pub and-all : (a b : Bool) → a ≡ true → b ≡ true → (a && b) ≡ true
 and-all true b p q = q
 and-all false b p q = p
 
+pub and-true : (a : Bool) → (a && true) ≡ a
+and-true true = refl
+and-true false = refl
+
 pub and-false : (a : Bool) → (a && false) ≡ false
 and-false true = refl
 and-false false = refl

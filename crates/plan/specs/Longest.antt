@@ -1,29 +1,27 @@
 -- The planner never prints more bytes than its output has room for. Rests on demand 3, which bounds the relays of all the routes.
 use Prim.Native.Nat.{ℕ, suc, _+_, _*_, _^_, _≤_, _<_}
 use mathlib.Core.List.{List, [], _∷_, _++_, map}
-use mathlib.Core.Path.{_≡_, refl, sym, _∙_}
+use mathlib.Core.Path.{_≡_, sym, _∙_}
 use native.Mathlib.Nat.{mul-suc}
 use native.Mathlib.Omega.{arith}
 use lib.Dec.{eqb}
 use lib.ListN.{length, length-append, length-map}
-use Rattle.definitions.specs.Outcome.{Outcome, refused, done}
 use Rattle.definitions.specs.Lists.{joinAll, AllBelow}
 use Rattle.definitions.specs.Forests.{markOf, forestsOf, marksOf}
 use Rattle.definitions.specs.Route.{routesOf}
 use Rattle.definitions.specs.Over.{oversOf}
 use Rattle.definitions.specs.Form.{bytes, decimal, writeForm}
 use Rattle.definitions.specs.Text.{Network, endForm}
-use Rattle.definitions.specs.Program.{room, printed}
+use Rattle.definitions.specs.Program.{room}
 use Rattle.definitions.specs.Plan.{sheetForm, keptForm, Sheet, outputRoom, planned, spaced, numbersLine, routeLines, sheetText, planText}
 use Rattle.lists.specs.Counting.{count-length}
-use Rattle.lists.specs.RefusedWithin.{RefusedAs}
 use Rattle.theory.specs.Accepted.{accepted}
 use Rattle.theory.specs.ForestBound.{forests-length}
 use Rattle.text_theory.specs.Decimal.{length-decimal-at-most}
 use Rattle.text_theory.specs.Spans.{span, written-span}
 use Rattle.plan.specs.SheetLines.{line-length}
-use Rattle.plan.specs.Planned.{route-passed, keptOf, SheetFor, PlannedSheet, planned-sheet}
-use Rattle.program.specs.Printable.{Printable, refused-length}
+use Rattle.plan.specs.Planned.{route-passed, keptOf, SheetFor, planned-sheet}
+use Rattle.program.specs.Printable.{printed-fits}
 use Rattle.plan.specs.Refusals.{planned-printable}
 use Rattle.plan.specs.Routes.{length-routes, routes-below, routes-of}
 use Rattle.plan.specs.Overs.{length-overs, overs-written, overs-below}
@@ -120,12 +118,8 @@ sheet-length from to k network sheet smallFrom smallTo given =
 
 -- Everything that is printed.
 pub plan-length : (input : List ℕ) → length (planText input) ≤ outputRoom
-unfolding outputRoom planText printed
-plan-length input = go (planned input) (planned-printable input) (planned-sheet input)
-  where
-    go : (outcome : Outcome Sheet) → RefusedAs Printable outcome
-        → ((sheet : Sheet) → outcome ≡ done sheet → PlannedSheet sheet) → length (printed sheetText outcome) ≤ outputRoom
-    go (refused number place) given _ = omega (arith, refused-length number place given)
-    go (done sheet) _ behind =
-        let found = behind sheet refl in
-        sheet-length (found .from) (found .to) (found .k) (found .network) sheet (found .smallFrom) (found .smallTo) (found .given)
+unfolding outputRoom planText
+plan-length input =
+    printed-fits sheetText outputRoom (planned input) (omega arith) (planned-printable input) (λ sheet e.
+    let found = planned-sheet input sheet e in
+    sheet-length (found .from) (found .to) (found .k) (found .network) sheet (found .smallFrom) (found .smallTo) (found .given))

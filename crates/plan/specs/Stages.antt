@@ -18,20 +18,19 @@ use Rattle.definitions.specs.Demand.{cutUp}
 use Rattle.definitions.specs.Form.{departs, reads, scanForm}
 use Rattle.definitions.specs.Text.{Network, readNetwork}
 use Rattle.definitions.specs.Program.{passing, room, printed}
-use Rattle.definitions.specs.Plan.{wishForm, Sheet, sheetFor, sheetAnswers, planner, planned, sheetText, planText}
+use Rattle.definitions.specs.Plan.{wishForm, Sheet, sheetFor, sheetAnswers, planner, planned, sheetText}
 use Rattle.lists.specs.Outcomes.{then-done, if-done}
 use Rattle.lists.specs.SameOutcomes.{done-then}
 use Rattle.lists.specs.Overwritten.{take-overwrite}
 use Rattle.lists.specs.Cuts.{cut-up, total-lengths}
 use Rattle.text_theory.specs.Forms.{wish-line}
-use Rattle.text.specs.Put.{Put}
 use Rattle.network.specs.Answers.{refusalOf}
 use Rattle.network.specs.declared.refusal.Refusal.{Refusal}
 use Rattle.network.specs.declared.refusal.Refusal.the-variants.{Wish, RouteCount}
 use Rattle.theory.specs.Accepted.{accepted}
 use Rattle.routes.specs.Answers.{countedAnswer}
 use Rattle.program.specs.Front.{longer}
-use Rattle.program.specs.ReadStage.{length-room, networkOf, stage-refused, answer-refused, whole-put, line-departed, line-taken}
+use Rattle.program.specs.ReadStage.{length-room, networkOf, stage-refused, answer-refused, line-departed, line-taken}
 use Rattle.plan.specs.SheetLines.{sheetLines}
 use Rattle.plan.specs.Planned.{sheetOf}
 use Rattle.plan.specs.Routes.{length-routes}
@@ -79,7 +78,7 @@ module _ (n : ℕ) (lows highs states : List ℕ) (from to k : ℕ) (ok : Accept
       le-ltb (length (room 3000)) (length lows) (omega (arith, length-room 3000, accepted n lows highs states ok .short)) in
       rw (ok, h, long)
 
-  pub accepted-stage : cutStage from to k (networkOf n lows highs states)
+  accepted-stage : cutStage from to k (networkOf n lows highs states)
       ≡ routeStage from to k (networkOf n lows highs states) (total (marksOf n lows highs states k))
   unfolding cutStage passing sheetAnswers sheetFor routeStage
   accepted-stage = go (outside 1 32 k) refl
@@ -89,6 +88,12 @@ module _ (n : ℕ) (lows highs states : List ℕ) (from to k : ℕ) (ok : Accept
           ≡ routeStage from to k (networkOf n lows highs states) (total (marksOf n lows highs states k))
       go true h = stage-refused _ _ RouteCount (cut-count h) ∙ sym (stage-refused _ _ RouteCount (route-count h))
       go false h = then-done (cutAnswer n lows highs states k (room 3000)) _ (total (marksOf n lows highs states k) ∷ []) (cut-keeps h)
+
+  -- Where Route answers there is a sheet.
+  pub stage-done : (values : List ℕ) → routeAnswer n lows highs states k from to (room 32) (room 1062) (room 32000) ≡ done values
+      → cutStage from to k (networkOf n lows highs states) ≡ done (sheetFor from to k (networkOf n lows highs states))
+  unfolding sheetFor
+  stage-done values e = accepted-stage ∙ route-done n lows highs states from to k (total (marksOf n lows highs states k)) values e
 
 -- The lists of Route with links after a success: as many counts as routes, the relays of all of them, from which the counts cut the
 -- routes again, and their links, from which one less each time cuts them.
@@ -210,7 +215,7 @@ module _
         → relaysNow ≡ routeLinksRelays n lows highs states k from to counts relays links scratch
         → linksNow ≡ routeLinksLinks n lows highs states k from to counts relays links scratch
         → Routed from to k n lows highs states kept countsNow relaysNow linksNow
-    unfolding printed sheetText sheetLines countedAnswer
+    unfolding printed sheetFor sheetText sheetLines countedAnswer
     routes-written kept countsNow relaysNow linksNow told countsOf relaysOf linksOf =
         let (values, e, last) = done-then (routeLinksAnswer n lows highs states k from to counts relays links scratch) _ (kept ∷ []) told in
         let counted : kept ≡ total (marksOf n lows highs states k) = cc in
@@ -220,9 +225,7 @@ module _
           within = relays-room n lows highs states k from to counts relays links scratch values e;
           linked = links-room n lows highs states k from to counts relays links scratch values e;
           lines =
-              ap (printed sheetText)
-              (accepted-stage n lows highs states from to k ok
-              ∙ route-done n lows highs states from to k (total (marksOf n lows highs states k)) values (with-rooms (done values) e))
+              ap (printed sheetText) (stage-done n lows highs states from to k ok values (with-rooms (done values) e))
               ∙ ap₂ (λ (routes overs : List (List ℕ)). sheetLines from to k routes overs (total (marksOf n lows highs states k)))
               (sym (routes-cut n lows highs states k from to counts relays links scratch values e))
               (sym (overs-cut n lows highs states k from to counts relays links scratch values e));
@@ -241,9 +244,3 @@ pub wish-taken : (input : List ℕ) (from to k p : ℕ) → scanForm input wishF
     → (p ≤ length input) × (planned input ≡ readStage (take (length input - p) (drop p input)) from to k)
 unfolding planned cutStage
 wish-taken input from to k p e = line-taken planner _ input (from ∷ to ∷ k ∷ []) p wish-line e
-
--- The whole output, from its first byte on.
-pub plan-put : (input before after : List ℕ) (next : ℕ) → length (planText input) ≤ length before
-    → Put before 0 (printed sheetText (planned input)) after next → (next ≡ length (planText input)) × (after ≡ overwrite (planText input) before)
-unfolding planText
-plan-put input before after next fits put = whole-put (printed sheetText (planned input)) before after next fits put

@@ -9,13 +9,13 @@ use native.Mathlib.Omega.{arith}
 use lib.Dec.{eqb, ltb}
 use lib.ListN.{length}
 use borrow.Author.Tests.{eqb-false, ne-eqb, le-ltb}
-use Rattle.definitions.specs.Outcome.{Outcome, Answer}
+use Rattle.definitions.specs.Outcome.{Outcome, refused, done, Answer}
 use Rattle.definitions.specs.Lists.{outside}
 use Rattle.definitions.specs.Network.{tableCheck, Accepted}
 use Rattle.definitions.specs.Forests.{cutAnswer}
 use Rattle.definitions.specs.Form.{Item, writeForm}
 use Rattle.definitions.specs.Text.{Network, readNetwork}
-use Rattle.definitions.specs.Program.{outcomeOf, refusedForm, room, ownRead}
+use Rattle.definitions.specs.Program.{outcomeOf, refusedForm, printed, room, ownRead}
 use Rattle.lists.specs.Outcomes.{refuse-not, then-done}
 use Rattle.lists.specs.RefusedWithin.{RefusedAs, as-more, refuse-as}
 use Rattle.theory.specs.Accepted.{accepted}
@@ -73,7 +73,14 @@ pub roomy : {B : Type 0} (outcome : Outcome B) → RefusedAs Printable outcome
 roomy outcome fits = as-more Printable _ outcome (λ number place one. (one .notEight, one .notTwelve)) fits
 
 -- The line of a refusal has at most 22 bytes.
-pub refused-length : (number place : ℕ) → Printable number place → length (writeForm refusedForm (number ∷ place ∷ [])) ≤ 22
+refused-length : (number place : ℕ) → Printable number place → length (writeForm refusedForm (number ∷ place ∷ [])) ≤ 22
 unfolding span refusedForm
 refused-length number place given =
     omega (arith, written-span 4 refusedForm (number ∷ place ∷ []) (omega (arith, given .low), (omega (arith, given .near), tt)))
+
+-- All that is printed has room, where the text of a value has.
+pub printed-fits : {A : Type 0} (textOf : A → List ℕ) (size : ℕ) (outcome : Outcome A) → 22 ≤ size → RefusedAs Printable outcome
+    → ((value : A) → outcome ≡ done value → length (textOf value) ≤ size) → length (printed textOf outcome) ≤ size
+unfolding printed
+printed-fits textOf size (refused number place) enough given fits = omega (arith, refused-length number place given)
+printed-fits textOf size (done value) enough given fits = fits value refl

@@ -40,10 +40,11 @@ pub put-as : {A : Type 0} (textOf : A → List ℕ) (one other : Outcome A) (bef
 put-as textOf one other before after next same put =
     subst (λ (outcome : Outcome _). Put before 0 (printed textOf outcome) after next) (sym same) put
 
--- A text written from the first byte on is the whole output.
-pub whole-put : (text before after : List ℕ) (next : ℕ) → length text ≤ length before → Put before 0 text after next
+-- A text written from the first byte on is the whole output, under whichever name it was written.
+pub whole-put : (text named before after : List ℕ) (next : ℕ) → text ≡ named → length text ≤ length before → Put before 0 named after next
     → (next ≡ length text) × (after ≡ overwrite text before)
-whole-put text before after next fits put = (omega (arith, put .ends), put .bytes ∙ sets-overwrite text before fits)
+whole-put text named before after next same fits put =
+    rw same (omega (arith, put .ends), put .bytes ∙ sets-overwrite named before (omega (arith, ap length same)))
 
 -- A network by its parts.
 abbrev pub networkOf : (n : ℕ) (lows highs states : List ℕ) → Network

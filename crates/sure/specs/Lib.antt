@@ -1,5 +1,4 @@
--- What the sure figure promises, how much is printed, its lines, and the links of a relay.
+-- What the sure figure promises, how much is printed, and its lines.
 pub mod Promise
 pub mod Longest
 pub mod Lines
-pub mod Links

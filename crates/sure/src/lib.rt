@@ -9,7 +9,6 @@ use program::refusal::put_refusal;
 use text::ReadAnswer;
 
 mod figure;
-mod links;
 
 // Prints the sheet for the last two relays, the line where there is none, or the refused line, from the output's first byte on, and
 // returns its length.

@@ -13,9 +13,11 @@ use Rattle.definitions.specs.Order.{linksAt}
 use Rattle.definitions.specs.DisjointRoutes.{LinkOf, InService, AlongFrom, Along, usesFrom, uses, RouteRuns, NoCommonLink, RoutesBetween}
 use Rattle.lists.specs.Tests.{or-left, or-right, and-both, and-all}
 use Rattle.lists.specs.Cases.{has-nil, has-cases}
+use Rattle.lists.specs.Counting.{count-length}
 use Rattle.lists.specs.Members.{has-at, range-has}
 use Rattle.lists.specs.Searches.{clash, first-holds}
 use Rattle.lists.specs.Pigeonhole.{pigeonhole}
+use Rattle.lists.specs.Tables.{length-table}
 use Rattle.theory.specs.Links.{joins-sym, joins-touch, touch-ends}
 use Rattle.theory.specs.SharedLinks.{has-ends}
 
@@ -95,6 +97,16 @@ overEnd lows highs states r route i = uses lows highs i route && atEnd lows high
 
 abbrev firstOver : (lows highs states : List ℕ) (r : ℕ) (route : List ℕ) → ℕ
 firstOver lows highs states r route = firstFrom (overEnd lows highs states r route) 0 (length lows)
+
+-- No relay has more links than there are.
+pub links-few : (lows highs states : List ℕ) (r : ℕ) → linksAt lows highs states r ≤ length lows
+unfolding linksAt
+links-few lows highs states r =
+    omega (
+      arith,
+      count-length (atEnd lows highs states r) (table (λ i. i) 0 (length lows)),
+      length-table (λ (i : ℕ). i) 0 (length lows),
+    )
 
 module _ (n : ℕ) (lows highs states : List ℕ) (picked : ℕ → Type 0) where
   -- A route from one relay to another.

@@ -1,7 +1,7 @@
 -- The line that is printed of an answer, and the whole output by the line in front. Assumes nothing.
 use Prim.Native.Nat.{ℕ, _-_, _≤_}
 use mathlib.Core.List.{List, [], _∷_}
-use mathlib.Core.Path.{_≡_, sym, subst}
+use mathlib.Core.Path.{_≡_, sym, ap, subst}
 use native.Mathlib.Omega.{arith}
 use lib.ListN.{length, take, drop, length-drop}
 use lib.Seq.{take-all}
@@ -48,5 +48,5 @@ pub whole-line : (input before after : List ℕ) (next : ℕ) (one : Answer) →
     → (next ≡ length (verifyText input)) × (after ≡ overwrite (verifyText input) before)
 unfolding verifyText
 whole-line input before after next one same room line =
-    let whole = line-of (verified input) one same line in
-    whole-put (verifyText input) before after next (omega (arith, whole .fits)) (whole .put)
+    let told = ap (printed verdictText) same in
+    whole-put (verifyText input) (printed verdictText one) before after next told (omega (arith, line .fits, ap length told)) (line .put)

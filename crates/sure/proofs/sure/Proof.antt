@@ -2,12 +2,10 @@
 -- holds it rests on demand 3, which bounds the relays of all the routes.
 use mathlib.Core.Path.{sym}
 use native.Mathlib.Omega.{arith}
-use denote.Ref.{now}
 use lib.Seq.{length-take-le}
 use Rattle.definitions.specs.Program.{printed}
 use Rattle.definitions.specs.Plan.{outputRoom}
-use Rattle.definitions.specs.Sure.{figureText}
-use Rattle.program.specs.ReadStage.{LoadedTable, fits-as, put-as, loaded-refused, loaded-table}
+use Rattle.program.specs.ReadStage.{LoadedTable}
 use Rattle.sure.specs.Lines.{sure-fits, sure-put}
 use borrow.Author.Needs.{needs}
 use Rattle.sure.proofs.sure.Statement.{statement}
@@ -21,38 +19,24 @@ put-refusal-requires : tie.Need-put-refusal-requires
 unfolding printed outputRoom
 put-refusal-requires c κs =
     let atRefusal = c .before .before in
-    let atLoad = atRefusal .before .before in
-    let a = atLoad .before .before .before .before .before .before .before .before .args in
-    let line = fits-as figureText _ _ _ (loaded-refused _ _ _ _ _ _ _ (atLoad .load .ensures) (atRefusal .refusal .given .1))
-    (sure-fits (now (a .input))) in
-    omega arith
+    omega (arith, sure-fits _ _ (atRefusal .before .before .load .ensures .refuses _ (atRefusal .refusal .given .1)))
 
 put-figure-requires : tie.Need-put-figure-requires
 unfolding printed outputRoom
 put-figure-requires c κs =
-    let atN = c .before .before .before .before .before in
-    let atLoad = atN .before .before in
-    let a = atLoad .before .before .before .before .before .before .before .before .args in
-    let lines = fits-as figureText _ _ _ (loaded-table _ _ _ _ _ _ _ (table atN)) (sure-fits (now (a .input))) in
-    (table atN .accepted, omega arith)
+    let read = table (c .before .before .before .before .before) in
+    (read .accepted, omega (arith, sure-fits _ _ (read .read)))
 
 returns : tie.Need-returns
 unfolding printed outputRoom
 returns c =
     let atRefusal = c .before .before .before in
-    let atLoad = atRefusal .before .before in
-    let a = atLoad .before .before .before .before .before .before .before .before .args in
-    sure-put (now (a .input)) _ _ _ (omega arith)
-    (put-as figureText _ _ _ _ _ (loaded-refused _ _ _ _ _ _ _ (atLoad .load .ensures) (atRefusal .refusal .given .1)) (c .put-refusal .ensures))
+    sure-put _ _ (atRefusal .before .before .load .ensures .refuses _ (atRefusal .refusal .given .1)) _ _ _ (omega arith) (c .put-refusal .ensures)
 
 returns-2 : tie.Need-returns-2
 unfolding printed outputRoom
 returns-2 c =
-    let atN = c .before .before .before .before .before .before in
-    let atLoad = atN .before .before in
-    let a = atLoad .before .before .before .before .before .before .before .before .args in
-    sure-put (now (a .input)) _ _ _ (omega arith)
-    (put-as figureText _ _ _ _ _ (loaded-table _ _ _ _ _ _ _ (table atN)) (c .put-figure .ensures))
+    sure-put _ _ (table (c .before .before .before .before .before .before) .read) _ _ _ (omega arith) (c .put-figure .ensures)
 
 pub sure-spec : {M : Type 1} → statement M
 sure-spec =

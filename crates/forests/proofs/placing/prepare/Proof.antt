@@ -57,6 +57,7 @@ returns c =
     let counts = counted .count-serving .last .1 .1 .1 .1 .1 .0 in
     record {
       chained = linked .link-up .ensures .0;
+      counted = counted .count-serving .ensures;
       noneBeyond =
           counted-beyond (a .lows .now) (a .highs .now) (a .states .now) (a .n) (linked .link-up .last .1 .1 .1 .1 .0) counts
           (all-links linked) (counted .count-serving .ensures);

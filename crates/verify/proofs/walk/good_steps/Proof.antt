@@ -1,16 +1,11 @@
 -- `verify::walk::good_steps` meets its contract. Assumes nothing.
-use mathlib.Core.Bool.{Bool, true, false, _&&_}
-use mathlib.Core.Path.{_≡_, refl, sym}
+use mathlib.Core.Path.{sym}
 use lib.Dec.{eqb}
 use borrow.Author.Tests.{eq-eqb, ne-eqb, not-true, not-false}
 use Rattle.definitions.specs.SheetTest.{goodSteps}
-use Rattle.lists.specs.Tests.{and-false}
+use Rattle.lists.specs.Tests.{and-true, and-false}
 use Rattle.verify.proofs.walk.good_steps.Statement.{statement}
 use Rattle.verify.proofs.walk.good_steps.Tie as tie
-
-and-true : (b : Bool) → (b && true) ≡ b
-and-true true = refl
-and-true false = refl
 
 returns : tie.Need-returns
 unfolding goodSteps
