@@ -1,6 +1,7 @@
-/* Nolkisei for C on x86-64 Linux: checks, reads and writes a network of relays and imports drawings of one, numbers pairs, orders the
- * relays, splits the links into forests and cuts them down to those worth keeping, finds routes that share only their ends and the
- * links that they run over, prints sheets of such routes and lists of such links, and says whether a sheet holds.
+/* Nolkisei for C on x86-64 Linux: checks, reads and writes a network of relays, imports drawings of one and makes one of the relays' own
+ * link reports, numbers pairs, orders the relays, splits the links into forests and cuts them down to those worth keeping, finds routes
+ * that share only their ends and the links that they run over, prints sheets of such routes and lists of such links, and says whether a
+ * sheet holds.
  * Link libnolkisei.a (rt staticlib nolkisei). Of libc it needs memcpy and memset alone; it allocates nothing and keeps nothing between
  * calls.
  *
@@ -24,9 +25,9 @@
  * order are in one tree of forest d, so nolkisei_route with k = d gives d routes between them, in either direction. No list of routes
  * between them, through relays in service, sharing no link and no relay but the ends, has more than d.
  *
- * Every text here, that of a network, a drawing, a sheet, a list and of a line that asks, has each line ended by byte 10, single spaces,
- * and numbers of one to four digits with no zero in front but in 0 itself; only PLACE in a refused line has as many as it takes. Nothing
- * else stands there, but in a drawing's comments: no byte 13, no space at a line's end, no empty line. A network's text:
+ * Every text here, that of a network, a drawing, a report, a sheet, a list and of a line that asks, has each line ended by byte 10,
+ * single spaces, and numbers of one to four digits with no zero in front but in 0 itself; only the serial of a report has up to ten, and
+ * PLACE in a refused line as many as it takes. Nothing else stands there, but in a drawing's comments: no byte 13, no space at a line's end, no empty line. A network's text:
  *
  *    (net (relays N) (links M))
  *    (link A B)                     M such lines, A below B
@@ -75,7 +76,7 @@ extern "C" {
 #define NOLKISEI_STACK 262144
 
 /* What a function returns: 0 when it is done, or the number of its refusal. It writes both entries of `answer`: after a refusal its
- * place in the input (the byte offset for 2, 14 and 18, the link's index for 5 to 7, 0 for a pair, else 0) and 0; done, the values named
+ * place in the input (the byte offset for 2, 14 and 18, the link's index for 5 to 7, but 0 for a pair and for reports, else 0) and 0; done, the values named
  * with the function, and 0 for what is not named.
  * 'Unchanged' below means every entry of the list. After any other refusal than those named a list is unchanged. */
 enum nolkisei_refusal {
@@ -84,7 +85,7 @@ enum nolkisei_refusal {
     NOLKISEI_FORM = 2,         /* the text departs from its form: at its first byte that does, or at its length */
     NOLKISEI_RELAY_COUNT = 3,  /* n is not 1 to 1,000 */
     NOLKISEI_LINK_COUNT = 4,   /* the lists of a table have unequal lengths, or m is over 3,000; of nolkisei_read and nolkisei_import, whose
-                                  lists may be unequal, only that the M of the text is over 3,000 */
+                                  lists may be unequal, only that the M of the text is over 3,000; of nolkisei_reports, that the reports make over 3,000 links */
     NOLKISEI_RELAY_RANGE = 5,  /* a relay number is not below n (of a pair: not below 1,000; in a drawing: not 1 to n) */
     NOLKISEI_NOT_BELOW = 6,    /* a link's low relay is not below its high relay; in a drawing, its two relays are equal */
     NOLKISEI_REPEATED = 7,     /* an earlier link has the same pair; in a drawing, in either order */
@@ -99,7 +100,11 @@ enum nolkisei_refusal {
     NOLKISEI_STATES = 16,      /* the state list is not n long, or has an entry other than 0 and 1; in a text, the relay of an `out`
                                   line is not below n or not above the one before */
     NOLKISEI_WITHDRAWN = 17,   /* `from` or `to` is withdrawn */
-    NOLKISEI_DRAWING_FORM = 18 /* a drawing departs from its form: at its first byte that does, or at its length */
+    NOLKISEI_DRAWING_FORM = 18, /* a drawing departs from its form: at its first byte that does, or at its length */
+    NOLKISEI_REPORT_FORM = 19, /* a report departs from its form, its serial is over 4,294,967,295, it names a relay over 999 or its own
+                                  relay among those seen, or those seen do not rise */
+    NOLKISEI_REPORT_RELAYS = 20, /* two reports are of different relays where one is to stand, or of one relay in a set */
+    NOLKISEI_REPORT_SERIALS = 21 /* two reports have serials that differ by 2,147,483,648, or equal serials and different bytes */
 };
 
 /* The table check: 3, 4, then link by link 5, 6, 7, and last 16. All functions below that take a table begin with it. */
@@ -129,6 +134,25 @@ uint32_t nolkisei_read(const uint8_t *text, size_t text_length, uint16_t *lows, 
  * nolkisei_read. */
 uint32_t nolkisei_import(const uint8_t *text, size_t text_length, uint16_t *lows, size_t lows_length, uint16_t *highs,
                          size_t highs_length, uint16_t *states, size_t states_length, uint64_t answer[2]);
+
+/* Link reports. In a report a relay tells which others it sees. It is one line, with its line end, and nothing after it:
+ *
+ *    (report R S (sees A B ..))     R and those that it sees, rising, are 0 to 999; R sees any number of others, or none: (sees)
+ *
+ * S is its serial, 0 to 4,294,967,295, after which comes 0 again: a serial of one to ten digits, with no zero in front but in 0 itself.
+ *
+ * Which of two reports of a relay stands: 19 of either, then 20, then 21. answer: 0 where the first stands and 1 where the second does,
+ * and the length of its text, which is the report that stands, byte for byte. The second stands where its serial minus the first's,
+ * wrapped at 32 bits, is 1 to 2,147,483,647, and the first where that holds the other way; of equal texts the first. No list is lent. */
+uint32_t nolkisei_stands(const uint8_t *first, size_t first_length, const uint8_t *second, size_t second_length, uint64_t answer[2]);
+
+/* Makes a table of the reports that stand, at most one a relay, one line after another in any order; the text may have any length, and
+ * may be empty. There is a link exactly where each end sees the other; the links come by low and then by high relay. A relay is in
+ * service exactly if it has a report, whatever that sees; to see a relay without a report makes no link.
+ * 3; then 19 over the whole text; then 20, also for two equal lines; 5 where a relay that reports or is seen is not below n; 4; 8.
+ * Answer and lists are as of nolkisei_read. */
+uint32_t nolkisei_reports(uint16_t n, const uint8_t *text, size_t text_length, uint16_t *lows, size_t lows_length, uint16_t *highs,
+                          size_t highs_length, uint16_t *states, size_t states_length, uint64_t answer[2]);
 
 /* Writes a table's text: the table check, then 12 where the buffer is shorter than the text.
  * answer: the text's length in bytes. Done, the text stands at the buffer's start and the rest is unchanged. */

@@ -72,8 +72,9 @@ ask "$copy/nolkisei" plan 4 1 1 -m.net
 wait $!
 same 'two runs at once, of a missing program' "$sheet$sheet" "$output$(cat "$room/first")"
 same 'one of them builds' 'check planner' "$(cat "$room/asked")"
-for command in 'verify -m.net mesh.sheet:verifier' 'import mesh.col:importer' 'sure -m.net:surer' 'keep 1 -m.net:keeper'; do
-    cp "$copy/networks/mesh.sheet" "$copy/networks/mesh.col" "$work"
+for command in 'verify -m.net mesh.sheet:verifier' 'import mesh.col:importer' 'sure -m.net:surer' 'keep 1 -m.net:keeper' 'reports 5 mesh.reports:reporter' \
+    'stands relay-4-old.report relay-4-new.report:stander'; do
+    cp "$copy"/networks/{mesh.sheet,mesh.col,mesh.reports,relay-4-old.report,relay-4-new.report} "$work"
     rm -f "$copy/target/bin/${command#*:}" "$room/asked"
     # shellcheck disable=SC2086
     ask "$copy/nolkisei" ${command%:*}

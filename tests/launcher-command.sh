@@ -7,7 +7,7 @@ for arguments in help -h --help 'plan -h' 'plan --help' 'plan 4 1 2 -h' 'help ve
     same "$arguments: the exit status" 0 "${output##*status }"
     same "$arguments: words" '' "$words"
     case $arguments in
-    *version) due='Nolkisei 7: document 01 with #101 to #107 of document 02' ;;
+    *version) due='Nolkisei 8: document 01 with #101 to #108 of document 02' ;;
     plan*) due='nolkisei plan FROM TO K FILE' ;;
     'help verify') due='nolkisei verify NETWORK SHEET' ;;
     *) due='  nolkisei keep K FILE          Prints which links of the network of FILE are worth keeping for K routes, link by link.' ;;
@@ -16,7 +16,7 @@ for arguments in help -h --help 'plan -h' 'plan --help' 'plan 4 1 2 -h' 'help ve
 done
 same 'nothing was built for help' no "$([ -e "$room/asked" ] && echo yes || echo no)"
 ask "$copy/nolkisei"
-says 'no command' 2 "nolkisei: no command was given; the commands are plan keep verify import sure build help version ($copy/nolkisei help tells more)"
+says 'no command' 2 "nolkisei: no command was given; the commands are plan keep verify import sure reports stands build help version ($copy/nolkisei help tells more)"
 ask "$copy/nolkisei" plot
 says 'another command' 2 'nolkisei: there is no command plot; the commands are plan keep'
 ask "$copy/nolkisei" help plot
@@ -32,13 +32,13 @@ same 'what tells more' "nolkisei: usage: nolkisei plan FROM TO K FILE ($copy/nol
 # All programs ahead, and none a second time.
 ask env NOLKISEI_PAUSE=0.05 "$copy/nolkisei" build
 same 'build' 'status 0' "$output"
-same 'build, one run of the kit' 'check planner keeper verifier importer surer' "$(cat "$room/asked")"
-says 'build, what is done' 0 'nolkisei: 3 of 7: planner proved (12 s)'
-says 'build, how long' 0 'nolkisei: 0 s so far: 0 of 7 crates done, at work on lower'
-says 'build, its end' 0 'nolkisei: all 5 programs are built from the sources as they are'
+same 'build, one run of the kit' 'check planner keeper verifier importer surer reporter stander' "$(cat "$room/asked")"
+says 'build, what is done' 0 'nolkisei: 3 of 9: planner proved (12 s)'
+says 'build, how long' 0 'nolkisei: 0 s so far: 0 of 9 crates done, at work on lower'
+says 'build, its end' 0 'nolkisei: all 7 programs are built from the sources as they are'
 rm "$room/asked"
 ask "$copy/nolkisei" build
-same 'build, when all is built' $'nolkisei: all 5 programs are built from the sources as they are\nstatus 0' "$words"$'\n'"$output"
+same 'build, when all is built' $'nolkisei: all 7 programs are built from the sources as they are\nstatus 0' "$words"$'\n'"$output"
 
 # Folders, links and names.
 cp "$mesh_file" "$work/-m.net" && cp "$mesh_file" "$work/-" && cp "$mesh_file" "$work/two words" && ln -s "$copy/nolkisei" "$work/link"

@@ -37,6 +37,22 @@ static void texts_refused(void) {
        NOLKISEI_DRAWING_FORM);
 }
 
+/* A report of relay 4 beside another text. */
+static uint32_t stands(const char *other) {
+    const char *one = "(report 4 0 (sees 2))\n";
+    return nolkisei_stands((const uint8_t *)one, strlen(one), (const uint8_t *)other, strlen(other), answer);
+}
+
+static void reports_refused(void) {
+    is("no report", stands(""), NOLKISEI_REPORT_FORM);
+    is("the highest serial", stands("(report 4 4294967295 (sees))\n"), NOLKISEI_DONE);
+    is("a serial more", stands("(report 4 4294967296 (sees))\n"), NOLKISEI_REPORT_FORM);
+    is("the highest relay", stands("(report 999 0 (sees))\n"), NOLKISEI_REPORT_RELAYS);
+    is("a relay more", stands("(report 1000 0 (sees))\n"), NOLKISEI_REPORT_FORM);
+    is("the last serial ahead", stands("(report 4 2147483647 (sees))\n"), NOLKISEI_DONE);
+    is("half of the range", stands("(report 4 2147483648 (sees))\n"), NOLKISEI_REPORT_SERIALS);
+}
+
 static void tables_refused(void) {
     const uint16_t twice_lows[] = {0, 0}, twice_highs[] = {1, 1}, without_4[] = {1, 1, 1, 1, 0};
     is("no relay", check(0, 0, 0, 0), NOLKISEI_RELAY_COUNT);
@@ -94,6 +110,7 @@ static void longest_text(void) {
 int main(void) {
     all_in_service();
     texts_refused();
+    reports_refused();
     tables_refused();
     limits();
     longest_text();

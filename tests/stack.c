@@ -13,10 +13,10 @@
 
 typedef struct {
     uint16_t n, k, from, to;
-    size_t m, length, sheet_length, drawing_length;
+    size_t m, length, sheet_length, drawing_length, set_length, report_length;
     uint16_t lows[NOLKISEI_LINKS], highs[NOLKISEI_LINKS], states[NOLKISEI_RELAYS];
     uint8_t text[NOLKISEI_TEXT], sheet[NOLKISEI_SHEET];
-    char drawing[NOLKISEI_TEXT];
+    char drawing[NOLKISEI_TEXT], set[2 << 20], report[4 << 10];
 } network;
 
 static network large, small, thin;
@@ -49,6 +49,15 @@ static void read_text(const network *net) {
 
 static void import(const network *net) {
     returned = nolkisei_import((const uint8_t *)net->drawing, net->drawing_length, LENT(first), LENT(second), LENT(third), answer);
+}
+
+static void stands(const network *net) {
+    const uint8_t *report = (const uint8_t *)net->report;
+    returned = nolkisei_stands(report, net->report_length, report, net->report_length, answer);
+}
+
+static void reports(const network *net) {
+    returned = nolkisei_reports(net->n, (const uint8_t *)net->set, net->set_length, LENT(first), LENT(second), LENT(third), answer);
 }
 
 static void write_text(const network *net) { returned = nolkisei_write(TABLE, LENT(output), answer); }
@@ -94,6 +103,32 @@ static void draw(network *net) {
     net->drawing_length = (size_t)(end - net->drawing);
 }
 
+/* A report of the last relay, which sees all others; and one of each relay in service, which sees all higher ones and, of the lower
+ * ones, those that it is linked to. */
+static void report(network *net) {
+    char *end = net->report + sprintf(net->report, "(report %u 4294967295 (sees", net->n - 1u);
+    for (unsigned other = 0; other + 1 < net->n; other++) {
+        end += sprintf(end, " %u", other);
+    }
+    net->report_length = (size_t)(end + sprintf(end, "))\n") - net->report);
+    end = net->set;
+    for (unsigned relay = 0; relay < net->n; relay++) {
+        static uint8_t seen[NOLKISEI_RELAYS];
+        for (unsigned other = 0; other < net->n; other++) {
+            seen[other] = other > relay;
+        }
+        for (size_t i = 0; i < net->m; i++) {
+            seen[net->lows[i]] |= net->highs[i] == relay;
+        }
+        end += net->states[relay] ? sprintf(end, "(report %u %u (sees", relay, 4294967295u - relay) : 0;
+        for (unsigned other = 0; other < net->n && net->states[relay]; other++) {
+            end += seen[other] ? sprintf(end, " %u", other) : 0;
+        }
+        end += net->states[relay] ? sprintf(end, "))\n") : 0;
+    }
+    net->set_length = (size_t)(end - net->set);
+}
+
 /* A path over the relays 100 to `path`, and every pair among the last `core` relays. The others are in service or withdrawn. */
 static void make(network *net, uint16_t n, uint16_t path, uint16_t core, uint16_t k, uint16_t others) {
     net->n = n, net->k = k, net->from = n - 1, net->to = n - 2, net->m = 0;
@@ -111,6 +146,7 @@ static void make(network *net, uint16_t n, uint16_t path, uint16_t core, uint16_
     nolkisei_write(TABLE, LENT(net->text), answer);
     net->length = answer[0];
     draw(net);
+    report(net);
     plan(net);
     net->sheet_length = answer[0];
     memcpy(net->sheet, output, net->sheet_length);
@@ -153,7 +189,7 @@ int main(void) {
         void (*call)(const network *);
     } calls[] = {{"check", check}, {"pair", pair}, {"read", read_text}, {"import", import},           {"write", write_text},
                  {"order", order}, {"split", split}, {"cut", cut},      {"route", route},             {"route_links", route_links},
-                 {"plan", plan},   {"keep", keep}, {"verify", verify}};
+                 {"plan", plan},   {"keep", keep}, {"verify", verify},  {"stands", stands},           {"reports", reports}};
     int failed = 0;
     make(&large, 1000, 174, 77, 32, 1);
     make(&small, 28, 0, 28, 27, 1);

@@ -1,11 +1,12 @@
 # The lines of a file for the scripts that explain a refusal: its bytes, the usual causes of a departure, and showing a line.
 # Input: the file's bytes as decimal numbers. By the environment: command; number and place of the refusal; file, its name; typed_file
-# and me, the file and this command as they are typed.
+# and me, the file and this command as they are typed; lines_before, how many lines stand in front of these bytes, where some do.
 
 BEGIN {
     size = 0
     number = ENVIRON["number"] + 0
     place = ENVIRON["place"] + 0
+    lines_before = ENVIRON["lines_before"] + 0
 }
 { for (i = 1; i <= NF; i++) byte[size++] = $i + 0 }
 
@@ -58,7 +59,7 @@ function show(line, column,    first, last, front, pad) {
 }
 
 # A line of the file, by its name.
-function at(line) { return ENVIRON["file"] ", line " line }
+function at(line) { return ENVIRON["file"] ", line " line + lines_before }
 
 # What is wrong at a column of a line, and the line.
 function wrong(line, column, words) {
@@ -102,6 +103,7 @@ function kind_seen() {
     if (word(1) == "sheet") return "a sheet"
     if (word(1) == "lease") return "a list of links"
     if (word(1) == "refused") return "a refusal"
+    if (word(1) == "report") return "a set of reports"
     return drawn() ? "a drawing" : ""
 }
 
@@ -110,6 +112,7 @@ function other_kind(kind,    seen) {
     seen = kind_seen()
     if (seen == "" || seen == kind) return ""
     if (seen == "a drawing" && kind == "a network file") return "this looks like a drawing in the DIMACS form; make a network file of it first: " ENVIRON["me"] " import " ENVIRON["typed_file"] " > NEW.net"
+    if (seen == "a set of reports" && kind == "a network file") return "this looks like a set of link reports; make a network file of it first, with the number of relays for N: " ENVIRON["me"] " reports N " ENVIRON["typed_file"] " > NEW.net"
     if (seen == "a network file" && kind == "a drawing") return "this is a network file already; it needs no import"
     if (ENVIRON["command"] == "verify" && seen ~ /^a (network file|sheet)$/) return "this is " seen "; the network file is named first, the sheet second"
     return "this is " seen ", not " kind

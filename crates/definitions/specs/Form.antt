@@ -42,12 +42,16 @@ scanDigits text x p (suc more) =
     pick (outside 48 57 (byteAt text p)) (reads (x ∷ []) p)
     (scanDigits text (x * 10 + (byteAt text p - 48)) (p + 1) more)
 
--- "A number is one to four digits, with no zero in front except in `0` itself."
-unfoldable pub scanNumber : (text : List ℕ) (p : ℕ) → Scan
-scanNumber text p =
+-- A number of at most `more` + 1 digits, with no zero in front except in `0` itself.
+abbrev pub scanDecimal : (text : List ℕ) (more p : ℕ) → Scan
+scanDecimal text more p =
     pick (eqb (byteAt text p) 48) (reads (0 ∷ []) (p + 1))
     (pick (outside 49 57 (byteAt text p)) (departs p)
-    (scanDigits text (byteAt text p - 48) (p + 1) 3))
+    (scanDigits text (byteAt text p - 48) (p + 1) more))
+
+-- "A number is one to four digits, with no zero in front except in `0` itself."
+unfoldable pub scanNumber : (text : List ℕ) (p : ℕ) → Scan
+scanNumber text p = scanDecimal text 3 p
 
 unfoldable pub scanItem : (text : List ℕ) (item : Item) (p : ℕ) → Scan
 scanItem text (word w) p = scanWord text w p
@@ -61,6 +65,14 @@ withFront front (reads values p) = reads (front ++ values) p
 unfoldable pub following : (first : Scan) (next : ℕ → Scan) → Scan
 following (departs p) next = departs p
 following (reads values p) next = withFront values (next p)
+
+-- More numbers, each behind a space (byte 32), up to a byte that is no space; at most `most` of them.
+unfoldable pub scanMore : (text : List ℕ) (p most : ℕ) → Scan
+scanMore text p zero = reads [] p
+scanMore text p (suc most) =
+    pick (eqb (byteAt text p) 32)
+    (following (scanNumber text (p + 1)) λ q. scanMore text q most)
+    (reads [] p)
 
 -- A form, from an offset on.
 unfoldable pub scanForm : (text : List ℕ) (form : List Item) (p : ℕ) → Scan
@@ -83,6 +95,11 @@ decimalWithin (suc fuel) x =
 -- x + 1 digits.
 unfoldable pub decimal : (x : ℕ) → List ℕ
 decimal x = decimalWithin x x
+
+-- Numbers, each behind a space.
+unfoldable pub spaced : (numbers : List ℕ) → List ℕ
+spaced [] = []
+spaced (x ∷ numbers) = bytes " " ++ (decimal x ++ spaced numbers)
 
 -- A form written with its numbers.
 unfoldable pub writeForm : (form : List Item) (values : List ℕ) → List ℕ

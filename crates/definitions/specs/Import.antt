@@ -2,9 +2,9 @@
 use Prim.Native.Nat.{ℕ}
 use mathlib.Core.List.{List, []}
 use Rattle.definitions.specs.Outcome.{Outcome}
-use Rattle.definitions.specs.Text.{Network, textOf}
+use Rattle.definitions.specs.Text.{Network}
 use Rattle.definitions.specs.Dimacs.{importNetwork}
-use Rattle.definitions.specs.Program.{Program, outcomeOf, printed, on}
+use Rattle.definitions.specs.Program.{Program, outcomeOf, printed, networkText}
 
 -- No line in front: the whole input is the drawing. No refusal but the import's, with a program's own lists.
 abbrev pub importer : Program Network
@@ -12,10 +12,6 @@ importer = record { form = []; read = λ _ text. importNetwork text 3000 3000 10
 
 unfoldable pub imported : (input : List ℕ) → Outcome Network
 imported = outcomeOf importer (λ _ network. network)
-
--- The text of a network.
-unfoldable pub networkText : (network : Network) → List ℕ
-networkText network = on network textOf
 
 -- What the program writes for what it reads: the network text, or the refusal.
 unfoldable pub importText : (input : List ℕ) → List ℕ

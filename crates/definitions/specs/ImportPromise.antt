@@ -11,8 +11,8 @@ use Rattle.definitions.specs.Text.{Network, sized, readNetwork}
 use Rattle.definitions.specs.Departs.{Begins, DepartsFrom}
 use Rattle.definitions.specs.Dimacs.{importNetwork}
 use Rattle.definitions.specs.DimacsText.{Drawing, DrawingFits, dimacsText, judged, Front, frontText, FrontFits, judgedFront, Draws}
-use Rattle.definitions.specs.Promised.{AllAnswered}
-use Rattle.definitions.specs.Import.{importer, networkText, importText}
+use Rattle.definitions.specs.Promised.{AllAnswered, NetworkPrinted}
+use Rattle.definitions.specs.Import.{importer, importText}
 
 -- The numbers of the lines that stand whole at the front of the text pass: they give no cause for 3 to 8. Where the text departs from
 -- the form, these are lines before the departure.
@@ -59,12 +59,6 @@ PrintedRead =
     (input : List ℕ) (network : Network) → importNetwork input 3000 3000 1000 ≡ done network
     → readNetwork (importText input) 3000 3000 1000 ≡ done network
 
--- The text is that of an accepted network, which Read gives back.
-pub record NetworkPrinted (line : List ℕ) (network : Network) (text : List ℕ) : Type 0 where
-  pub printed : text ≡ networkText network
-  pub accepted : Accepted (network .relays) (network .lows) (network .highs) (network .states)
-  pub read : readNetwork text 3000 3000 1000 ≡ done network
-
--- Every input gets such a text, or the line of the first refusal met.
+-- Every input gets the text of an accepted network, or the line of the first refusal met.
 abbrev pub ImportAnswered : Type 0
 ImportAnswered = AllAnswered importer NetworkPrinted importText

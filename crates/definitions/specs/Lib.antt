@@ -9,12 +9,14 @@ pub mod Forests
 pub mod Sweep
 pub mod Route
 pub mod Over
+pub mod Rising
 pub mod Form
 pub mod Text
 pub mod Departs
 pub mod RefusalTwo
 pub mod DemandTwo
 pub mod Program
+pub mod Border
 pub mod Plan
 pub mod Keep
 pub mod DisjointRoutes
@@ -35,7 +37,14 @@ pub mod Dimacs
 pub mod DimacsText
 pub mod Import
 pub mod ImportPromise
+pub mod Reports
+pub mod Stands
+pub mod StandsPromise
+pub mod ReportSets
+pub mod ReportPromise
 pub mod Networks
+pub mod OpenedOperations
+pub mod OpenedPrograms
 pub mod Opened
 pub mod PExamples
 pub mod OtherExamples
@@ -44,4 +53,5 @@ pub mod StateExamples
 pub mod LastTwoExamples
 pub mod SureExamples
 pub mod ImportExamples
+pub mod ReportExamples
 pub mod Astray

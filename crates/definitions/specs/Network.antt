@@ -62,6 +62,10 @@ linkFault n lows highs i a b =
     (pick (someBelow (isPair lows highs a b) i) 7
     0))
 
+-- "in rising order of low, then high number" (document 02, #108), "rise by A and then B" (#113): the link a b comes below the link c d.
+unfoldable pub linkBelow : (a b c d : ℕ) → Bool
+linkBelow a b c d = ltb a c || (eqb a c && ltb b d)
+
 -- "then link by link 5, 6, 7", for `count` links from link i on; the place is the link's index.
 unfoldable pub linksCheck : (n : ℕ) (lows highs : List ℕ) (i count : ℕ) → Answer
 linksCheck n lows highs i zero = done []

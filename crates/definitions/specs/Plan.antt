@@ -8,7 +8,7 @@ use Rattle.definitions.specs.Lists.{total}
 use Rattle.definitions.specs.Forests.{marksOf, cutAnswer}
 use Rattle.definitions.specs.Route.{routesOf, routeAnswer}
 use Rattle.definitions.specs.Over.{oversOf}
-use Rattle.definitions.specs.Form.{bytes, Item, word, numeral, decimal, writeForm}
+use Rattle.definitions.specs.Form.{bytes, Item, word, numeral, spaced, writeForm}
 use Rattle.definitions.specs.Text.{Network, endForm}
 use Rattle.definitions.specs.Program.{Program, outcomeOf, printed, room, on, ownRead}
 
@@ -63,11 +63,6 @@ planner = record { form = wishForm; read = ownRead; answers = sheetAnswers }
 
 unfoldable pub planned : (input : List ℕ) → Outcome Sheet
 planned = outcomeOf planner (λ wish. sheetFor (getD wish 0 0) (getD wish 1 0) (getD wish 2 0))
-
--- Numbers, each behind a space.
-unfoldable pub spaced : (numbers : List ℕ) → List ℕ
-spaced [] = []
-spaced (x ∷ numbers) = bytes " " ++ (decimal x ++ spaced numbers)
 
 -- A line of numbers behind a word.
 unfoldable pub numbersLine : (name numbers : List ℕ) → List ℕ

@@ -7,7 +7,7 @@ use lib.ListN.{length, drop, replicate}
 use Rattle.definitions.specs.Outcome.{Outcome, refused, done, Answer, refuseIf, andThen, ifDone}
 use Rattle.definitions.specs.Lists.{overwrite}
 use Rattle.definitions.specs.Form.{bytes, Item, word, numeral, scanForm, onScan, writeForm}
-use Rattle.definitions.specs.Text.{Network, readNetwork}
+use Rattle.definitions.specs.Text.{Network, readNetwork, textOf}
 
 -- The form of the line in front, or no items where there is none; the reader of the text after it, which may go by the numbers of the
 -- line; and, for these numbers and what was read, the answers of the operations that are called, in turn.
@@ -53,6 +53,10 @@ on network operation = operation (network .relays) (network .lows) (network .hig
 -- The reader of a network text with a program's own lists, which are long enough for every network, whatever the line says.
 abbrev pub ownRead : (numbers text : List ℕ) → Outcome Network
 ownRead numbers text = readNetwork text 3000 3000 1000
+
+-- The text of a network.
+unfoldable pub networkText : (network : Network) → List ℕ
+networkText network = on network textOf
 
 -- A text that is to be printed into a lent list, for the C interface: 12 where the list is shorter than the text. The answer is
 -- the text's length.

@@ -7,8 +7,10 @@ use mathlib.Core.Logic.{_⊎_, _≢_}
 use mathlib.Core.Path.{_≡_}
 use lib.ListN.{take, drop}
 use Rattle.definitions.specs.Outcome.{refused, done, Answer}
+use Rattle.definitions.specs.Network.{Accepted}
 use Rattle.definitions.specs.Form.{departs, reads, scanForm, writeForm}
-use Rattle.definitions.specs.Program.{Program, refusedForm}
+use Rattle.definitions.specs.Text.{Network, readNetwork}
+use Rattle.definitions.specs.Program.{Program, refusedForm, networkText}
 
 -- A line with these numbers, and after it a text that is read as this thing.
 pub record Asked {A : Type 0} (program : Program A) (input numbers : List ℕ) (thing : A) : Type 0 where
@@ -59,3 +61,9 @@ AllAnswered program Holds output = (input : List ℕ) → Answered program Holds
 pub record Promised {A : Type 0} (program : Program A) (Holds : List ℕ → A → List ℕ → Type 0) (most : ℕ) (output : List ℕ → List ℕ) : Type 0 where
   pub answered : AllAnswered program Holds output
   pub fromFront : (n : ℕ) (input : List ℕ) → most ≤ n → output (take n input) ≡ output input
+
+-- What holds of the text of a program that makes a network: it is the text of an accepted one, which Read gives back.
+pub record NetworkPrinted (line : List ℕ) (network : Network) (text : List ℕ) : Type 0 where
+  pub printed : text ≡ networkText network
+  pub accepted : Accepted (network .relays) (network .lows) (network .highs) (network .states)
+  pub read : readNetwork text 3000 3000 1000 ≡ done network

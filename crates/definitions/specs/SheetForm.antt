@@ -4,7 +4,7 @@ use mathlib.Core.List.{List, [], _∷_, _++_}
 use lib.Dec.{eqb, ltb}
 use lib.ListN.{length, getD}
 use Rattle.definitions.specs.Outcome.{pick, Outcome, done, refuseIf}
-use Rattle.definitions.specs.Form.{bytes, Item, word, numeral, Scan, reads, byteAt, scanNumber, following, scanForm, onScan}
+use Rattle.definitions.specs.Form.{bytes, Item, word, numeral, Scan, byteAt, following, scanMore, scanForm, onScan}
 use Rattle.definitions.specs.Text.{endForm}
 use Rattle.definitions.specs.Plan.{sheetForm, keptForm, Sheet}
 
@@ -18,14 +18,6 @@ overFront = word (bytes "(over ") ∷ numeral ∷ []
 
 unfoldable pub lineEnd : List Item
 lineEnd = word (bytes ")\n") ∷ []
-
--- More numbers, each behind a space (byte 32), up to a byte that is no space; at most `most` of them.
-unfoldable pub scanMore : (text : List ℕ) (p most : ℕ) → Scan
-scanMore text p zero = reads [] p
-scanMore text p (suc most) =
-    pick (eqb (byteAt text p) 32)
-    (following (scanNumber text (p + 1)) λ q. scanMore text q most)
-    (reads [] p)
 
 -- A line of numbers: its front, then more numbers, then its end. Each number takes two bytes or more with its space, so there is no need
 -- to read more of them than the text has bytes.

@@ -6,7 +6,7 @@ use mathlib.Core.List.{List, [], _∷_}
 use mathlib.Core.Path.{refl}
 use Rattle.definitions.specs.Outcome.{done}
 use Rattle.definitions.specs.Form.{bytes}
-use Rattle.definitions.specs.Import.{networkText}
+use Rattle.definitions.specs.Program.{networkText}
 use Rattle.definitions.specs.Sure.{sureText}
 use Rattle.definitions.specs.Networks.{Example, AllHold, square, mesh, bare, withStates}
 use Rattle.definitions.specs.Opened.{opened}

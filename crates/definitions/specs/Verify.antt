@@ -1,27 +1,23 @@
 -- Document 02, #103, as a program: a line that tells where the border is, a network's text and a sheet's text come in, one line goes
 -- out. Assumes nothing.
-use Prim.Native.Nat.{ℕ, _+_, _*_, _/_, _%_}
-use mathlib.Core.List.{List, [], _∷_, _++_}
+use Prim.Native.Nat.{ℕ}
+use mathlib.Core.List.{List, [], _∷_}
 use lib.Dec.{eqb}
-use lib.ListN.{length, getD, take, drop}
+use lib.ListN.{getD, take, drop}
 use Rattle.definitions.specs.Outcome.{pick, Outcome, refused, done, Answer, andThen}
-use Rattle.definitions.specs.Form.{bytes, Item, word, numeral, writeForm}
+use Rattle.definitions.specs.Form.{bytes, Item}
 use Rattle.definitions.specs.Text.{Network, readNetwork}
 use Rattle.definitions.specs.Program.{Program, outcomeOf, printed, on, ownRead}
+use Rattle.definitions.specs.Border.{borderForm, borderOf, bordered}
 use Rattle.definitions.specs.SheetTest.{sheetAnswer}
 
--- The line in front, `(verify A B)`: how many bytes after it are the network's. A number of our texts has at most four digits, so the
--- last four digits of that count are a number of their own.
+-- The line in front, `(verify A B)`: how many bytes after it are the network's.
 unfoldable pub verifyForm : List Item
-verifyForm = word (bytes "(verify ") ∷ numeral ∷ word (bytes " ") ∷ numeral ∷ word (bytes ")\n") ∷ []
-
-unfoldable pub networkSize : (line : List ℕ) → ℕ
-networkSize line = 10000 * getD line 0 0 + getD line 1 0
+verifyForm = borderForm (bytes "(verify ")
 
 -- The input for a network's text and a sheet's, whatever stands in either.
 unfoldable pub verifyInput : (network sheet : List ℕ) → List ℕ
-verifyInput network sheet =
-    writeForm verifyForm (length network / 10000 ∷ length network % 10000 ∷ []) ++ (network ++ sheet)
+verifyInput = bordered verifyForm
 
 -- A network, and the text of a sheet.
 pub record Filed : Type 0 where
@@ -31,8 +27,8 @@ pub record Filed : Type 0 where
 -- The network is read from its own bytes; the rest is the sheet's, however it goes on.
 unfoldable pub filed : (line text : List ℕ) → Outcome Filed
 filed line text =
-    andThen (ownRead line (take (networkSize line) text)) λ network.
-    done (record { network = network; sheet = drop (networkSize line) text })
+    andThen (ownRead line (take (borderOf line) text)) λ network.
+    done (record { network = network; sheet = drop (borderOf line) text })
 
 -- What is said of the sheet, whose offsets count from its own first byte.
 abbrev pub sheetSaid : (both : Filed) → Answer

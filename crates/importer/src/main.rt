@@ -13,13 +13,14 @@ fn main() {
     }
     if !arrived.has_ended() {
         input::complain_of_length(
+            Feature::Import,
             arrived,
             b"importer: the input has more than 1000000 bytes\n",
         );
         return;
     }
     let count = arrived.size();
-    let mut output = convert::output();
+    let mut output = program::made::text_room();
     let size = convert::convert(&buffer[..count], &mut output);
     input::hand_over(Feature::Import, arrived, &output[..size]);
 }

@@ -10,9 +10,11 @@ use Rattle.definitions.specs.Keep.{keepText}
 use Rattle.definitions.specs.Verify.{verifyText}
 use Rattle.definitions.specs.Import.{importText}
 use Rattle.definitions.specs.Sure.{sureText}
+use Rattle.definitions.specs.ReportSets.{reportsText}
+use Rattle.definitions.specs.Stands.{standsText}
 use Rattle.input.specs.declared.output.Feature.{Feature}
 use Rattle.input.specs.declared.output.Feature.the-variants as asked
-use Rattle.input.specs.Whole.{Enough, Answered, answered}
+use Rattle.input.specs.Whole.{longInputRoom, setInputRoom, Enough, Answered, answered}
 
 -- The text of what is asked for.
 abbrev pub textOf : Feature → List ℕ → List ℕ
@@ -21,6 +23,18 @@ textOf asked.Keep = keepText
 textOf asked.Verify = verifyText
 textOf asked.Import = importText
 textOf asked.Sure = sureText
+textOf asked.Reports = reportsText
+textOf asked.Stands = standsText
+
+-- The bytes that the program takes in at most: one more than it answers, where its answer rests on the last byte.
+abbrev pub roomOf : Feature → ℕ
+roomOf asked.Plan = inputRoom
+roomOf asked.Keep = inputRoom
+roomOf asked.Verify = longInputRoom
+roomOf asked.Import = longInputRoom
+roomOf asked.Sure = inputRoom
+roomOf asked.Reports = setInputRoom
+roomOf asked.Stands = longInputRoom
 
 -- For some bytes, as many as arrived, the text of every input that begins with them, and has no more if it ended.
 pub record Due (text : List ℕ → List ℕ) (count : ℕ) (ended : Bool) (printed : List ℕ) : Type 0 where

@@ -12,6 +12,10 @@ use Rattle.definitions.specs.Program.{inputRoom}
 unfoldable pub longInputRoom : ℕ
 longInputRoom = 1000001
 
+-- The same for a set of reports, of which the longest that can be taken has 3,917,000 bytes after a line of at most 15.
+unfoldable pub setInputRoom : ℕ
+setInputRoom = 3917016
+
 -- An input that begins with the bytes read, and is just these if it ended.
 pub record Whole (bytes : List ℕ) (ended : Bool) (whole : List ℕ) : Type 0 where
   pub begins : take (length bytes) whole ≡ bytes

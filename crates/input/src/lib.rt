@@ -5,7 +5,7 @@ ghost use mathlib.Core.Path.{_≡_};
 ghost use lib.ListN.{length};
 ghost use Rattle.definitions.specs.Program.{inputRoom};
 ghost use Rattle.io.specs.Counts.{Counts};
-ghost use Rattle.input.specs.Whole.{longInputRoom};
+ghost use Rattle.input.specs.Whole.{longInputRoom, setInputRoom};
 
 mod arrived;
 mod output;
@@ -33,6 +33,16 @@ pub fn long_room() -> [u8; LONG_ROOM]
     ensures { λ r. ⌜ length r ≡ longInputRoom ⌝ }
 {
     [0u8; LONG_ROOM]
+}
+
+// Room for every set of reports that can be taken: with its line in front the longest has 3,917,015 bytes, and one more tells a longer
+// input.
+const SET_ROOM: usize = 3917016;
+
+pub fn set_room() -> [u8; SET_ROOM]
+    ensures { λ r. ⌜ length r ≡ setInputRoom ⌝ }
+{
+    [0u8; SET_ROOM]
 }
 
 // Reads until the buffer is full, the input ends or a read fails.

@@ -2,13 +2,15 @@
 use Prim.Native.Nat.{ℕ, zero, suc, max, _≤_, _<_}
 use mathlib.Core.List.{List, [], _∷_, _++_}
 use mathlib.Core.Path.{_≡_, _∙_, ap}
+use mathlib.Core.Bool.{true}
 use native.Mathlib.Decide.{decLe}
 use native.Mathlib.Omega.{arith}
 use lib.ListN.{length, getD, take}
 use lib.Seq.{take-suc}
-use Rattle.definitions.specs.Lists.{greatest}
+use Rattle.definitions.specs.Lists.{has, greatest}
+use Rattle.lists.specs.Members.{has-at, index-of}
 
-greatest-snoc : (l : List ℕ) (x : ℕ) → greatest (l ++ (x ∷ [])) ≡ max (greatest l) x
+pub greatest-snoc : (l : List ℕ) (x : ℕ) → greatest (l ++ (x ∷ [])) ≡ max (greatest l) x
 unfolding greatest
 greatest-snoc [] x = omega arith
 greatest-snoc (y ∷ l) x = omega (arith, greatest-snoc l x)
@@ -40,3 +42,10 @@ pub greatest-within : (l : List ℕ) (x : ℕ) → ((i : ℕ) → i < length l �
 unfolding greatest
 greatest-within [] x h = omega arith
 greatest-within (y ∷ l) x h = omega (arith, h 0 (omega arith), greatest-within l x (λ i k. h (suc i) (omega arith)))
+
+-- The same by membership.
+pub greatest-member : (l : List ℕ) (x : ℕ) → has l x ≡ true → x ≤ greatest l
+greatest-member l x h = let w = index-of l x h in omega (arith, greatest-above l (w .0) (w .1), w .2)
+
+pub members-within : (l : List ℕ) (bound : ℕ) → ((x : ℕ) → has l x ≡ true → x ≤ bound) → greatest l ≤ bound
+members-within l bound each = greatest-within l bound (λ i h. each (getD l i 0) (has-at l i h))

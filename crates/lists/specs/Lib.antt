@@ -7,8 +7,12 @@ pub mod Tests
 pub mod Outcomes
 pub mod Below
 pub mod Distinct
+pub mod Repeats
 pub mod Counting
 pub mod Ascending
+pub mod OneAscending
+pub mod AscendingSteps
+pub mod RisesFrom
 pub mod Positions
 pub mod Overwritten
 pub mod Parts
@@ -32,3 +36,7 @@ pub mod Stores
 pub mod Grids
 pub mod Mapped
 pub mod Steps
+pub mod RisingRows
+pub mod CodedLinks
+pub mod Cursors
+pub mod Merged

@@ -25,12 +25,15 @@ use Rattle.network.specs.declared.refusal.Refusal.the-variants.{
   States,
   Withdrawn,
   DrawingForm,
+  ReportForm,
+  ReportRelays,
+  ReportSerials,
 }
 use Rattle.network.proofs.refusal.Refusal.{the-type}
 
 -- The refusals without a place, as the enum counts them, from 0.
 abbrev placeless : List ℕ
-placeless = 2 ∷ 3 ∷ 7 ∷ 8 ∷ 9 ∷ 10 ∷ 11 ∷ 12 ∷ 14 ∷ 15 ∷ 16 ∷ []
+placeless = 2 ∷ 3 ∷ 7 ∷ 8 ∷ 9 ∷ 10 ∷ 11 ∷ 12 ∷ 14 ∷ 15 ∷ 16 ∷ 18 ∷ 19 ∷ 20 ∷ []
 
 pub no-place : (refusal : Refusal) → OneOf placeless (tagOf the-type refusal) → 0 ≡ refusalPlace refusal
 no-place (Wish place) keys = absurd (miss placeless 0 tt keys)
@@ -51,3 +54,6 @@ no-place SheetCount keys = refl
 no-place States keys = refl
 no-place Withdrawn keys = refl
 no-place (DrawingForm place) keys = absurd (miss placeless 17 tt keys)
+no-place ReportForm keys = refl
+no-place ReportRelays keys = refl
+no-place ReportSerials keys = refl

@@ -23,6 +23,9 @@ use Rattle.network.specs.declared.refusal.Refusal.the-variants.{
   States,
   Withdrawn,
   DrawingForm,
+  ReportForm,
+  ReportRelays,
+  ReportSerials,
 }
 use Rattle.network.specs.declared.pairs.Pair.{Pair}
 use Rattle.network.specs.declared.pairs.Pair.the-variants.{Number}
@@ -49,6 +52,9 @@ refusalNumber SheetCount = 15
 refusalNumber States = 16
 refusalNumber Withdrawn = 17
 refusalNumber (DrawingForm place) = 18
+refusalNumber ReportForm = 19
+refusalNumber ReportRelays = 20
+refusalNumber ReportSerials = 21
 
 -- Its place in the input: a byte offset for 1, 2, 14 and 18, a link index for 5 to 7, otherwise 0.
 abbrev pub refusalPlace : Refusal → ℕ
@@ -70,6 +76,9 @@ refusalPlace SheetCount = 0
 refusalPlace States = 0
 refusalPlace Withdrawn = 0
 refusalPlace (DrawingForm place) = place
+refusalPlace ReportForm = 0
+refusalPlace ReportRelays = 0
+refusalPlace ReportSerials = 0
 
 -- "Every refusal gives its number and a place in the input."
 abbrev pub refusalOf : {A : Type 0} → Refusal → Outcome A

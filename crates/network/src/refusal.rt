@@ -2,7 +2,7 @@
 ghost use mathlib.Core.Path.{_≡_};
 ghost use Rattle.network.specs.Answers.{refusalNumber, refusalPlace};
 
-// Refusals 1 to 18, in this order; the field is the place in the input where it is not always 0.
+// Refusals 1 to 21, in this order; the field is the place in the input where it is not always 0.
 pub enum Refusal {
     Wish(usize),
     Form(usize),
@@ -22,6 +22,9 @@ pub enum Refusal {
     States,
     Withdrawn,
     DrawingForm(usize),
+    ReportForm,
+    ReportRelays,
+    ReportSerials,
 }
 
 // The number of a refusal, as the documents count them.
@@ -47,6 +50,9 @@ pub fn refusal_number(refusal: Refusal) -> u16
         Refusal::States => 16,
         Refusal::Withdrawn => 17,
         Refusal::DrawingForm(_) => 18,
+        Refusal::ReportForm => 19,
+        Refusal::ReportRelays => 20,
+        Refusal::ReportSerials => 21,
     }
 }
 

@@ -1,5 +1,5 @@
-// The C interface: each operation of documents 01 and 02 as a C function; what programs print is in `printed`. What a code and the two
-// entries of `answer` mean is said in specs/Reported.antt, and for C programs in include/nolkisei.h.
+// The C interface: each operation of documents 01 and 02 as a C function; link reports are in `link_reports`, and what programs print is in
+// `printed`. What a code and the two entries of `answer` mean is said in specs/Reported.antt, and for C programs in include/nolkisei.h.
 ghost use mathlib.Core.Path.{_≡_};
 ghost use Rattle.definitions.specs.Network.{pairAnswer, tableCheck};
 ghost use Rattle.definitions.specs.Text.{readAnswer, lowsAfter, highsAfter, statesAfter, writeAnswer, bufferAfter};
@@ -11,6 +11,7 @@ ghost use Rattle.definitions.specs.Route.{routeAnswer, countsAfter, routeRelays
 ghost use Rattle.definitions.specs.SheetTest.{sheetAnswer};
 ghost use Rattle.nolkisei.specs.Reported.{reported};
 
+mod link_reports;
 mod printed;
 mod report;
 

@@ -10,10 +10,10 @@ use Rattle.definitions.specs.Lists.{joinAll, AllBelow}
 use Rattle.definitions.specs.Forests.{markOf, forestsOf, marksOf}
 use Rattle.definitions.specs.Route.{routesOf}
 use Rattle.definitions.specs.Over.{oversOf}
-use Rattle.definitions.specs.Form.{bytes, decimal, writeForm}
+use Rattle.definitions.specs.Form.{bytes, decimal, writeForm, spaced}
 use Rattle.definitions.specs.Text.{Network, endForm}
 use Rattle.definitions.specs.Program.{room}
-use Rattle.definitions.specs.Plan.{sheetForm, keptForm, Sheet, outputRoom, planned, spaced, numbersLine, routeLines, sheetText, planText}
+use Rattle.definitions.specs.Plan.{sheetForm, keptForm, Sheet, outputRoom, planned, numbersLine, routeLines, sheetText, planText}
 use Rattle.lists.specs.Counting.{count-length}
 use Rattle.theory.specs.Accepted.{accepted}
 use Rattle.theory.specs.ForestBound.{forests-length}

@@ -8,10 +8,10 @@ use native.Mathlib.Omega.{arith}
 use lib.ListN.{length, getD, take, drop, length-append, length-take, drop-of-length-le}
 use lib.Seq.{slice, slice-cons, drop-drop}
 use Rattle.definitions.specs.Demand.{cutUp}
-use Rattle.definitions.specs.Form.{bytes, word, numeral, decimal, writeForm}
+use Rattle.definitions.specs.Form.{bytes, word, numeral, decimal, writeForm, spaced}
 use Rattle.definitions.specs.Lists.{total}
 use Rattle.definitions.specs.Text.{endForm}
-use Rattle.definitions.specs.Plan.{sheetForm, keptForm, spaced, numbersLine, routeLines}
+use Rattle.definitions.specs.Plan.{sheetForm, keptForm, numbersLine, routeLines}
 use Rattle.lists.specs.Front.{drop-take}
 
 -- The wish, the routes with their links, the count of kept links, and the end.

@@ -1,4 +1,4 @@
-// Parts of lines: a number and the word behind it is read, a line of one number or of three is printed.
+// Parts of lines: a number and the word behind it and a line of one number are read, a line of one number or of three is printed.
 ghost use mathlib.Core.Bool.{true};
 ghost use mathlib.Core.List.{[], _∷_};
 ghost use mathlib.Core.Path.{_≡_};
@@ -30,6 +30,20 @@ pub fn number_word(text: &[u8], letters: &[u8], at: usize) -> NumberScan
 }
 
 // A line of one number: two words with the number between them.
+pub fn single_line(text: &[u8], front: &[u8], back: &[u8], at: usize) -> NumberScan
+    requires { ⌜ (noZero (now front) ≡ true) × (noZero (now back) ≡ true) ⌝ }
+    ensures { λ r. ⌜ numberGives r ≡ scanForm (now (text .entry)) (singleForm (now (front .entry)) (now (back .entry))) at ⌝ }
+{
+    match scan::word_number(text, front, at) {
+        NumberScan::Departs(p) => NumberScan::Departs(p),
+        NumberScan::Reads(x, p) => match scan::word(text, back, p) {
+            WordScan::Departs(q) => NumberScan::Departs(q),
+            WordScan::Reads(q) => NumberScan::Reads(x, q),
+        },
+    }
+}
+
+// The same, printed.
 pub fn put_single(output: &mut [u8], at: usize, front: &[u8], x: usize, back: &[u8]) -> usize
     requires { ⌜ at + length (writeForm (singleForm (now front) (now back)) (x ∷ [])) ≤ length (now output) ⌝ }
     ensures { λ r. ⌜ Put (now (output .entry)) at

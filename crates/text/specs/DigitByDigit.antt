@@ -8,7 +8,7 @@ use native.Mathlib.Omega.{arith}
 use borrow.Author.Tests.{eq-eqb, ne-eqb}
 use Rattle.definitions.specs.Lists.{outside}
 use Rattle.lists.specs.Ranges.{inside, below}
-use Rattle.definitions.specs.Form.{departs, reads, byteAt, scanDigits, scanNumber}
+use Rattle.definitions.specs.Form.{departs, reads, byteAt, scanDigits, scanDecimal}
 
 -- A byte that is no digit ends the number.
 pub digits-end : (text : List ℕ) (x p more : ℕ) → outside 48 57 (byteAt text p) ≡ true → scanDigits text x p more ≡ reads (x ∷ []) p
@@ -35,32 +35,33 @@ digits-step text x p (suc more) h e =
     let m : suc more - 1 ≡ more = omega arith in
     rw (e, m)
 
--- After `more` digits that may yet come, a number has as many digits fewer than four.
-pub digits-bound : (more x d : ℕ) → 0 < more → more ≤ 3 → x < 10 ^ (4 - more) → d ≤ 9 → x * 10 + d < 10 ^ (4 - (more - 1))
-digits-bound zero x d l h b e = absurd (omega arith)
-digits-bound (suc zero) x d l h b e = omega arith
-digits-bound (suc (suc zero)) x d l h b e = omega arith
-digits-bound (suc (suc (suc zero))) x d l h b e = omega arith
-digits-bound (suc (suc (suc (suc more)))) x d l h b e = absurd (omega arith)
+power-step : (k : ℕ) → 10 ^ suc k ≡ 10 * 10 ^ k
+power-step k = omega arith
 
-pub digits-room : (more x : ℕ) → 0 < more → more ≤ 3 → x < 10 ^ (4 - more) → x < 1000
-digits-room zero x l h b = absurd (omega arith)
-digits-room (suc zero) x l h b = omega arith
-digits-room (suc (suc zero)) x l h b = omega arith
-digits-room (suc (suc (suc zero))) x l h b = omega arith
-digits-room (suc (suc (suc (suc more)))) x l h b = absurd (omega arith)
+power-room : (j k : ℕ) → j ≤ k → 10 ^ j ≤ 10 ^ k
+power-room zero zero h = omega arith
+power-room zero (suc k) h = omega (arith, power-step k, power-room zero k (omega arith))
+power-room (suc j) zero h = absurd (omega arith)
+power-room (suc j) (suc k) h = omega (arith, power-step k, power-step j, power-room j k (omega arith))
 
--- "no zero in front except in `0` itself"
-pub number-zero : (text : List ℕ) (p : ℕ) → byteAt text p ≡ 48 → scanNumber text p ≡ reads (0 ∷ []) (p + 1)
-unfolding scanNumber
-number-zero text p e = rw (eq-eqb _ _ e)
+-- Of at most `most` digits behind the first, `more` may yet come: the number has as many digits fewer than `most` + 1.
+pub digits-bound : (most more x d : ℕ) → 0 < more → more ≤ most → x < 10 ^ (suc most - more) → d ≤ 9
+    → x * 10 + d < 10 ^ (suc most - (more - 1))
+digits-bound most more x d l h b e =
+    let s : suc most - (more - 1) ≡ suc (suc most - more) = omega arith in
+    rw s (omega (arith, power-step (suc most - more), b))
 
-pub number-departs : (text : List ℕ) (p : ℕ) → (byteAt text p ≡ 48 → ⊥) → outside 49 57 (byteAt text p) ≡ true
-    → scanNumber text p ≡ departs p
-unfolding scanNumber
-number-departs text p n e = rw (ne-eqb _ _ n, e)
+pub digits-room : (most more x : ℕ) → 0 < more → more ≤ most → x < 10 ^ (suc most - more) → x < 10 ^ most
+digits-room most more x l h b = omega (arith, b, power-room (suc most - more) most (omega arith))
 
-pub number-digits : (text : List ℕ) (p : ℕ) → 49 ≤ byteAt text p → byteAt text p ≤ 57
-    → scanNumber text p ≡ scanDigits text (byteAt text p - 48) (p + 1) 3
-unfolding scanNumber
-number-digits text p l h = rw (ne-eqb (byteAt text p) 48 (λ e. omega arith), inside 49 57 _ l h)
+-- "no zero in front except in `0` itself", for a number of at most `more` + 1 digits.
+pub decimal-zero : (text : List ℕ) (more p : ℕ) → byteAt text p ≡ 48 → scanDecimal text more p ≡ reads (0 ∷ []) (p + 1)
+decimal-zero text more p e = rw (eq-eqb _ _ e)
+
+pub decimal-departs : (text : List ℕ) (more p : ℕ) → (byteAt text p ≡ 48 → ⊥) → outside 49 57 (byteAt text p) ≡ true
+    → scanDecimal text more p ≡ departs p
+decimal-departs text more p n e = rw (ne-eqb _ _ n, e)
+
+pub decimal-digits : (text : List ℕ) (more p : ℕ) → 49 ≤ byteAt text p → byteAt text p ≤ 57
+    → scanDecimal text more p ≡ scanDigits text (byteAt text p - 48) (p + 1) more
+decimal-digits text more p l h = rw (ne-eqb (byteAt text p) 48 (λ e. omega arith), inside 49 57 _ l h)

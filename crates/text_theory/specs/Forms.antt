@@ -88,7 +88,7 @@ good-no-zero behind [] e = absurd (false≢true e)
 good-no-zero behind (b ∷ w) e = and-eq-true-iff (noZero (b ∷ w)) (not behind || outside 48 57 b) .0 e .0
 
 -- A word that stands in the text is read, and a word that was read stands there.
-word-read : (text w : List ℕ) (p q : ℕ) → Part text p w q → scanWord text w p ≡ reads [] q
+pub word-read : (text w : List ℕ) (p q : ℕ) → Part text p w q → scanWord text w p ≡ reads [] q
 unfolding scanWord byteAt
 word-read text [] p q part =
     let e : p ≡ q = omega (arith, part .reaches) in
@@ -171,7 +171,7 @@ pub record Followed (scan : Scan) (next : ℕ → Scan) (values : List ℕ) (q :
   pub second : next behind ≡ reads rest q
   pub joined : values ≡ front ++ rest
 
-with-front-reads : (front : List ℕ) (scan : Scan) (values : List ℕ) (q : ℕ) → withFront front scan ≡ reads values q
+pub with-front-reads : (front : List ℕ) (scan : Scan) (values : List ℕ) (q : ℕ) → withFront front scan ≡ reads values q
     → (rest : List ℕ) × (scan ≡ reads rest q) × (values ≡ front ++ rest)
 unfolding withFront
 with-front-reads front (departs p) values q e = let z : _≡_ {A = ℕ} 0 1 = cc in absurd (omega arith)

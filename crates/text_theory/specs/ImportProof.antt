@@ -1,28 +1,24 @@
 -- What the import promises, proved for every room. Assumes nothing.
 use Prim.Native.Nat.{ℕ, _≤_}
-use mathlib.Core.Bool.{false, _||_}
 use mathlib.Core.List.{List, []}
 use mathlib.Core.Logic.{_⊎_, inl, inr, _≢_}
 use mathlib.Core.Path.{_≡_, refl, sym, _∙_, ap}
 use native.Mathlib.Omega.{arith}
-use lib.Dec.{ltb}
 use lib.ListN.{length, drop, replicate}
-use borrow.Author.Tests.{le-ltb}
 use Rattle.definitions.specs.Outcome.{done}
 use Rattle.definitions.specs.Network.{Accepted}
-use Rattle.definitions.specs.Text.{Network, sized, readNetwork}
+use Rattle.definitions.specs.Text.{Network, sized}
 use Rattle.definitions.specs.Dimacs.{importNetwork}
 use Rattle.definitions.specs.DimacsText.{Drawing, DrawingFits, dimacsText, judgedEdges, judged, Draws}
-use Rattle.definitions.specs.Program.{printed}
-use Rattle.definitions.specs.Import.{importer, imported, networkText, importText}
-use Rattle.definitions.specs.ImportPromise.{ImportedAs, ImportPromise, PrintedRead, NetworkPrinted, ImportAnswered}
-use Rattle.lists.specs.Outcomes.{refuse-not}
+use Rattle.definitions.specs.Program.{printed, networkText}
+use Rattle.definitions.specs.Import.{importer, imported, importText}
+use Rattle.definitions.specs.ImportPromise.{ImportedAs, ImportPromise, PrintedRead, ImportAnswered}
+use Rattle.definitions.specs.Promised.{NetworkPrinted}
 use Rattle.lists.specs.RefusedWithin.{as-more}
-use Rattle.theory.specs.Accepted.{accepted}
 use Rattle.text_theory.specs.LinkByLink.{accepted-faultless, faultless-accepted}
 use Rattle.text_theory.specs.OutByOut.{all-serve}
 use Rattle.text_theory.specs.Sized.{sized-done}
-use Rattle.text_theory.specs.RoundTrip.{read-written}
+use Rattle.text_theory.specs.NetworkPrinted.{own-read, network-printed}
 use Rattle.text_theory.specs.DimacsRoundTrip.{drawing-read}
 use Rattle.text_theory.specs.JudgedEdges.{drawn, judged-good, good-judged, draws-many}
 use Rattle.text_theory.specs.DimacsRead.{import-written}
@@ -90,18 +86,6 @@ pub import-outcome : (input : List ℕ) → imported input ≡ importNetwork inp
 unfolding imported
 import-outcome input = outcome-read (importer .read) input
 
--- The text of an accepted network is read back with the program's own lists.
-own-read : (network : Network) → Accepted (network .relays) (network .lows) (network .highs) (network .states)
-    → readNetwork (networkText network) 3000 3000 1000 ≡ done network
-unfolding networkText
-own-read network check =
-    let n = network .relays in
-    let m = length (network .lows) in
-    let table = accepted n (network .lows) (network .highs) (network .states) check in
-    let full = ltb 3000 m || (ltb 3000 m || ltb 1000 n) in
-    let some : full ≡ false = rw (le-ltb 3000 m (table .short), le-ltb 1000 n (table .few)) in
-    read-written n (network .lows) (network .highs) (network .states) check 3000 3000 1000 ∙ refuse-not full 8 0 (done network) some
-
 -- The printed text of what was imported is read back.
 pub printed-read : PrintedRead
 unfolding importText printed
@@ -117,7 +101,7 @@ import-answered input =
     (rw (import-outcome input) (import-within input 3000 3000 1000 (omega arith) (omega arith) (omega arith))))
     (λ line network asked _.
     let check = imported-as (drop (asked .behind) input) 3000 3000 1000 network (asked .read) .accepted in
-    record { printed = refl; accepted = check; read = own-read network check })
+    network-printed line network check)
   where
     go : (number : ℕ) → (number ≤ 7) ⊎ (number ≡ 18) → (number ≢ 8) × (number ≢ 12)
     go number (inl few) = (λ e. omega arith, λ e. omega arith)

@@ -10,9 +10,9 @@ use lib.ListN.{length, take, drop, length-drop, take-append-drop}
 use lib.Seq.{drop-drop, length-take-le}
 use borrow.Author.Tests.{eqb-true}
 use Rattle.definitions.specs.Outcome.{pick}
-use Rattle.definitions.specs.Form.{bytes, Item, Scan, departs, reads, byteAt, scanNumber, following, scanForm, decimal, writeForm, Fits}
-use Rattle.definitions.specs.Plan.{spaced, numbersLine}
-use Rattle.definitions.specs.SheetForm.{routeFront, overFront, lineEnd, scanMore, scanNumbers}
+use Rattle.definitions.specs.Form.{bytes, Item, Scan, departs, reads, byteAt, scanNumber, following, scanForm, decimal, writeForm, Fits, spaced, scanMore}
+use Rattle.definitions.specs.Plan.{numbersLine}
+use Rattle.definitions.specs.SheetForm.{routeFront, overFront, lineEnd, scanNumbers}
 use Rattle.definitions.specs.Lists.{AllBelow}
 use Rattle.lists.specs.Parts.{Part, part-empty, part-cons, part-append}
 use Rattle.text_theory.specs.Numbers.{read-number, byte-within}

@@ -10,16 +10,16 @@ use lib.ListN.{length, length-append}
 use borrow.Author.Tests.{eqb-true}
 use Rattle.definitions.specs.Outcome.{pick}
 use Rattle.definitions.specs.Lists.{outside, AllBelow}
-use Rattle.definitions.specs.Form.{bytes, Item, reads, byteAt, scanNumber, withFront, following, scanForm, decimal, writeForm, Fits}
-use Rattle.definitions.specs.Plan.{spaced, numbersLine}
-use Rattle.definitions.specs.SheetForm.{routeFront, overFront, lineEnd, scanMore, scanNumbers}
+use Rattle.definitions.specs.Form.{bytes, Item, reads, byteAt, scanNumber, withFront, following, scanForm, decimal, writeForm, Fits, spaced, scanMore}
+use Rattle.definitions.specs.Plan.{numbersLine}
+use Rattle.definitions.specs.SheetForm.{routeFront, overFront, lineEnd, scanNumbers}
 use Rattle.lists.specs.Parts.{Part, part-empty, part-cons, part-head, part-tail, part-append, part-first, part-second}
 use Rattle.text_theory.specs.Numbers.{number-read, read-number, byte-within}
 use Rattle.text_theory.specs.Forms.{wellFormed, wellFormedBehind, goodWord, noZero, endsInNumber, Line, following-reads, scans-written, written-scanned}
 use Rattle.text_theory.specs.NetworkLines.{line-read, read-line}
 
 -- Where numbers behind spaces begin, and a bracket ends them, stands no digit.
-spaced-clear : (numbers text : List ℕ) (p q : ℕ) → byteAt text q ≡ 41 → Part text p (spaced numbers) q
+pub spaced-clear : (numbers text : List ℕ) (p q : ℕ) → byteAt text q ≡ 41 → Part text p (spaced numbers) q
     → outside 48 57 (byteAt text p) ≡ true
 unfolding spaced byteAt outside
 spaced-clear [] text p q stops part =
@@ -29,13 +29,13 @@ spaced-clear (x ∷ numbers) text p q stops part =
     rw (part-head text (decimal x ++ spaced numbers) 32 p q part)
 
 -- There are no more numbers than bytes.
-spaced-length : (numbers : List ℕ) → length numbers ≤ length (spaced numbers)
+pub spaced-length : (numbers : List ℕ) → length numbers ≤ length (spaced numbers)
 unfolding spaced
 spaced-length [] = omega arith
 spaced-length (x ∷ numbers) = omega (arith, length-append (decimal x) (spaced numbers), spaced-length numbers)
 
 -- Numbers behind spaces that a bracket ends are read, all of them.
-more-read : (numbers text : List ℕ) (p q most : ℕ) → AllBelow 10000 numbers → length numbers ≤ most → byteAt text q ≡ 41
+pub more-read : (numbers text : List ℕ) (p q most : ℕ) → AllBelow 10000 numbers → length numbers ≤ most → byteAt text q ≡ 41
     → Part text p (spaced numbers) q → scanMore text p most ≡ reads numbers q
 unfolding scanMore spaced following withFront byteAt
 more-read [] text p q zero small few stops part =

@@ -1,6 +1,6 @@
 -- Reading a number and writing it are each other's inverse, over any number of digits.
 -- Assumes nothing.
-use Prim.Native.Nat.{ℕ, zero, suc, _+_, _-_, _*_, _/_, _%_, _≤_, _<_}
+use Prim.Native.Nat.{ℕ, zero, suc, _+_, _-_, _*_, _/_, _%_, _^_, _≤_, _<_}
 use mathlib.Core.Bool.{Bool, true, false}
 use mathlib.Core.List.{List, [], _∷_, _++_, append-assoc, append-nil}
 use mathlib.Core.Path.{_≡_, refl, sym, _∙_, ap}
@@ -10,7 +10,7 @@ use lib.ListN.{length, getD, List·getD-eq-default}
 use borrow.Author.Tests.{ne-eqb, eqb-true, ltb-true, ltb-false}
 use Rattle.definitions.specs.Outcome.{pick}
 use Rattle.definitions.specs.Lists.{outside}
-use Rattle.definitions.specs.Form.{departs, reads, byteAt, scanDigits, scanNumber, decimal}
+use Rattle.definitions.specs.Form.{departs, reads, byteAt, scanDigits, scanDecimal, scanNumber, decimal}
 use Rattle.lists.specs.Parts.{Part, part-empty, part-cons, part-head, part-tail}
 use Rattle.lists.specs.Ranges.{inside, inside-range}
 use Rattle.text_theory.specs.Decimal.{
@@ -137,39 +137,39 @@ read-digits text x p (suc more) values q within e =
           value = rest .value;
         }
 
--- A number that is followed by no digit is read whole.
-pub number-read : (text : List ℕ) (x p q : ℕ) → x < 10000 → Part text p (decimal x) q
-    → outside 48 57 (byteAt text q) ≡ true → scanNumber text p ≡ reads (x ∷ []) q
-unfolding scanNumber byteAt
-number-read text zero p q small part stops =
+-- A number of at most `more` + 1 digits that is followed by no digit is read whole.
+pub decimal-read : (more : ℕ) (text : List ℕ) (x p q : ℕ) → x < 10 ^ suc more → Part text p (decimal x) q
+    → outside 48 57 (byteAt text q) ≡ true → scanDecimal text more p ≡ reads (x ∷ []) q
+unfolding byteAt
+decimal-read more text zero p q small part stops =
     let zeroPart : Part text p (48 ∷ []) q = rw (decimal-digit 0 (omega arith)) at part in
     rw (part-head text [] 48 p q zeroPart) (ap (reads (0 ∷ [])) (sym (zeroPart .reaches)))
-number-read text (suc y) p q small part stops = go (decimal (suc y)) refl part
+decimal-read more text (suc y) p q small part stops = go (decimal (suc y)) refl part
   where
-    go : (d : List ℕ) → decimal (suc y) ≡ d → Part text p d q → scanNumber text p ≡ reads (suc y ∷ []) q
+    go : (d : List ℕ) → decimal (suc y) ≡ d → Part text p d q → scanDecimal text more p ≡ reads (suc y ∷ []) q
     go [] e part = absurd (omega (arith, decimal-not-empty (suc y), ap length e))
     go (b ∷ s) e part =
         let digits : Digits (b ∷ s) = rw e at (decimal-digits (suc y)) in
         let notZero : b ≡ 48 → ⊥ =
         λ z. omega (arith, decimal-zero (suc y) (ap (λ (l : List ℕ). getD l 0 0) e ∙ z)) in
         let first : 49 ≤ b = omega arith in
-        let few : length s ≤ 3 = omega (arith, length-decimal-at-most 3 (suc y) small, ap length e) in
+        let few : length s ≤ more = omega (arith, length-decimal-at-most more (suc y) small, ap length e) in
         let value : valueFrom (b - 48) s ≡ suc y = value-first b s ∙ ap (valueFrom 0) (sym e) ∙ value-decimal (suc y) in
         rw (part-head text s b p q part, ne-eqb b 48 notZero, inside 49 57 b first (digits .1))
-        (digits-read text s (b - 48) (p + 1) q 3 (part-tail text s b p q part) (digits .2) few stops
+        (digits-read text s (b - 48) (p + 1) q more (part-tail text s b p q part) (digits .2) few stops
         ∙ rw value)
 
--- What was read is a number below 10,000, and it stands there as it is written.
-pub record NumberRead (text : List ℕ) (p : ℕ) (values : List ℕ) (q : ℕ) : Type 0 where
+-- What was read is a number below `bound`, and it stands there as it is written.
+pub record NumberWithin (bound : ℕ) (text : List ℕ) (p : ℕ) (values : List ℕ) (q : ℕ) : Type 0 where
   pub number : ℕ
   pub value : values ≡ number ∷ []
-  pub small : number < 10000
+  pub small : number < bound
   pub part : Part text p (decimal number) q
 
-pub read-number : (text : List ℕ) (p : ℕ) (values : List ℕ) (q : ℕ) → scanNumber text p ≡ reads values q
-    → NumberRead text p values q
-unfolding scanNumber byteAt
-read-number text p values q e = zeroFirst (eqb (byteAt text p) 48) refl e
+pub read-decimal : (more : ℕ) (text : List ℕ) (p : ℕ) (values : List ℕ) (q : ℕ) → scanDecimal text more p ≡ reads values q
+    → NumberWithin (10 ^ suc more) text p values q
+unfolding byteAt
+read-decimal more text p values q e = zeroFirst (eqb (byteAt text p) 48) refl e
   where
     written : (s : List ℕ) → (49 ≤ byteAt text p) × (byteAt text p ≤ 57) → Digits s
         → decimal (valueFrom (byteAt text p - 48) s) ≡ byteAt text p ∷ s
@@ -178,16 +178,17 @@ read-number text p values q e = zeroFirst (eqb (byteAt text p) 48) refl e
         (decimal-of-digits (byteAt text p) s (range .0) (omega arith, range .1, digits))
 
     digitFirst : (b : Bool) → outside 49 57 (byteAt text p) ≡ b
-        → pick b (departs p) (scanDigits text (byteAt text p - 48) (p + 1) 3) ≡ reads values q → NumberRead text p values q
+        → pick b (departs p) (scanDigits text (byteAt text p - 48) (p + 1) more) ≡ reads values q
+        → NumberWithin (10 ^ suc more) text p values q
     digitFirst true test e = let z : _≡_ {A = ℕ} 0 1 = cc in absurd (omega arith)
     digitFirst false test e =
         let range = inside-range 49 57 (byteAt text p) test in
         let before : p < length text = byte-within text p (omega arith) in
-        let rest = read-digits text (byteAt text p - 48) (p + 1) 3 values q (omega arith) e in
+        let rest = read-digits text (byteAt text p - 48) (p + 1) more values q (omega arith) e in
         record {
           number = valueFrom (byteAt text p - 48) (rest .digits);
           value = rest .value;
-          small = decimal-below 3 _ (rw (written (rest .digits) range (rest .areDigits)) (omega (arith, rest .few)));
+          small = decimal-below more _ (rw (written (rest .digits) range (rest .areDigits)) (omega (arith, rest .few)));
           part =
               rw (written (rest .digits) range (rest .areDigits))
               (part-cons text (rest .digits) p q before (rest .part));
@@ -195,16 +196,33 @@ read-number text p values q e = zeroFirst (eqb (byteAt text p) 48) refl e
 
     zeroFirst : (b : Bool) → eqb (byteAt text p) 48 ≡ b
         → pick b (reads (0 ∷ []) (p + 1))
-        (pick (outside 49 57 (byteAt text p)) (departs p) (scanDigits text (byteAt text p - 48) (p + 1) 3)) ≡ reads values q
-        → NumberRead text p values q
+        (pick (outside 49 57 (byteAt text p)) (departs p) (scanDigits text (byteAt text p - 48) (p + 1) more)) ≡ reads values q
+        → NumberWithin (10 ^ suc more) text p values q
     zeroFirst true test e =
         let byte : byteAt text p ≡ 48 = eqb-true (byteAt text p) 48 test in
         let before : p < length text = byte-within text p (omega arith) in
         let same : p + 1 ≡ q = cc in
+        let part : Part text p (decimal 0) q =
+        rw (← same, decimal-digit 0 (omega arith), ← byte)
+        (part-cons text [] p (p + 1) before (part-empty text (p + 1) (omega arith))) in
         record {
           number = 0;
           value = cc;
-          small = omega arith;
-          part = rw (← same, decimal-digit 0 (omega arith), ← byte) (part-cons text [] p (p + 1) before (part-empty text (p + 1) (omega arith)));
+          small = decimal-below more 0 (rw (decimal-digit 0 (omega arith)) (omega arith));
+          part = part;
         }
     zeroFirst false test e = digitFirst (outside 49 57 (byteAt text p)) refl e
+
+-- A number of one to four digits.
+pub number-read : (text : List ℕ) (x p q : ℕ) → x < 10000 → Part text p (decimal x) q
+    → outside 48 57 (byteAt text q) ≡ true → scanNumber text p ≡ reads (x ∷ []) q
+unfolding scanNumber
+number-read text x p q small part stops = decimal-read 3 text x p q small part stops
+
+abbrev pub NumberRead : (text : List ℕ) (p : ℕ) (values : List ℕ) (q : ℕ) → Type 0
+NumberRead text p values q = NumberWithin 10000 text p values q
+
+pub read-number : (text : List ℕ) (p : ℕ) (values : List ℕ) (q : ℕ) → scanNumber text p ≡ reads values q
+    → NumberRead text p values q
+unfolding scanNumber
+read-number text p values q e = read-decimal 3 text p values q e

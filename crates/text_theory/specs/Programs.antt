@@ -160,15 +160,17 @@ module _ {A B : Type 0} (program : Program A) (value : List ℕ → A → B) (in
             holds = subst (λ r. Holds (s .numbers) (s .thing) (textOf r)) (s .valueIs) (holds (s .numbers) (s .thing) (s .asked) (s .passed));
           })
 
--- A program with no line in front and no work behind its reader: its outcome is the reader's.
+-- A program with no work behind its reader: what is read stands.
+pub read-alone : {A : Type 0} (outcome : Outcome A) → andThen outcome (λ thing. passing [] thing) ≡ outcome
+unfolding andThen passing
+read-alone (refused number place) = refl
+read-alone (done thing) = refl
+
+-- With no line in front either, its outcome is the reader's.
 pub outcome-read : {A : Type 0} (read : List ℕ → List ℕ → Outcome A) (input : List ℕ)
     → outcomeOf (record { form = []; read = read; answers = λ _ _. [] }) (λ _ thing. thing) input ≡ read [] input
-unfolding outcomeOf passing scanForm onScan andThen
-outcome-read {A} read input = go (read [] input)
-  where
-    go : (outcome : Outcome A) → andThen outcome done ≡ outcome
-    go (refused number place) = refl
-    go (done thing) = refl
+unfolding outcomeOf scanForm onScan
+outcome-read read input = read-alone (read [] input)
 
 -- The reader looks at so many bytes at most.
 abbrev pub LooksAt : {A : Type 0} (read : List ℕ → List ℕ → Outcome A) (size : ℕ) → Type 0

@@ -22,10 +22,11 @@ use Rattle.definitions.specs.Form.{
   following,
   scanForm,
   onScan,
+  scanMore,
 }
 use Rattle.definitions.specs.Text.{endForm}
 use Rattle.definitions.specs.Plan.{sheetForm, keptForm, Sheet}
-use Rattle.definitions.specs.SheetForm.{routeFront, overFront, lineEnd, scanMore, scanNumbers, readKept, readRoutes, readSheet}
+use Rattle.definitions.specs.SheetForm.{routeFront, overFront, lineEnd, scanNumbers, readKept, readRoutes, readSheet}
 use Rattle.text_theory.specs.Numbers.{past-end}
 use Rattle.text_theory.specs.Looks.{offset, Alike, Looks, number-looks, offset-front, form-looks}
 use Rattle.text_theory.specs.SameReadings.{Agree, looks-agree, following-agree, on-scan-agree, end-agrees}

@@ -8,6 +8,10 @@ pub mod Accepted
 pub mod Places
 pub mod Left
 pub mod Links
+pub mod RisingLinks
+pub mod ReportedTable
+pub mod ReportOrder
+pub mod ReportPlaces
 pub mod ForestNumbers
 pub mod Arranged
 pub mod LeftEntries

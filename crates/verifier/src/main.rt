@@ -11,6 +11,7 @@ fn main() {
     }
     if !arrived.has_ended() {
         input::complain_of_length(
+            Feature::Verify,
             arrived,
             b"verifier: the input has more than 1000000 bytes\n",
         );

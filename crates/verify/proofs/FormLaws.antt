@@ -9,11 +9,11 @@ use lib.Dec.{eqb}
 use lib.ListN.{length}
 use borrow.Author.Tests.{eq-eqb, ne-eqb}
 use Rattle.definitions.specs.Outcome.{pick}
-use Rattle.definitions.specs.Form.{bytes, Item, word, numeral, Scan, departs, reads, byteAt, scanWord, scanNumber, withFront, following, scanForm}
-use Rattle.definitions.specs.SheetForm.{routeFront, overFront, lineEnd, scanMore, scanNumbers}
+use Rattle.definitions.specs.Form.{bytes, Item, word, numeral, Scan, departs, reads, byteAt, scanWord, scanNumber, withFront, following, scanForm, scanMore}
+use Rattle.definitions.specs.SheetForm.{routeFront, overFront, lineEnd, scanNumbers}
+use Rattle.text_theory.specs.SpacedNumbers.{spacedNumber}
 use Rattle.text.specs.ItemByItem.{form-word}
 use Rattle.program.specs.Parts.{form-append}
-use Rattle.verify.specs.Walks.{spacedNumber}
 use Rattle.verify.specs.Offsets.{after, behind, restOfLine, twoLines, countLines}
 
 -- The front of a route line up to its first relay.

@@ -3,17 +3,17 @@ use Prim.Native.Nat.{ℕ, _-_, _≤_}
 use mathlib.Core.List.{List, [], _∷_}
 use mathlib.Core.Path.{_≡_, sym, ap, subst}
 use native.Mathlib.Omega.{arith}
-use lib.ListN.{length, take, drop, length-drop}
-use lib.Seq.{take-all}
+use lib.ListN.{length, take, drop}
 use Rattle.definitions.specs.Outcome.{done, Answer}
 use Rattle.definitions.specs.Lists.{overwrite}
 use Rattle.definitions.specs.Form.{bytes}
 use Rattle.definitions.specs.Program.{printed}
 use Rattle.definitions.specs.Verify.{verified, verdictText, verifyText}
 use Rattle.text.specs.Put.{Put}
+use Rattle.program.specs.Border.{Border, border-rest}
 use Rattle.program.specs.ReadStage.{whole-put}
 use Rattle.program.specs.RefusedLine.{LinePut}
-use Rattle.verify.specs.Line.{readBackFrom, readBackAt, Border}
+use Rattle.verify.specs.Line.{readBackFrom, readBackAt}
 
 -- The line of an answer is the line of the outcome that it is.
 pub line-of : {before after : List ℕ} {next : ℕ} (one other : Answer) → one ≡ other → LinePut before (printed verdictText other) after next
@@ -36,11 +36,7 @@ fails-line put = record { put = put; fits = omega arith }
 pub both-line : {before after : List ℕ} {next : ℕ} (text : List ℕ) (size at : ℕ) → Border size text at
     → LinePut before (printed verdictText (readBackFrom (take at text) (take (length text - at) (drop at text)))) after next
     → LinePut before (printed verdictText (readBackAt size text)) after next
-both-line {before} {after} {next} text size at border line =
-    let all : take (length text - at) (drop at text) ≡ drop at text =
-    take-all (length text - at) (drop at text) (omega (arith, length-drop at text)) in
-    let parts : LinePut before (printed verdictText (readBackAt at text)) after next = rw all at line in
-    line-of (readBackAt size text) (readBackAt at text) (sym (border .same)) parts
+both-line text size at border line = rw (← border .front, ← border-rest size text at border) line
 
 -- The line of what the program has for the input is the whole output.
 pub whole-line : (input before after : List ℕ) (next : ℕ) (one : Answer) → verified input ≡ one → 52 ≤ length before

@@ -1,19 +1,16 @@
 -- The numbers of a route's two lines from an offset on, which the walk reads one by one, are those that the form gave.
 -- Assumes nothing.
-use Prim.Native.Nat.{ℕ, zero, suc, _+_}
-use mathlib.Core.Bool.{Bool, true, false}
+use Prim.Native.Nat.{ℕ, suc}
 use mathlib.Core.List.{List, [], _∷_, _++_, append-nil}
 use mathlib.Core.Path.{_≡_, refl, sym, _∙_, ap}
 use native.Mathlib.Omega.{arith}
-use lib.Dec.{eqb}
 use lib.ListN.{length}
-use Rattle.definitions.specs.Outcome.{pick}
-use Rattle.definitions.specs.Form.{bytes, word, Scan, departs, reads, byteAt, scanWord, scanNumber, scanItem, following, scanForm}
-use Rattle.definitions.specs.SheetForm.{routeFront, overFront, lineEnd, scanMore, scanNumbers}
+use Rattle.definitions.specs.Form.{bytes, Scan, departs, reads, scanWord, scanNumber, scanItem, following, scanForm, scanMore}
+use Rattle.definitions.specs.SheetForm.{routeFront, overFront, lineEnd, scanNumbers}
 use Rattle.text_theory.specs.Forms.{following-reads}
-use Rattle.text.specs.ItemByItem.{following-departs, form-word, word-number-departs, word-number-reads}
+use Rattle.text_theory.specs.SpacedNumbers.{spacedNumber, readThen, numbersAt, more-numbers}
+use Rattle.text.specs.ItemByItem.{following-departs, form-word}
 use Rattle.verify.specs.Offsets.{after, behind}
-use Rattle.verify.specs.Walks.{spacedNumber, readThen, numbersAt, NoNumber, ANumber}
 use Rattle.verify.proofs.FormLaws.{after-departs, word-plain, firstRelay, route-parts}
 use Rattle.verify.proofs.EndLaws.{two-words}
 
@@ -21,44 +18,6 @@ no-scan : (p : ℕ) (values : List ℕ) (q : ℕ) → departs p ≡ reads values
 no-scan p values q e = let z : _≡_ {A = ℕ} 0 1 = cc in omega arith
 
 module _ (text : List ℕ) where
-  pub none-at : (p : ℕ) → NoNumber text p → (most : ℕ) → numbersAt text p most ≡ []
-  unfolding numbersAt readThen
-  none-at p none zero = refl
-  none-at p none (suc most) = rw (none .1)
-
-  pub one-at : (p x q : ℕ) → ANumber text p x q → (most : ℕ) → numbersAt text p (suc most) ≡ x ∷ numbersAt text q most
-  unfolding numbersAt readThen
-  one-at p x q one most = rw one
-
-  pub at-none : (p most : ℕ) → most ≡ 0 → numbersAt text p most ≡ []
-  unfolding numbersAt
-  at-none p most e = rw e
-
-  -- A number behind a space: the space, then the number.
-  spaced-reads : (p : ℕ) → eqb (byteAt text p) 32 ≡ true → scanForm text spacedNumber p ≡ scanNumber text (p + 1)
-  unfolding scanWord
-  spaced-reads p space = word-number-reads text (bytes " ") p (p + 1) (rw space)
-
-  spaced-departs : (p : ℕ) → eqb (byteAt text p) 32 ≡ false → scanForm text spacedNumber p ≡ departs p
-  unfolding scanWord
-  spaced-departs p other = word-number-departs text (bytes " ") p p (rw other)
-
-  -- More numbers, as the form gave them.
-  more-numbers : (most p : ℕ) (more : List ℕ) (q : ℕ) → scanMore text p most ≡ reads more q → numbersAt text p most ≡ more
-  unfolding scanMore numbersAt readThen
-  more-numbers zero p more q e = cc
-  more-numbers (suc most) p more q e = go (eqb (byteAt text p) 32) refl e (more-numbers most)
-    where
-      go : (b : Bool) → eqb (byteAt text p) 32 ≡ b
-          → pick b (following (scanNumber text (p + 1)) (λ s. scanMore text s most)) (reads [] p) ≡ reads more q
-          → ((s : ℕ) (later : List ℕ) (t : ℕ) → scanMore text s most ≡ reads later t → numbersAt text s most ≡ later)
-          → readThen (scanForm text spacedNumber p) (λ s. numbersAt text s most) ≡ more
-      go true space f hyp =
-          let both = following-reads (scanNumber text (p + 1)) (λ s. scanMore text s most) more q f in
-          rw (spaced-reads p space, both .first)
-          (ap (_++_ (both .front)) (hyp (both .behind) (both .rest) q (both .second)) ∙ sym (both .joined))
-      go false other f hyp = rw (spaced-departs p other) cc
-
   -- Behind the front of a line.
   line-numbers : (p : ℕ) (rest : List ℕ) (q : ℕ)
       → following (scanMore text p (length text)) (scanForm text lineEnd) ≡ reads rest q → numbersAt text p (length text) ≡ rest
@@ -66,7 +25,7 @@ module _ (text : List ℕ) where
   line-numbers p rest q e =
       let both = following-reads (scanMore text p (length text)) (scanForm text lineEnd) rest q e in
       let ended : both .rest ≡ [] = no-values (both .behind) (both .rest) q (sym (form-word text (bytes ")\n") (both .behind)) ∙ both .second) in
-      more-numbers (length text) p (both .front) (both .behind) (both .first)
+      more-numbers text (length text) p (both .front) (both .behind) (both .first)
       ∙ sym (both .joined ∙ ap (_++_ (both .front)) ended ∙ append-nil (both .front))
     where
       plain : (values : List ℕ) (q : ℕ) → reads [] q ≡ reads values q → values ≡ []

@@ -11,8 +11,8 @@ use lib.ListN.{length}
 use Rattle.definitions.specs.Outcome.{pick}
 use Rattle.definitions.specs.SheetTest.{stepHolds, metAt, Walk, walk}
 use Rattle.lists.specs.Bitmap.{marked}
-use Rattle.verify.specs.Walks.{NoNumber, ANumber, SomeNumber, MarkRoom, Walked, numbersAt, walkFrom}
-use Rattle.verify.proofs.NumberLaws.{none-at, one-at, at-none}
+use Rattle.text_theory.specs.SpacedNumbers.{numbersAt, NoNumber, ANumber, none-at, one-at, at-none}
+use Rattle.verify.specs.Walks.{SomeNumber, MarkRoom, Walked, walkFrom}
 
 -- A walk that ended with these relays met, and one that failed.
 pub walked-to : {w : Walk} {steps r : ℕ} {marks : List ℕ} → w ≡ record { steps = steps; met = marked marks } → r ≡ steps → MarkRoom marks

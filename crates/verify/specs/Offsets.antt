@@ -5,10 +5,10 @@ use mathlib.Core.List.{List, [], _∷_}
 use lib.Dec.{eqb, ltb}
 use lib.ListN.{length}
 use Rattle.definitions.specs.Outcome.{pick}
-use Rattle.definitions.specs.Form.{Scan, departs, reads, byteAt, following, scanForm}
+use Rattle.definitions.specs.Form.{Scan, departs, reads, byteAt, following, scanForm, scanMore}
 use Rattle.definitions.specs.Text.{endForm}
 use Rattle.definitions.specs.Plan.{keptForm}
-use Rattle.definitions.specs.SheetForm.{routeFront, overFront, lineEnd, scanMore, scanNumbers}
+use Rattle.definitions.specs.SheetForm.{routeFront, overFront, lineEnd, scanNumbers}
 
 -- The second reading, from the offset behind the first, without the first one's numbers.
 unfoldable pub after : (first : Scan) (next : ℕ → Scan) → Scan

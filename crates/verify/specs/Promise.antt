@@ -24,19 +24,8 @@ use Rattle.definitions.specs.Promised.{Asked, Answered, AllAnswered}
 use Rattle.definitions.specs.PlanPromise.{SheetPrinted}
 use Rattle.definitions.specs.SheetForm.{readSheet}
 use Rattle.definitions.specs.SheetTest.{sheetAnswer}
-use Rattle.definitions.specs.Verify.{
-  networkSize,
-  verifyInput,
-  Filed,
-  filed,
-  sheetSaid,
-  verifier,
-  valuesOf,
-  verified,
-  verdictText,
-  verifyText,
-  verdictOf,
-}
+use Rattle.definitions.specs.Border.{borderOf}
+use Rattle.definitions.specs.Verify.{verifyInput, Filed, filed, sheetSaid, verifier, valuesOf, verified, verdictText, verifyText, verdictOf}
 use Rattle.definitions.specs.VerifyPromise.{SaidExactly, VerdictPrinted, VerifyPromise}
 use Rattle.lists.specs.Outcomes.{then-done}
 use Rattle.lists.specs.RefusedWithin.{RefusedAs, refused-as, refuse-as, then-as}
@@ -187,18 +176,18 @@ filed-accepted : (line text : List ℕ) (both : Filed) → filed line text ≡ d
     → let w = both .network in Accepted (w .relays) (w .lows) (w .highs) (w .states)
 unfolding filed
 filed-accepted line text both e =
-    let (w, read, last) = done-then (readNetwork (take (networkSize line) text) 3000 3000 1000) _ both e in
+    let (w, read, last) = done-then (readNetwork (take (borderOf line) text) 3000 3000 1000) _ both e in
     let same : w ≡ both .network = ap (λ (b : Filed). b .network) (done-same _ both last) in
     subst (λ (w : Network). Accepted (w .relays) (w .lows) (w .highs) (w .states)) same
-    (written-read (take (networkSize line) text) 3000 3000 1000 w read .1)
+    (written-read (take (borderOf line) text) 3000 3000 1000 w read .1)
 
 verified-roomy : (input : List ℕ) → RefusedAs Roomy (verified input)
 unfolding verified filed AnswersAs
 verified-roomy input =
     outcome-as verifier _ input Roomy (λ place _. roomy-number 1 place refl refl)
     (λ line text.
-    then-as Roomy (readNetwork (take (networkSize line) text) 3000 3000 1000) _
-    (roomy (readNetwork (take (networkSize line) text) 3000 3000 1000) (read-printable (take (networkSize line) text))) (λ _ _. tt))
+    then-as Roomy (readNetwork (take (borderOf line) text) 3000 3000 1000) _
+    (roomy (readNetwork (take (borderOf line) text) 3000 3000 1000) (read-printable (take (borderOf line) text))) (λ _ _. tt))
     (λ line both asked.
     (sheet-roomy (both .network) (both .sheet) (filed-accepted line (drop (asked .behind) input) both (asked .read)), tt))
 

@@ -1,31 +1,18 @@
--- The second pass over a sheet whose form is kept: the numbers from an offset on, and what the walking functions promise.
+-- The second pass over a sheet whose form is kept: what the walking functions promise.
 -- The relays met are the marks of a list of words. Assumes nothing.
-use Prim.Native.Nat.{ℕ, zero, suc, _-_, _<_}
+use Prim.Native.Nat.{ℕ, suc, _-_, _<_}
 use mathlib.Core.Bool.{Bool, true, false}
-use mathlib.Core.List.{List, [], _∷_, _++_}
+use mathlib.Core.List.{List, [], _∷_}
 use mathlib.Core.Logic.{_⊎_}
 use mathlib.Core.Path.{_≡_}
 use lib.ListN.{length, getD}
-use Rattle.definitions.specs.Form.{bytes, Item, word, numeral, Scan, departs, reads, scanForm}
+use Rattle.definitions.specs.Form.{reads}
 use Rattle.definitions.specs.SheetForm.{routeFront, overFront, scanNumbers}
 use Rattle.definitions.specs.SheetTest.{stepHolds, metAt, Walk, walk, walkRoute, routesHold}
 use Rattle.lists.specs.Bitmap.{marked}
+use Rattle.text_theory.specs.SpacedNumbers.{numbersAt, NoNumber, ANumber}
 use Rattle.verify.specs.declared.walk.NextStep.{NextStep}
 use Rattle.verify.specs.declared.walk.NextStep.the-variants.{End, Uneven, Step}
-
--- A number behind a space.
-abbrev pub spacedNumber : List Item
-spacedNumber = word (bytes " ") ∷ numeral ∷ []
-
--- What was read and then what follows; nothing where the text departs.
-unfoldable pub readThen : (first : Scan) (next : ℕ → List ℕ) → List ℕ
-readThen (departs p) next = []
-readThen (reads values p) next = values ++ next p
-
--- The numbers behind spaces from an offset on, at most `most` of them.
-unfoldable pub numbersAt : (text : List ℕ) (p most : ℕ) → List ℕ
-numbersAt text p zero = []
-numbersAt text p (suc most) = readThen (scanForm text spacedNumber p) (λ q. numbersAt text q most)
 
 -- The walk from relay a on, after so many steps, with the relays and the links that stand from offsets p and q on.
 unfoldable pub walkFrom : (n : ℕ) (lows highs states text : List ℕ) (to : ℕ) (met : ℕ → Bool) (steps a p q : ℕ) → Walk
@@ -33,12 +20,6 @@ walkFrom n lows highs states text to met steps a p q =
     walk n lows highs states to met steps a (numbersAt text p (suc (length text) - steps)) (numbersAt text q (suc (length text) - steps))
 
 -- What comes next at the two offsets.
-abbrev pub NoNumber : (text : List ℕ) (p : ℕ) → Type 0
-NoNumber text p = (q : ℕ) × (scanForm text spacedNumber p ≡ departs q)
-
-abbrev pub ANumber : (text : List ℕ) (p x q : ℕ) → Type 0
-ANumber text p x q = scanForm text spacedNumber p ≡ reads (x ∷ []) q
-
 abbrev pub SomeNumber : (text : List ℕ) (p : ℕ) → Type 0
 SomeNumber text p = (x : ℕ) × (q : ℕ) × ANumber text p x q
 

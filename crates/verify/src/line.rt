@@ -8,12 +8,14 @@ ghost use Rattle.definitions.specs.Lists.{overwrite};
 ghost use Rattle.definitions.specs.Network.{Accepted};
 ghost use Rattle.definitions.specs.Program.{printed};
 ghost use Rattle.definitions.specs.SheetTest.{sheetAnswer};
-ghost use Rattle.definitions.specs.Verify.{networkSize, verdictText, verifyText};
+ghost use Rattle.definitions.specs.Border.{borderOf};
+ghost use Rattle.definitions.specs.Verify.{verdictText, verifyText};
 ghost use Rattle.program.specs.RefusedLine.{lineRoom, LinePut};
-ghost use Rattle.verify.specs.Line.{readBackFrom, readBackAt, Border};
+ghost use Rattle.verify.specs.Line.{readBackFrom, readBackAt};
 use crate::SheetAnswer;
 use crate::read_sheet;
 use network::Refusal;
+use program::border::border;
 use program::load::load;
 use program::refusal::LINE_ROOM;
 use program::refusal::put_any;
@@ -28,17 +30,6 @@ pub const OUTPUT: usize = LINE_ROOM;
 
 pub fn output() -> [u8; OUTPUT] {
     [0u8; OUTPUT]
-}
-
-// Where the border is, by the two numbers of the line in front: at the end of a text that is shorter than they tell.
-fn border(text: &[u8], a: u16, b: u16) -> usize
-    ensures { λ r. ⌜ Border (networkSize (a ∷ b ∷ [])) (now (text .entry)) r ⌝ }
-{
-    let size = a as usize * 10000 + b as usize;
-    if text.len() < size {
-        return text.len();
-    }
-    size
 }
 
 // The line for a sheet that is read back with this table, an accepted one.
@@ -92,7 +83,7 @@ fn put_read_back(output: &mut [u8], network: &[u8], text: &[u8]) -> usize
 // Both texts, with the border that the line in front tells.
 fn put_both(output: &mut [u8], text: &[u8], a: u16, b: u16) -> usize
     requires { ⌜ lineRoom ≤ length (now output) ⌝ }
-    ensures { λ r. ⌜ LinePut (now (output .entry)) (printed verdictText (readBackAt (networkSize (a ∷ b ∷ [])) (now (text .entry))))
+    ensures { λ r. ⌜ LinePut (now (output .entry)) (printed verdictText (readBackAt (borderOf (a ∷ b ∷ [])) (now (text .entry))))
         (now (output .exit)) r ⌝ }
 {
     let at = border(text, a, b);

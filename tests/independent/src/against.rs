@@ -11,7 +11,9 @@ use crate::lengths::{Lengths, any_length, mostly_enough};
 use crate::library::{self, Report};
 use crate::printed::{KEEP, PLAN, keep_input, printed};
 use crate::random::Random;
+use crate::reported::{self, largest, reported};
 use crate::routed::{flowed, routed};
+use crate::sets::{self, sent};
 use crate::sheets::Known;
 use crate::states::kinds;
 use crate::sweep::Wish;
@@ -168,6 +170,7 @@ fn whole(random: &mut Random, tally: &mut Tally, net: &Network) {
     };
     texts(random, tally, net, wish);
     drawings(random, tally, net);
+    reported(random, tally, net);
 }
 
 /// One network from a seed.
@@ -193,6 +196,8 @@ fn exactly(random: &mut Random, tally: &mut Tally, net: &Network) {
     read(random, tally, &input[line..], exact);
     let drawing = drawn(random, net).1.concat();
     import(random, tally, &drawing, exact);
+    let sent = sets::text(&sent(random, net).1);
+    reported::set(random, tally, net.n, &sent, exact);
     ordered(random, tally, net, exact);
     routed(random, tally, net, wish, exact);
     printed(random, tally, &PLAN, &input, exact);
@@ -202,11 +207,13 @@ fn exactly(random: &mut Random, tally: &mut Tally, net: &Network) {
 
 /// The networks at the boundaries from a seed: each with all relays in service and with some withdrawn, both with lists of exact
 /// length and a wish that is met, one of the two as any other, and then with its highest pair of relays linked twice; and a small
-/// drawing with every byte in every place. Gives how many networks there are.
+/// drawing and a small set of reports with every byte in every place, and the largest sets. Gives how many networks there are.
 pub fn boundary_cases(seed: u64, tally: &mut Tally) -> usize {
     let random = &mut Random::new(seed);
     let nets = boundaries(random);
     every_byte(random, tally);
+    reported::every_byte(random, tally);
+    largest(random, tally);
     for (number, net) in nets.iter().enumerate() {
         let both = [net.clone(), withdrawn(net)];
         both.iter().for_each(|net| exactly(random, tally, net));

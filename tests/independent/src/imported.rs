@@ -5,13 +5,11 @@ use crate::dimacs::{PROBLEM, line};
 use crate::drawings::drawn;
 use crate::generate::scratch;
 use crate::lengths::{Lengths, any_length, mostly_enough};
-use crate::library::{self, Report};
 use crate::random::Random;
 use crate::spoilt::ways;
 use crate::table::{Network, check};
 use crate::tally::{ROOMS, Tally};
-use crate::text;
-use crate::texts::{IMPORT, into_lists};
+use crate::texts::{IMPORT, faithful, into_lists};
 use crate::variants::at_every_byte;
 
 /// How many entries lows, highs and states need for a drawing; a few where its `p` line is bad.
@@ -26,28 +24,11 @@ pub fn import(random: &mut Random, tally: &mut Tally, text: &[u8], lengths: Leng
     into_lists(random, tally, &IMPORT, text, lengths);
 }
 
-/// What the lists of an accepted drawing hold: the table that was drawn, all in service, which the library writes and reads again.
-fn faithful(tally: &mut Tally, net: &Network, lists: &[Vec<u16>; 3], drawing: &[u8]) {
-    let (n, m) = (usize::from(net.n), net.lows.len());
-    let [lows, highs, states] = lists;
-    let same = lows[..m] == net.lows && highs[..m] == net.highs && states[..n].iter().all(|&state| state == 1);
-    let shown = String::from_utf8_lossy(drawing);
-    tally.holds("import", "the table is the one that was drawn, all in service", same, &shown);
-
-    let serving = Network::serving(net.n, lows[..m].to_vec(), highs[..m].to_vec());
-    let mut text = vec![0; text::text(&serving).len()];
-    let [mut lows, mut highs, mut states] = [m, m, n].map(|length| vec![0; length]);
-    let wrote = library::write(&serving, &mut text);
-    let read = library::read(&text, &mut lows, &mut highs, &mut states);
-    let again = wrote.code == 0 && read == Report { code: 0, answer: [n as u64, m as u64] };
-    let again = again && serving == Network { n: net.n, lows, highs, states };
-    tally.holds("import", "what is written of it is read as the same", again, &shown);
-}
-
 /// A drawing of an accepted network in some style, into lists of some kinds.
 fn good(random: &mut Random, tally: &mut Tally, net: &Network) {
     let (style, lines) = drawn(random, net);
     let text = lines.concat();
+    let serving = Network::serving(net.n, net.lows.clone(), net.highs.clone());
     tally.drawing(style);
     for _ in 0..3 {
         let (room, more) = *random.pick(&ROOMS);
@@ -56,7 +37,7 @@ fn good(random: &mut Random, tally: &mut Tally, net: &Network) {
         tally.drawing(room);
         let lists = into_lists(random, tally, &IMPORT, &text, [lows, highs, states]);
         if more.iter().all(|&more| more >= 0) {
-            faithful(tally, net, &lists, &text);
+            faithful(tally, "import", &serving, &lists, &text);
         }
     }
 }

@@ -1,7 +1,7 @@
 //! Document 01, with the requests of document 02 that have landed, in plain Rust, by a second hand. The slow modules, which the
 //! library is compared with, follow the papers' words, and nothing in them was taken from the proved code or its definitions;
-//! `swift`, `swift_dimacs`, `swift_sheet` and `swift_text`, which it is timed beside, have the same results by the methods an ordinary
-//! program would use, and of them `swift::Buckets` is built as the library is.
+//! `swift`, `swift_dimacs`, `swift_reports`, `swift_sheet` and `swift_text`, which it is timed beside, have the same results by the
+//! methods an ordinary program would use, and of them `swift::Buckets` is built as the library is.
 
 #[cfg(feature = "library")]
 pub mod against;
@@ -28,15 +28,21 @@ pub mod plan;
 pub mod printed;
 pub mod random;
 #[cfg(feature = "library")]
+pub mod reported;
+pub mod reports;
+#[cfg(feature = "library")]
 pub mod routed;
+pub mod sets;
 pub mod sheet;
 pub mod sheets;
 pub mod spoilt;
+pub mod spoilt_sets;
 pub mod states;
 pub mod sure;
 pub mod sweep;
 pub mod swift;
 pub mod swift_dimacs;
+pub mod swift_reports;
 pub mod swift_sheet;
 pub mod swift_text;
 pub mod table;
@@ -54,6 +60,10 @@ pub mod wishes;
 mod dimacs_examples;
 #[cfg(test)]
 mod examples;
+#[cfg(test)]
+mod report_examples;
+#[cfg(test)]
+mod set_examples;
 #[cfg(test)]
 mod sheet_examples;
 #[cfg(test)]

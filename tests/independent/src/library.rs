@@ -104,6 +104,19 @@ unsafe extern "C" {
         text_length: usize,
         answer: *mut u64,
     ) -> u32;
+    fn nolkisei_stands(first: *const u8, _: usize, second: *const u8, _: usize, answer: *mut u64) -> u32;
+    fn nolkisei_reports(
+        n: u16,
+        text: *const u8,
+        text_length: usize,
+        lows: *mut u16,
+        lows_length: usize,
+        highs: *mut u16,
+        highs_length: usize,
+        states: *mut u16,
+        states_length: usize,
+        answer: *mut u64,
+    ) -> u32;
     fn nolkisei_plan(input: *const u8, _: usize, output: *mut u8, _: usize, answer: *mut u64) -> u32;
     fn nolkisei_keep(input: *const u8, _: usize, output: *mut u8, _: usize, answer: *mut u64) -> u32;
 }
@@ -117,6 +130,17 @@ pub fn verify(net: &Network, text: &[u8]) -> Report {
     let [low, high, state] = [lows, highs, states].map(|list| list.as_ptr());
     report(|answer| unsafe {
         nolkisei_verify(*n, low, lows.len(), high, highs.len(), state, states.len(), text.as_ptr(), text.len(), answer)
+    })
+}
+
+pub fn stands(first: &[u8], second: &[u8]) -> Report {
+    report(|answer| unsafe { nolkisei_stands(first.as_ptr(), first.len(), second.as_ptr(), second.len(), answer) })
+}
+
+pub fn reports(n: u16, text: &[u8], lows: &mut [u16], highs: &mut [u16], states: &mut [u16]) -> Report {
+    let [low, high, state] = [&mut *lows, &mut *highs, &mut *states].map(|list| list.as_mut_ptr());
+    report(|answer| unsafe {
+        nolkisei_reports(n, text.as_ptr(), text.len(), low, lows.len(), high, highs.len(), state, states.len(), answer)
     })
 }
 

@@ -3,13 +3,15 @@
 
 use crate::dimacs::network;
 use crate::forests::{earlier, ordering, places};
+use crate::reports::{self, read_one, stands};
 use crate::sweep::{Wish, sweep};
 use crate::table::{Network, Refusal, check, known};
 use crate::text::form;
 use crate::verify::{Fault, verify};
 use std::cell::RefCell;
 
-/// A manner of answering: an input's of the planner, a refused table's, a sweep's, a sheet's that is read back or a drawing's.
+/// A manner of answering: an input's of the planner, a refused table's, a sweep's, a sheet's that is read back, a drawing's, a set's of
+/// reports or that of two reports.
 #[derive(Clone, Debug, PartialEq, Eq, Hash)]
 pub enum Manner {
     /// The number printed, 0 for a sheet, the line that it is about by its shape, what stands there or k, and two sizes.
@@ -24,6 +26,11 @@ pub enum Manner {
     /// The number, the line that it is about by its shape, what stands there, and the sizes of how many lines of each letter there are
     /// before it, or of the network and its comments.
     Drawing(u32, Vec<u8>, u8, [u32; 3]),
+    /// The number; for 19 the end of the first line that is no report, up to where it departs from the form, by its shape, and what
+    /// stands there; and the sizes of n, lines and links.
+    Set(u32, Vec<u8>, u8, [u32; 3]),
+    /// 0 or 1 for the one that stands, or the number; for 19 the same of the one that is no report; and the sizes of the serials.
+    Pair(u32, Vec<u8>, u8, [u32; 2]),
 }
 
 impl Manner {
@@ -33,7 +40,7 @@ impl Manner {
             Manner::Sheet(0, faults, ..) => faults.first().map_or(0, |fault| 100 + *fault as u32),
             Manner::Sheet(class, ..) => *class,
             Manner::Printed(class, ..) | Manner::Table(class, _) | Manner::Sweep(_, _, class, _) => *class,
-            Manner::Drawing(class, ..) => *class,
+            Manner::Drawing(class, ..) | Manner::Set(class, ..) | Manner::Pair(class, ..) => *class,
         }
     }
 }
@@ -140,6 +147,50 @@ pub fn drawn(text: &[u8]) -> Manner {
         }
         Err(Refusal { number: number @ 5..=7, place }) => Manner::Drawing(number, line(b'e', place), 0, [size(place), 0, 0]),
         Err(Refusal { number, .. }) => Manner::Drawing(number, line(b'p', 0), 0, [0, 0, size(all.len())]),
+    }
+}
+
+/// Where a line departs from the form of a report, or where that ends: the bytes before it by their shape, and what stands there.
+fn departure(line: &[u8]) -> (Vec<u8>, u8) {
+    let digits = |at: usize| at + line[at..].iter().take_while(|byte| byte.is_ascii_digit()).count();
+    let numbers = |mut at: usize| {
+        while let Ok((_, next)) = form(line, at, " #") {
+            at = next;
+        }
+        at
+    };
+    let serial = form(line, 0, "(report # ").map(|read| digits(read.1));
+    let sees = serial.and_then(|at| form(line, at, " (sees")).map(|read| numbers(read.1));
+    let at = sees.and_then(|at| form(line, at, "))\n")).map_or_else(|at| at, |read| read.1);
+    (shape(&line[at.saturating_sub(12)..at]), found(line, at))
+}
+
+/// The manner of a set of reports, with room for any.
+pub fn sent(n: u16, text: &[u8]) -> Manner {
+    let all = lines(text);
+    let sizes = |links: usize| [usize::from(n), all.len(), links].map(size);
+    match reports::network(n, text, 3000, 1000) {
+        Ok(net) => Manner::Set(0, vec![], 0, sizes(net.lows.len())),
+        Err(Refusal { number: 19, .. }) => {
+            let bad = all.iter().position(|line| read_one(line).is_err()).expect("a line that is no report");
+            let (shape, byte) = departure(all[bad]);
+            Manner::Set(19, shape, byte, [0, size(bad).min(3), 0])
+        }
+        Err(refusal) => Manner::Set(refusal.number, vec![], 0, sizes(0)),
+    }
+}
+
+/// The manner of two reports.
+pub fn paired(first: &[u8], second: &[u8]) -> Manner {
+    let code = stands(first, second).map_or_else(|refusal| refusal.number, |which| which as u32);
+    let bad = |text: &[u8], sizes: [u32; 2]| {
+        let (shape, byte) = departure(text);
+        Manner::Pair(code, shape, byte, sizes)
+    };
+    match (read_one(first), read_one(second)) {
+        (Ok(one), Ok(other)) => Manner::Pair(code, vec![], 0, [one.serial, other.serial].map(|serial| size(serial as usize))),
+        (Err(_), _) => bad(first, [0, 1]),
+        (_, Err(_)) => bad(second, [1, 0]),
     }
 }
 

@@ -1,24 +1,27 @@
-//! What a comparison counts: the answers by operation and code, the facts that held, the networks by where their order starts, by the
-//! links of its last relay and by their state lists, the texts by their out lines, the sheets that were read back by how they were made and by the one fault that they
-//! have, and the drawings by how they came to be and by the lists lent for them.
+//! What a comparison counts: the answers by operation and code, the facts that held, and how often each kind of network, text, sheet,
+//! drawing and report came up that must.
 
 use crate::drawings::STYLES;
 use crate::facts::{ENDS, STARTS};
 use crate::outs::OUTS;
+use crate::sets::{self, LATER};
 use crate::sheets::{CHANGES, STILL};
 use crate::spoilt::ways;
+use crate::spoilt_sets::{SETS, bad_lines};
 use crate::states::{BAD, GOOD, LENT};
 use crate::verify::Fault;
 use std::collections::BTreeMap;
 use std::fmt::Debug;
 
 /// Every code that an operation can give; of the two that print, the printed numbers and 12; of `verify`, 0 for a no and 1 for a
-/// yes.
-const CODES: [(&str, &[u32]); 13] = [
+/// yes; of `stands`, 0 where the first stands and 1 where the second does.
+const CODES: [(&str, &[u32]); 15] = [
     ("check", &[0, 3, 4, 5, 6, 7, 16]),
     ("pair", &[0, 5, 6]),
     ("read", &[0, 2, 3, 4, 5, 6, 7, 8, 16]),
     ("import", &[0, 3, 4, 5, 6, 7, 8, 18]),
+    ("stands", &[0, 1, 19, 20, 21]),
+    ("reports", &[0, 3, 4, 5, 8, 19, 20]),
     ("write", &[0, 3, 4, 5, 6, 7, 12, 16]),
     ("order", &[0, 3, 4, 5, 6, 7, 12, 16]),
     ("split", &[0, 3, 4, 5, 6, 7, 12, 16]),
@@ -50,7 +53,15 @@ const MADE: [&str; 13] = [
 /// How drawings come to be, beside the styles of `drawings` and the ways to spoil one of `spoilt`.
 const DRAWN: [&str; 4] = ["of a bad table", "damaged", "damaged at every byte", "every byte in every place"];
 
-/// Lists that are lent for a good drawing: how many entries each has more than it needs, lows, highs and states.
+/// How sets of link reports come to be, beside the styles of `sets` and the bad lines and ways to spoil one of `spoilt_sets`.
+const SENT: [&str; 6] =
+    ["of a bad table", "damaged", "damaged at every byte", "every byte in every place", "3,000 links", "the largest sets"];
+
+/// How pairs of reports come to be, beside how the second differs in `sets`: bad lines of `spoilt_sets`, and these.
+const PAIRED: [&str; 5] =
+    ["two lines in one text", "an empty text", "damaged", "damaged at every byte", "every byte in every place"];
+
+/// Lists that are lent for a good drawing or set: how many entries each has more than it needs, lows, highs and states.
 pub const ROOMS: [(&str, [isize; 3]); 8] = [
     ("all just long enough", [0, 0, 0]),
     ("all longer", [1, 7, 3]),
@@ -75,8 +86,8 @@ const ALONE: [Fault; 9] = [
     Fault::Kept,
 ];
 
-/// How often each operation gave each code, how often each fact was looked at, and how often there were such networks, texts, sheets
-/// and drawings.
+/// How often each operation gave each code, how often each fact was looked at, and how often there were such networks, texts, sheets,
+/// drawings and reports.
 #[derive(Default)]
 pub struct Tally {
     codes: BTreeMap<(&'static str, u32), u64>,
@@ -88,6 +99,8 @@ pub struct Tally {
     sheets: BTreeMap<&'static str, u64>,
     faults: BTreeMap<Fault, u64>,
     drawings: BTreeMap<&'static str, u64>,
+    sets: BTreeMap<&'static str, u64>,
+    pairs: BTreeMap<&'static str, u64>,
 }
 
 impl Tally {
@@ -118,6 +131,8 @@ impl Tally {
         sum(&mut self.sheets, other.sheets);
         sum(&mut self.faults, other.faults);
         sum(&mut self.drawings, other.drawings);
+        sum(&mut self.sets, other.sets);
+        sum(&mut self.pairs, other.pairs);
     }
 
     /// A fact about what an operation gave.
@@ -159,7 +174,17 @@ impl Tally {
         *self.drawings.entry(kind).or_default() += 1;
     }
 
-    /// One line for each operation, each fact and each kind of network, text, sheet and drawing; then the codes and kinds never met.
+    /// A set of reports that came to be so, or such lists lent for one.
+    pub fn set(&mut self, kind: &'static str) {
+        *self.sets.entry(kind).or_default() += 1;
+    }
+
+    /// Two reports that came to be so.
+    pub fn pair(&mut self, kind: &'static str) {
+        *self.pairs.entry(kind).or_default() += 1;
+    }
+
+    /// One line for each operation, each fact and each kind of network, text, sheet, drawing and report; then the codes and kinds never met.
     pub fn lines(&self) -> (Vec<String>, Vec<String>) {
         let (mut lines, mut missing) = (vec![], vec![]);
         for (operation, codes) in CODES {
@@ -180,11 +205,22 @@ impl Tally {
         let kinds = STYLES.iter().map(|style| style.0).chain(ways().map(|way| way.0)).chain(DRAWN);
         let drawn = kinds.map(|kind| (format!("drawings: {kind}"), self.drawings.get(kind)));
         let rooms = ROOMS.iter().map(|(kind, _)| (format!("lists for drawings: {kind}"), self.drawings.get(kind)));
-        for (kind, times) in starts.chain(lasts).chain(states).chain(outs).chain(made).chain(alone).chain(drawn).chain(rooms) {
+        let networks = starts.chain(lasts).chain(states).chain(outs);
+        for (kind, times) in networks.chain(made).chain(alone).chain(drawn).chain(rooms).chain(self.reports()) {
             lines.push(format!("{:9} {kind}", times.unwrap_or(&0)));
             missing.extend(times.is_none().then_some(kind));
         }
         (lines, missing)
+    }
+
+    /// The kinds of sets and pairs of reports, and how often there were such.
+    fn reports(&self) -> impl Iterator<Item = (String, Option<&u64>)> {
+        let lines = || bad_lines().map(|line| line.0);
+        let sets = sets::STYLES.iter().map(|style| style.0).chain(SETS.iter().map(|way| way.0)).chain(SENT).chain(lines());
+        let sets = sets.map(|kind| (format!("sets of reports: {kind}"), self.sets.get(kind)));
+        let rooms = ROOMS.iter().map(|(kind, _)| (format!("lists for sets: {kind}"), self.sets.get(kind)));
+        let pairs = LATER.iter().map(|later| later.0).chain(PAIRED).chain(lines());
+        sets.chain(rooms).chain(pairs.map(|kind| (format!("two reports: {kind}"), self.pairs.get(kind))))
     }
 
     /// How many answers were compared.

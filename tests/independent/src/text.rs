@@ -85,12 +85,10 @@ fn network(text: &[u8], entries: usize, relays: usize) -> Result<Network, Refusa
     Ok(net)
 }
 
-/// The network of a text, or why it is refused, with room for so many links and states.
-pub type Reading = fn(&[u8], usize, usize) -> Result<Network, Refusal>;
-
-/// The lists after a reading, and the answer: n and m.
+/// The lists after a reading, and the answer: n and m. The reading gives the network of a text, or why it is refused, with room for so
+/// many links and states.
 pub fn into_lists(
-    reading: Reading,
+    reading: impl FnOnce(&[u8], usize, usize) -> Result<Network, Refusal>,
     text: &[u8],
     lows: &mut [u16],
     highs: &mut [u16],

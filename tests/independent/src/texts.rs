@@ -21,17 +21,18 @@ fn announced(text: &[u8]) -> (usize, usize) {
 }
 
 /// Reads a text into the lists lows, highs and states.
-type Reads<T> = fn(&[u8], &mut [u16], &mut [u16], &mut [u16]) -> T;
+type Reads<T> = dyn Fn(&[u8], &mut [u16], &mut [u16], &mut [u16]) -> T;
 
-/// An operation that does so: the library's and the second version's, by its name.
-pub struct Reader {
-    name: &'static str,
-    library: Reads<Report>,
-    reference: Reads<Result<(u16, u16), Refusal>>,
+/// An operation that does so: the library's and the second version's, by its name, and n where that does not stand in the text.
+pub struct Reader<'a> {
+    pub name: &'static str,
+    pub n: Option<u16>,
+    pub library: &'a Reads<Report>,
+    pub reference: &'a Reads<Result<(u16, u16), Refusal>>,
 }
 
-const READ: Reader = Reader { name: "read", library: library::read, reference: text::read };
-pub const IMPORT: Reader = Reader { name: "import", library: library::import, reference: dimacs::import };
+const READ: Reader = Reader { name: "read", n: None, library: &library::read, reference: &text::read };
+pub const IMPORT: Reader = Reader { name: "import", n: None, library: &library::import, reference: &dimacs::import };
 
 /// A text through one of them, with every entry of the three lists, which have these lengths; gives the lists.
 pub fn into_lists(random: &mut Random, tally: &mut Tally, reader: &Reader, input: &[u8], lengths: [usize; 3]) -> [Vec<u16>; 3] {
@@ -41,8 +42,26 @@ pub fn into_lists(random: &mut Random, tally: &mut Tally, reader: &Reader, input
     let reference = Report::of((reader.reference)(input, lows, highs, states).map(|(n, m)| [n.into(), m.into()]));
     let [lows, highs, states] = &mut theirs;
     let report = (reader.library)(input, lows, highs, states);
-    tally.same(reader.name, reference.code, (report, &theirs), (reference, &ours), &String::from_utf8_lossy(input));
+    let shown = (reader.n, String::from_utf8_lossy(input));
+    tally.same(reader.name, reference.code, (report, &theirs), (reference, &ours), &shown);
     theirs
+}
+
+/// What the lists of an accepted text hold: the network that it was made of, which the library writes and reads again.
+pub fn faithful(tally: &mut Tally, operation: &'static str, net: &Network, lists: &[Vec<u16>; 3], input: &[u8]) {
+    let (n, m) = (usize::from(net.n), net.lows.len());
+    let [lows, highs, states] = lists;
+    let same = lows[..m] == net.lows && highs[..m] == net.highs && states[..n] == net.states;
+    let shown = String::from_utf8_lossy(input);
+    tally.holds(operation, "the network is the one that the text was made of", same, &shown);
+
+    let mut text = vec![0; text::text(net).len()];
+    let [mut lows, mut highs, mut states] = [m, m, n].map(|length| vec![0; length]);
+    let wrote = library::write(net, &mut text);
+    let read = library::read(&text, &mut lows, &mut highs, &mut states);
+    let again = wrote.code == 0 && read == Report { code: 0, answer: [n as u64, m as u64] };
+    let again = again && *net == Network { n: net.n, lows, highs, states };
+    tally.holds(operation, "what is written of it is read as the same", again, &shown);
 }
 
 /// A text through Read.

@@ -7,7 +7,7 @@ use native.Mathlib.Omega.{arith}
 use borrow.Author.Needs.{needs}
 use denote.Ref.{now}
 use lib.Seq.{slice}
-use Rattle.definitions.specs.Plan.{spaced}
+use Rattle.definitions.specs.Form.{spaced}
 use Rattle.program.specs.Going.{Going, going-start, going-step, going-end}
 use Rattle.plan.specs.SheetLines.{numbers-step, numbers-length, numbers-end}
 use Rattle.plan.proofs.print.put_numbers.Statement.{statement}

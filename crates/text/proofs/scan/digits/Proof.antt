@@ -35,12 +35,12 @@ cast-digit c = omega arith
 mul-x : tie.Need-mul-x Inv-loop μ-loop
 mul-x c =
     let l = c .before .before .before .before .loop in
-    omega (arith, digits-room (l .more) (l .x) (omega arith) (l .inv .0) (l .inv .1))
+    omega (arith, digits-room 3 (l .more) (l .x) (omega arith) (l .inv .0) (l .inv .1))
 
 add-x : tie.Need-add-x Inv-loop μ-loop
 add-x c =
     let l = c .before .before .before .before .loop in
-    omega (arith, digits-room (l .more) (l .x) (omega arith) (l .inv .0) (l .inv .1))
+    omega (arith, digits-room 3 (l .more) (l .x) (omega arith) (l .inv .0) (l .inv .1))
 
 add-p : tie.Need-add-p Inv-loop μ-loop
 add-p c = omega arith
@@ -60,7 +60,7 @@ loop-again c =
     let digit : outside 48 57 (byteAt (now (a .text)) (l .loop .p)) ≡ false =
     rw (b .ensures) at (inside 48 57 (b .result) (c .before .if1 .left) (omega arith)) in (
       omega arith,
-      digits-bound (l .loop .more) (l .loop .x) (b .result - 48) (omega arith) (omega arith) (l .loop .inv .1) (omega arith),
+      digits-bound 3 (l .loop .more) (l .loop .x) (b .result - 48) (omega arith) (omega arith) (l .loop .inv .1) (omega arith),
       omega arith,
       l .loop .inv .3 ∙ (rw (← b .ensures) at (digits-step (now (a .text)) (l .loop .x) (l .loop .p) (l .loop .more) (omega arith) digit)),
     )

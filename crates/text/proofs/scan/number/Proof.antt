@@ -3,10 +3,10 @@ use mathlib.Core.Path.{_≡_, refl, sym, _∙_}
 use native.Mathlib.Omega.{arith}
 use borrow.Author.Needs.{needs}
 use denote.Ref.{now}
-use Rattle.definitions.specs.Form.{byteAt}
+use Rattle.definitions.specs.Form.{byteAt, scanNumber}
 use Rattle.lists.specs.Ranges.{below, above}
 use Rattle.text_theory.specs.Numbers.{byte-within}
-use Rattle.text.specs.DigitByDigit.{number-zero, number-departs, number-digits}
+use Rattle.text.specs.DigitByDigit.{decimal-zero, decimal-departs, decimal-digits}
 use Rattle.text.proofs.scan.number.Statement.{statement}
 use Rattle.text.proofs.scan.number.Tie as tie
 
@@ -32,33 +32,37 @@ digits-requires c κs =
     (omega arith, omega (arith, byte-within (now (a .text)) (a .at) (omega (arith, c .before .before .before .byte .ensures))))
 
 returns : tie.Need-returns
+unfolding scanNumber
 returns c =
     let a = c .before .before .before .args in
     let zero : byteAt (now (a .text)) (a .at) ≡ 48 = omega (arith, c .before .byte .ensures) in
-    sym (number-zero (now (a .text)) (a .at) zero)
+    sym (decimal-zero (now (a .text)) 3 (a .at) zero)
 
 returns-2 : tie.Need-returns-2
+unfolding scanNumber
 returns-2 c =
     let a = c .before .before .before .before .before .before .args in
     let e = c .before .before .before .before .byte .ensures in
     c .digits .ensures
     ∙ (rw e refl)
-    ∙ sym (number-digits (now (a .text)) (a .at) (omega (arith, e)) (omega (arith, e)))
+    ∙ sym (decimal-digits (now (a .text)) 3 (a .at) (omega (arith, e)) (omega (arith, e)))
 
 returns-3 : tie.Need-returns-3
+unfolding scanNumber
 returns-3 c =
     let a = c .before .before .before .before .args in
     let b = c .before .before .byte in
     sym
-    (number-departs (now (a .text)) (a .at) (λ e. c .before .match .rest .1 (b .ensures ∙ e))
+    (decimal-departs (now (a .text)) 3 (a .at) (λ e. c .before .match .rest .1 (b .ensures ∙ e))
     (rw (b .ensures) at (below 49 57 (b .result) (omega arith))))
 
 returns-4 : tie.Need-returns-4
+unfolding scanNumber
 returns-4 c =
     let a = c .before .before .before .before .before .args in
     let b = c .before .before .before .byte in
     sym
-    (number-departs (now (a .text)) (a .at) (λ e. omega (arith, b .ensures))
+    (decimal-departs (now (a .text)) 3 (a .at) (λ e. omega (arith, b .ensures))
     (rw (b .ensures) at (above 49 57 (b .result) (omega arith) (omega arith))))
 
 pub number-spec : {M : Type 1} → statement M

@@ -5,8 +5,7 @@ use native.Mathlib.Omega.{arith}
 use lib.ListN.{length}
 use borrow.Author.Needs.{needs}
 use denote.Ref.{now}
-use Rattle.definitions.specs.Form.{byteAt}
-use Rattle.definitions.specs.SheetForm.{scanMore}
+use Rattle.definitions.specs.Form.{byteAt, scanMore}
 use Rattle.text_theory.specs.Numbers.{byte-within}
 use Rattle.text.specs.Scans.{numberGives}
 use Rattle.verify.specs.Offsets.{behind}

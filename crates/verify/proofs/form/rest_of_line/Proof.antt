@@ -2,8 +2,8 @@
 use mathlib.Core.Path.{refl, sym, _∙_, ap}
 use lib.ListN.{length}
 use denote.Ref.{now}
-use Rattle.definitions.specs.Form.{bytes, scanForm}
-use Rattle.definitions.specs.SheetForm.{lineEnd, scanMore}
+use Rattle.definitions.specs.Form.{bytes, scanForm, scanMore}
+use Rattle.definitions.specs.SheetForm.{lineEnd}
 use Rattle.text_theory.specs.Forms.{noZero}
 use Rattle.text.specs.ItemByItem.{form-word}
 use Rattle.text.specs.Scans.{wordGives}

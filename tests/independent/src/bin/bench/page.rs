@@ -55,6 +55,8 @@ fn goals(page: &mut String, rows: &[Row]) {
         at_most(what, 1.5, "the plain version", &of);
     }
     at_most("import", 1.3, "`read` of the same links", &|row| row.what == "import, by read");
+    at_most("reports", 1.0, "the plain version", &|row| row.what.starts_with("reports") && row.what != "reports, by read");
+    at_most("reports", 2.5, "`read` of the same links", &|row| row.what == "reports, by read");
     let (ratio, mut shown) = beside_flow(rows, "faster", |row| Some(&row.time)).expect("a row");
     if let Some((_, counted)) = beside_flow(rows, "fewer", |row| row.count.as_ref()) {
         write!(shown, ". Instructions: {counted}").unwrap();
@@ -116,15 +118,18 @@ pub fn page(bench: &Bench, machine: &str) -> String {
     let mut page = format!(
         "# How fast it is\n\n\
          Written by `tests/bench`: the proved library beside an ordinary Rust program for the same operation (`tests/independent/src/swift.rs`,\n\
-         a scan over one array of keys, `swift_text.rs` and `swift_dimacs.rs`) and beside a flow program (Dinic on split relays, `flow.rs`), on the same networks in one run.\n\
+         a scan over one array of keys, `swift_text.rs`, `swift_dimacs.rs` and `swift_reports.rs`) and beside a flow program (Dinic on split relays, `flow.rs`), on the same networks in one run.\n\
          The run was made on {machine}.\n\
-         Each time is the least of {batches} batches, in microseconds. Every operation but `read`, `import` and `plan` includes the table check.\n\
+         Each time is the least of {batches} batches, in microseconds. Every operation but `read`, `import`, `reports` and `plan` includes the table check.\n\
          The flow program finds and writes its k routes; it checks nothing. A route joins the two ends of the widest stretch of places in\n\
          one tree of forest k, and `route with links` gives the indices of its links, too. `order, by count` sets the library's order beside\n\
          a plain scan that keeps the waiting relays by their count, as bits, as the library does. `plan` is the whole planner, from the bytes\n\
          of a wish and a network to the bytes of the sheet, and `verify` reads that sheet back with the table.\n\
          `import` is given a drawing of the links without comments, the low end first in each line or, with `ends mixed`, in half of them; with\n\
          `by read` the column of plain Rust has the library's own `read`, on a text of the same links without `out` lines.\n\
+         `reports` is given the link reports of the relays in service, in any order; with `by read` the column of plain Rust has the library's\n\
+         own `read`, on a text of the network that they make; with `most seen from the low end` each relay also sees all higher ones, with\n\
+         `from the high end` all lower ones, some 2 MB.\n\
          Networks: `random` has three links a relay, `band` links each relay to the next three, `core` is a full network of 70 with a tree on it,\n\
          and `thinned` is `random` with each tenth relay withdrawn; in the others all are in service.\n\
          `speed.tsv` has every row: each operation on each network, with its times and instructions.\n\n\

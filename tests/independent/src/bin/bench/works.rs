@@ -8,7 +8,7 @@ use independent::random::Random;
 use independent::sweep::Wish;
 use independent::table::Network;
 use independent::texts::input;
-use independent::{swift, swift_dimacs, swift_sheet, swift_text, text};
+use independent::{sets, swift, swift_dimacs, swift_reports, swift_sheet, swift_text, text};
 use std::collections::HashSet;
 use std::hint::black_box;
 
@@ -28,6 +28,7 @@ pub fn each(measure: &mut dyn Measure) {
             let net = network(kind, n);
             operations(measure, kind, &net);
             drawings(measure, kind, &net);
+            reports(measure, kind, &net);
             routes(measure, kind, &net);
             eprintln!("{kind} {n}");
         }
@@ -127,6 +128,40 @@ fn drawings(measure: &mut dyn Measure, kind: &'static str, net: &Network) {
     let drawn = plain(net).concat();
     let library: &mut dyn FnMut() = &mut || run(library::import(&drawn, &mut a, &mut b, &mut e));
     measure.row(kind, net, "import, by read", &mut [library, &mut || run(library::read(&written, &mut c, &mut d, &mut f))]);
+}
+
+/// The reports of the relays in service, in any order, beside the plain program, and beside the library's own Read of a text of the same
+/// links; of the largest random network, also with each relay seeing all higher ones, and with each seeing all lower ones: some 2 MB, and
+/// the same links.
+fn reports(measure: &mut dyn Measure, kind: &'static str, net: &Network) {
+    let (random, made) = (&mut Random::new(1), sets::reported(net));
+    let mut reports = sets::plain(random, net);
+    random.shuffle(&mut reports);
+    let set = sets::text(&reports);
+    reported(measure, kind, &made, "reports", &set);
+    let written = text::text(&made).into_bytes();
+    let [mut a, mut b, mut c, mut d] = [(); 4].map(|()| vec![0u16; 3000]);
+    let (mut e, mut f) = (vec![0u16; 1000], vec![0u16; 1000]);
+    let library: &mut dyn FnMut() = &mut || run(library::reports(net.n, &set, &mut a, &mut b, &mut e));
+    measure.row(kind, &made, "reports, by read", &mut [library, &mut || run(library::read(&written, &mut c, &mut d, &mut f))]);
+    if kind == "random" && usize::from(net.n) == LARGEST {
+        let (mut low, mut high) = (reports.clone(), reports);
+        low.iter_mut().for_each(|report| (report.relay + 1..net.n).for_each(|other| sets::see(report, other)));
+        high.iter_mut().for_each(|report| (0..report.relay).for_each(|other| sets::see(report, other)));
+        reported(measure, kind, &made, "reports, most seen from the low end", &sets::text(&low));
+        reported(measure, kind, &made, "reports, most seen from the high end", &sets::text(&high));
+    }
+}
+
+/// A set that makes this network, beside the plain program.
+fn reported(measure: &mut dyn Measure, kind: &'static str, made: &Network, what: &str, set: &[u8]) {
+    let [mut a, mut b, mut c, mut d] = [(); 4].map(|()| vec![0u16; 3000]);
+    let (mut e, mut f) = (vec![0u16; 1000], vec![0u16; 1000]);
+    assert_eq!(library::reports(made.n, set, &mut a, &mut b, &mut e).code, 0);
+    assert!(swift_reports::reports(made.n, set, &mut c, &mut d, &mut f).is_ok() && [&a, &b, &e] == [&c, &d, &f]);
+    assert!(a.starts_with(&made.lows) && b.starts_with(&made.highs) && e.starts_with(&made.states));
+    let library: &mut dyn FnMut() = &mut || run(library::reports(made.n, set, &mut a, &mut b, &mut e));
+    measure.row(kind, made, what, &mut [library, &mut || run(swift_reports::reports(made.n, set, &mut c, &mut d, &mut f))]);
 }
 
 fn planned(measure: &mut dyn Measure, kind: &'static str, net: &Network, wish: Wish) {

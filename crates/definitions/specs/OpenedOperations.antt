@@ -1,0 +1,170 @@
+-- The definitions of networks, their operations and their text that stay shut, opened at once. A new definition gets one line here.
+-- Assumes nothing.
+use Rattle.definitions.specs.Outcome as Outcome
+use Rattle.definitions.specs.Lists as Lists
+use Rattle.definitions.specs.Network as Network
+use Rattle.definitions.specs.Order as Order
+use Rattle.definitions.specs.Forests as Forests
+use Rattle.definitions.specs.Sweep as Sweep
+use Rattle.definitions.specs.Route as Route
+use Rattle.definitions.specs.Over as Over
+use Rattle.definitions.specs.Rising as Rising
+use Rattle.definitions.specs.Form as Form
+use Rattle.definitions.specs.Text as Text
+
+unfoldable pub openedOperations : Unit {0}
+unfolding
+    Outcome.refuseIf
+    Outcome.andThen
+    Outcome.ifDone
+    Lists.table
+    Lists.overwrite
+    Lists.zeroed
+    Lists.outside
+    Lists.someBelow
+    Lists.largest
+    Lists.firstFrom
+    Lists.snocIf
+    Lists.rising
+    Lists.consIf
+    Lists.keep
+    Lists.has
+    Lists.count
+    Lists.positionFrom
+    Lists.position
+    Lists.total
+    Lists.greatest
+    Lists.joinAll
+    Network.rowStart
+    Network.pairNumber
+    Network.pairAnswer
+    Network.isPair
+    Network.joins
+    Network.linked
+    Network.touches
+    Network.serves
+    Network.linkServes
+    Network.linkFault
+    Network.linkBelow
+    Network.linksCheck
+    Network.statesFault
+    Network.tableCheck
+    Order.weight
+    Order.heaviest
+    Order.unplaced
+    Order.heaviestOf
+    Order.nextRelay
+    Order.placeNext
+    Order.placedAfter
+    Order.allRelays
+    Order.servingRelays
+    Order.linksAt
+    Order.firstRelay
+    Order.orderOf
+    Order.placeOf
+    Order.relayAt
+    Order.orderAnswer
+    Order.relaysAfter
+    Order.placesOf
+    Order.placesAfter
+    Forests.earlier
+    Forests.left
+    Forests.forestBetween
+    Forests.forestOf
+    Forests.laterOf
+    Forests.leftLink
+    Forests.leftEntry
+    Forests.forestsOf
+    Forests.rootWithin
+    Forests.oneTree
+    Forests.splitAnswer
+    Forests.forestsAfter
+    Forests.markOf
+    Forests.marksOf
+    Forests.cutAnswer
+    Forests.marksAfter
+    Sweep.endOf
+    Sweep.beforeEnd
+    Sweep.extend
+    Sweep.slotAt
+    Sweep.startSlot
+    Sweep.slotAtT
+    Sweep.endsA
+    Sweep.endsB
+    Sweep.together
+    Sweep.previousIn
+    Sweep.replaceEnds
+    Sweep.exchange
+    Sweep.downshift
+    Sweep.settle
+    Sweep.highestAt
+    Sweep.shiftedSlot
+    Sweep.slotElsewhere
+    Sweep.slotAfter
+    Sweep.slotsAfter
+    Sweep.sweepFrom
+    Sweep.sweep
+    Sweep.slotRoute
+    Sweep.sweepRoutes
+    Route.leftOf
+    Route.routesBetween
+    Route.routesOf
+    Route.oneTreeOf
+    Route.tooShort
+    Route.routeUnless
+    Route.routeAnswer
+    Route.countsAfter
+    Route.routeRelaysAfter
+    Route.scratchUsed
+    Route.scratchAfter
+    Over.pathLinks
+    Over.slotOver
+    Over.sweepOvers
+    Over.oversBetween
+    Over.entryOf
+    Over.oversOf
+    Over.linksTooShort
+    Over.routeLinksAnswer
+    Over.routeLinksCounts
+    Over.routeLinksRelays
+    Over.routeLinksLinks
+    Over.routeLinksScratch
+    Rising.highEnds
+    Rising.highsFrom
+    Rising.lowsFrom
+    Form.byteAt
+    Form.scanWord
+    Form.scanDigits
+    Form.scanNumber
+    Form.scanItem
+    Form.withFront
+    Form.following
+    Form.scanMore
+    Form.scanForm
+    Form.onScan
+    Form.decimalWithin
+    Form.decimal
+    Form.spaced
+    Form.writeForm
+    Text.headerForm
+    Text.linkForm
+    Text.outForm
+    Text.endForm
+    Text.withdrawn
+    Text.allStates
+    Text.readEnd
+    Text.readOuts
+    Text.readLinks
+    Text.readNetwork
+    Text.readAnswer
+    Text.filled
+    Text.lowsAfter
+    Text.highsAfter
+    Text.statesAfter
+    Text.linkLines
+    Text.outLine
+    Text.outLines
+    Text.textOf
+    Text.writeAnswer
+    Text.bufferAfter
+openedOperations = tt

@@ -1,2 +1,0 @@
--- What the importer's functions leave in its output.
-pub mod Printed
