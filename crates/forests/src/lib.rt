@@ -1,5 +1,7 @@
 // Order, Split and Cut of document 01 over the scan, which places relays one after another and gives each link its forest
 // number in the same pass. What each answer stands for is said in specs/Answers.antt.
+#![tactic(auto)]
+
 ghost use Rattle.std.specs.Prelude.{◌≡◌, ◌≤◌, length};
 ghost use Rattle.definitions.specs.Lists.{overwrite, total};
 ghost use Rattle.definitions.specs.Network.{Accepted};
@@ -27,21 +29,21 @@ pub mod results;
 pub mod scan;
 mod walk;
 
-#[derive(Drop)]
+#[derive(Clone, Copy)]
 pub enum OrderAnswer {
     Done,
     Refused(Refusal),
 }
 
 // The highest forest used, 0 without links.
-#[derive(Drop)]
+#[derive(Clone, Copy)]
 pub enum SplitAnswer {
     Highest(u16),
     Refused(Refusal),
 }
 
 // How many links are kept.
-#[derive(Drop)]
+#[derive(Clone, Copy)]
 pub enum CutAnswer {
     Kept(u16),
     Refused(Refusal),

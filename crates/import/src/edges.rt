@@ -13,7 +13,7 @@ use text::rows::Step;
 use text::scan::{PairScan, WordScan};
 
 // A vertex of a drawing, from 1 on: its relay is one lower.
-#[derive(Drop)]
+#[derive(Clone, Copy)]
 struct Vertex(u16);
 
 // The relay of a vertex.

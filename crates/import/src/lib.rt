@@ -1,4 +1,6 @@
 // Import of document 02, #106: a text in the public DIMACS edge format to a network's table.
+#![tactic(auto)]
+
 ghost use Rattle.std.specs.Prelude.{[], ◌≡◌, ◌≤◌, length};
 ghost use Rattle.definitions.specs.Dimacs.{
   read_edges,

@@ -1,5 +1,7 @@
 // The importer: reads a drawing in the DIMACS edge format from standard input and prints the network's own text, or the refusal. An
 // input that is longer than the room gets nothing: what is said of a drawing rests on its last byte too.
+#![tactic(auto)]
+
 use input::Feature;
 
 mod convert;

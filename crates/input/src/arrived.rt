@@ -7,7 +7,7 @@ ghost use Rattle.io.specs.Counts.{clamp_len};
 use libc::STDIN_FILENO;
 
 // What one read brought: no byte where it failed, and none where the input has ended.
-#[derive(Drop)]
+#[derive(Clone, Copy)]
 pub struct Got {
     failed: bool,
     count: usize,
@@ -47,7 +47,7 @@ pub fn read_more(buffer: &mut [u8], size: usize) -> Got
 }
 
 // What all the reads brought: whether one failed, whether the input ended, and how many bytes.
-#[derive(Drop)]
+#[derive(Clone, Copy)]
 pub struct Arrived {
     failed: bool,
     ended: bool,

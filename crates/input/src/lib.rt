@@ -1,5 +1,7 @@
 // All that a program has to do with the outside: it reads standard input into a room of its own, hands over the text that is due, and
 // complains. The programs name neither read nor write, so that they can hand over nothing else.
+#![tactic(auto)]
+
 ghost use Rattle.std.specs.Prelude.{false, ◌≡◌, length};
 ghost use Rattle.definitions.specs.Program.{input_room};
 ghost use Rattle.io.specs.Counts.{IsPrefixLen};

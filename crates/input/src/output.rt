@@ -6,7 +6,7 @@ use crate::arrived::Arrived;
 use libc::{STDERR_FILENO, STDOUT_FILENO};
 
 // What is asked for: each program has one, and says with it whose text is due.
-#[derive(Drop)]
+#[derive(Clone, Copy)]
 pub enum Feature {
     Plan,
     Keep,

@@ -15,7 +15,7 @@ use Rattle.definitions.specs.Forests.{forest_of, mark_of, forests_of, marks_of}
 use Rattle.definitions.specs.Keep.{dropped_count, idle_count}
 use Rattle.definitions.specs.KeepPromise.{dispensable}
 use Rattle.lists.specs.Counting.{count-length, count_same, count-table}
-use Rattle.lists.specs.Maps.{get_d_map}
+use Rattle.lists.specs.Maps.{get_or-map}
 use Rattle.lists.specs.Members.{range-bounds}
 use Rattle.lists.specs.Tables.{length-table}
 use Rattle.lists.specs.Tests.{or_left, or_right}
@@ -87,7 +87,7 @@ module _ (n : ℕ) (lows highs states : List ℕ) (k : ℕ) where
   pub mark-at : (i : ℕ) → i < length lows
       → get_or (marks_of n lows highs states k) i 0 ≡ pick (dispensable n lows highs states k i) 0 1
   unfolding marks_of mark_of dispensable
-  mark-at i h = get_d_map (mark_of k) (forests_of n lows highs states) i 0 0 (omega (arith, forests-length n lows highs states))
+  mark-at i h = get_or-map (mark_of k) (forests_of n lows highs states) i 0 0 (omega (arith, forests-length n lows highs states))
 
   zero-mark : (i : ℕ) → i < length lows → eqb (get_or (marks_of n lows highs states k) i 0) 0 ≡ dispensable n lows highs states k i
   zero-mark i h = ap (λ (mark : ℕ). eqb mark 0) (mark-at i h) ∙ go (dispensable n lows highs states k i)

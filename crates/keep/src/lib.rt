@@ -1,4 +1,6 @@
 // The desk's list of the links worth keeping under lease: from the bytes of the input to the bytes of the output.
+#![tactic(auto)]
+
 ghost use Rattle.std.specs.Prelude.{◌≡◌, length};
 ghost use Rattle.definitions.specs.Lists.{overwrite};
 ghost use Rattle.definitions.specs.Keep.{keep_text};

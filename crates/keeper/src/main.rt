@@ -1,4 +1,6 @@
 // The keeper: reads a line `(keep K)` and a network text from standard input and prints the list of links, or the refusal.
+#![tactic(auto)]
+
 use input::Feature;
 
 fn main() {

@@ -1,1 +1,3 @@
 // No functions: facts on lists and numbers stand in specs/.
+#![tactic(auto)]
+

@@ -1,5 +1,7 @@
 // The table of a network: relay numbers and places, and the table check. What its answers stand for is said in
 // specs/Answers.antt.
+#![tactic(auto)]
+
 ghost use Rattle.std.specs.Prelude.{◌||◌, ◌≡◌, ◌≤◌, eqb, leb, length};
 ghost use Rattle.definitions.specs.Outcome.{pick};
 ghost use Rattle.definitions.specs.Network.{links_check, table_check};
@@ -20,22 +22,22 @@ pub mod row_starts;
 mod states;
 
 // A relay number, never a place in the order.
-#[derive(Drop)]
+#[derive(Clone, Copy)]
 pub struct Relay(pub u16);
 
 // A place in the order, 1 to n; 0 for none. Never a relay number.
-#[derive(Drop)]
+#[derive(Clone, Copy)]
 pub struct Place(pub u16);
 
 // The answer of the table check.
-#[derive(Drop)]
+#[derive(Clone, Copy)]
 pub enum Check {
     Accepted,
     Refused(Refusal),
 }
 
 // What is wrong with one link after those before it.
-#[derive(Drop)]
+#[derive(Clone, Copy)]
 pub enum LinkCheck {
     Fine,
     RelayRange,

@@ -11,7 +11,7 @@ use crate::row_starts::row_start;
 use crate::{LinkCheck, Relay, row_starts};
 
 // The answer of the pair number.
-#[derive(Drop)]
+#[derive(Clone, Copy)]
 pub enum Pair {
     Number(u32),
     Refused(Refusal),

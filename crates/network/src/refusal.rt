@@ -3,7 +3,7 @@ ghost use Rattle.std.specs.Prelude.{◌≡◌};
 ghost use Rattle.network.specs.Answers.{refusal_number, refusal_place};
 
 // Refusals 1 to 21, in this order; the field is the place in the input where it is not always 0.
-#[derive(Drop)]
+#[derive(Clone, Copy)]
 pub enum Refusal {
     Wish(usize),
     Form(usize),

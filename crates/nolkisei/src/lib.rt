@@ -1,5 +1,7 @@
 // The C interface: each operation of documents 01 and 02 as a C function; link reports are in `link_reports`, and what programs print is in
 // `printed`. What a code and the two entries of `answer` mean is said in specs/Reported.antt, and for C programs in include/nolkisei.h.
+#![tactic(auto)]
+
 ghost use Rattle.std.specs.Prelude.{◌≡◌};
 ghost use Rattle.definitions.specs.Network.{pair_answer, table_check};
 ghost use Rattle.definitions.specs.Text.{read_answer, lows_after, highs_after, states_after, write_answer, buffer_after};

@@ -10,7 +10,7 @@ use Rattle.definitions.specs.Route.{routes_of}
 use Rattle.definitions.specs.Over.{overs_of, OverHolds}
 use Rattle.definitions.specs.Demand.{Kept}
 use Rattle.lists.specs.Searches.{first-within}
-use Rattle.lists.specs.Maps.{get_d_map}
+use Rattle.lists.specs.Maps.{get_or-map}
 use Rattle.lists.specs.Steps.{steps_of, lengths-steps_of}
 use Rattle.theory.specs.Accepted.{accepted}
 use Rattle.theory.specs.Links.{one_link}
@@ -67,7 +67,7 @@ module _ (n : ℕ) (lows highs states : List ℕ) (k from to : ℕ) (passed : Ro
       let holds = (routes-of n lows highs states k from to passed).disjoint.each i within in
       let over : get_or (overs_of n lows highs states k from to) i [] ≡ steps_of (pair_link lows highs) (get_or routes i []) =
       ap (λ (overs : List (List ℕ)). get_or overs i []) overs-are
-      ∙ get_d_map (steps_of (pair_link lows highs)) routes i [] [] within in
+      ∙ get_or-map (steps_of (pair_link lows highs)) routes i [] [] within in
       subst (OverHolds lows highs (get_or routes i [])) (sym over)
       (over-holds lows highs (one_link n lows highs (accepted n lows highs states passed.accepted)) (Kept (marks_of n lows highs states k))
       (get_or routes i []) (omega (arith, holds.runs.long)) holds.runs.along)

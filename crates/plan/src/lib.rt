@@ -1,4 +1,6 @@
 // The planner of document 01: from the bytes of the input to the bytes of the output.
+#![tactic(auto)]
+
 ghost use Rattle.std.specs.Prelude.{◌≡◌, length};
 ghost use Rattle.definitions.specs.Lists.{overwrite};
 ghost use Rattle.definitions.specs.Program.{print_answer, output_after};

@@ -9,7 +9,7 @@ use text::scan;
 use text::scan::{NumberScan, PairScan};
 
 // The offset of the first byte that departs, or the wish's three numbers and the offset behind the line.
-#[derive(Drop)]
+#[derive(Clone, Copy)]
 pub enum WishScan {
     Departs(usize),
     Reads(u16, u16, u16, usize),

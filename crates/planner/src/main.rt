@@ -1,4 +1,6 @@
 // The planner: reads a wish and a network text from standard input and prints the sheet, or the refusal.
+#![tactic(auto)]
+
 use input::Feature;
 
 fn main() {

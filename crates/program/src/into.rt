@@ -7,7 +7,7 @@ use network::Refusal;
 use text::put;
 
 // The length of what is printed, or 12.
-#[derive(Drop)]
+#[derive(Clone, Copy)]
 pub enum PrintAnswer {
     Printed(usize),
     Refused(Refusal),

@@ -1,5 +1,7 @@
 // The reporter: reads a line with the number of relays and a set of reports from standard input and prints the network's own text, or the
 // refusal. An input that is longer than the room gets nothing: what is said of a set rests on its last byte too.
+#![tactic(auto)]
+
 use input::Feature;
 
 mod convert;

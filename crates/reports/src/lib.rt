@@ -1,4 +1,6 @@
 // A set of standing reports becomes a network's table (document 02, #108).
+#![tactic(auto)]
+
 ghost use Rattle.std.specs.Prelude.{false, ◌≡◌, ◌≤◌, length};
 ghost use Rattle.definitions.specs.ReportSets.{
   reports_network,

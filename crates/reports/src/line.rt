@@ -19,7 +19,7 @@ const LAST_SERIAL: u64 = 4294967295;
 
 // Those that a report sees: it departs from its form or is bad; or one more than the last of them, 0 after none, the offset after them,
 // and the offset where those above its relay begin.
-#[derive(Drop)]
+#[derive(Clone, Copy)]
 enum Seen {
     Bad,
     Ends(u16, usize, usize),
@@ -27,7 +27,7 @@ enum Seen {
 
 // A report line: it departs from its form or is bad; or its relay, its serial, the offset where those seen begin, the greatest number
 // that it names, the offset after it, and the offset where those above the relay begin.
-#[derive(Drop)]
+#[derive(Clone, Copy)]
 pub enum ReportScan {
     Bad,
     Reads(Relay, u32, usize, Relay, usize, usize),

@@ -11,7 +11,7 @@ use text::scan;
 use text::scan::NumberScan;
 
 // Where a relay's numbers stand once those below another are passed, and whether the next of them is that one.
-#[derive(Drop)]
+#[derive(Clone, Copy)]
 struct Cursor {
     at: usize,
     there: bool,

@@ -7,7 +7,7 @@ use crate::line::{ReportScan, report_line};
 use network::limits::RELAY_ROOM;
 
 // What the lines of a set tell: one is out of form or bad; or whether a relay reports twice, and whether a number is not below n.
-#[derive(Drop)]
+#[derive(Clone, Copy)]
 pub(crate) enum Told {
     Bad,
     All(bool, bool),

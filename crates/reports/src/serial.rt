@@ -7,7 +7,7 @@ ghost use Rattle.reports.specs.Lines.{serial_gives};
 use text::scan::byte;
 
 // A serial, or the offset where it departs.
-#[derive(Drop)]
+#[derive(Clone, Copy)]
 pub(crate) enum SerialScan {
     Departs(usize),
     Reads(u64, usize),

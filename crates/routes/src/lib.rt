@@ -1,5 +1,7 @@
 // Route of document 01, alone and with the links of its routes (document 02, #101): the sweep over the left table of a network,
 // and the routes written out. What its answer stands for is said in specs/Answers.antt.
+#![tactic(auto)]
+
 ghost use Rattle.std.specs.Prelude.{◌≡◌};
 ghost use Rattle.definitions.specs.Route.{route_answer, counts_after, route_relays_after, scratch_after};
 ghost use Rattle.definitions.specs.Over.{route_links_answer, route_links_counts, route_links_relays, route_links_links, route_links_scratch};
@@ -17,7 +19,7 @@ mod wish;
 mod write;
 
 // The count of relays written.
-#[derive(Drop)]
+#[derive(Clone, Copy)]
 pub enum RouteAnswer {
     Written(usize),
     Refused(Refusal),

@@ -1,5 +1,7 @@
 // The stander: reads a line that tells where the border is and two reports of a relay from standard input and prints the report that
 // stands, or the refusal. An input that is longer than the room gets no line: which report stands rests on its last byte too.
+#![tactic(auto)]
+
 use input::Feature;
 
 fn main() {

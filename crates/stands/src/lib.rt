@@ -1,4 +1,6 @@
 // Which of two reports of a relay stands (document 02, #108): as the bytes in its own text, and as a number where none stands.
+#![tactic(auto)]
+
 ghost use Rattle.std.specs.Prelude.{◌≡◌};
 ghost use Rattle.definitions.specs.Stands.{wrapped, ahead, same_list, standing, standing_bytes, standing_check};
 ghost use Rattle.network.specs.Answers.{check_outcome};
@@ -10,7 +12,7 @@ use network::{Check, Refusal};
 use reports::line::{ReportScan, report_line};
 
 // Which of two texts stands.
-#[derive(Drop)]
+#[derive(Clone, Copy)]
 pub enum Which {
     First,
     Second,
@@ -18,7 +20,7 @@ pub enum Which {
 }
 
 // The relay and the serial of a report; `good` where the text is one report.
-#[derive(Drop)]
+#[derive(Clone, Copy)]
 struct Head {
     good: bool,
     relay: u16,

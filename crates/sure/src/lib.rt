@@ -1,4 +1,6 @@
 // One sure figure for a network (document 02, #107): from the bytes of the input to the bytes of the output.
+#![tactic(auto)]
+
 ghost use Rattle.std.specs.Prelude.{◌≡◌, length};
 ghost use Rattle.definitions.specs.Lists.{overwrite};
 ghost use Rattle.definitions.specs.Sure.{sure_text};

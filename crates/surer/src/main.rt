@@ -1,5 +1,7 @@
 // The surer: reads a network text from standard input and prints the sheet for the last two relays of its order, the line where there is
 // none, or the refusal.
+#![tactic(auto)]
+
 use input::Feature;
 
 fn main() {

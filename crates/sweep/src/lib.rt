@@ -1,5 +1,7 @@
 // The sweep of document 01 over a left table, on the lists of the two sides (`side`): A starts at s, the later place, B at t.
 // Route writes its routes out of these lists (crate `routes`).
+#![tactic(auto)]
+
 ghost use Rattle.std.specs.Prelude.{◌≡◌, ◌+◌, ◌*◌, ◌≤◌, ◌<◌, length};
 ghost use Rattle.sweep.specs.Side.{table_entry, prior_start};
 ghost use Rattle.sweep.specs.Sides.{sides, highest_in, start_a, start_b, leave_at, leave_from, pass_at, step_in, sweep_in, swept_in};

@@ -16,7 +16,7 @@ const LINKS: usize = 66;
 pub const PRIORS: usize = 99;
 
 // What looking up left(i, v) gives: the neighbour's place, 0 for none, and the index of the link to it.
-#[derive(Drop)]
+#[derive(Clone, Copy)]
 pub struct Neighbour {
     pub place: Place,
     pub link: u16,

@@ -1,4 +1,6 @@
 // Read and Write of document 01: a network's text to its table and back.
+#![tactic(auto)]
+
 ghost use Rattle.std.specs.Prelude.{[], ◌≡◌, ◌+◌, ◌≤◌, ◌<◌, length};
 ghost use Rattle.definitions.specs.Lists.{overwrite};
 ghost use Rattle.definitions.specs.Network.{Accepted};
@@ -34,14 +36,14 @@ use rows::Step;
 use scan::{Due, PairScan};
 
 // What Read answers: the number of relays and of links.
-#[derive(Drop)]
+#[derive(Clone, Copy)]
 pub enum ReadAnswer {
     Table(u16, u16),
     Refused(Refusal),
 }
 
 // What Write answers: the text's length in bytes.
-#[derive(Drop)]
+#[derive(Clone, Copy)]
 pub enum WriteAnswer {
     Length(usize),
     Refused(Refusal),

@@ -7,7 +7,7 @@ ghost use Rattle.text.specs.Scans.{pair_gives};
 
 use crate::scan::{Due, PairScan};
 
-#[derive(Drop)]
+#[derive(Clone, Copy)]
 struct Mark<'a> {
     text: &'a [u8],
     at: usize,

@@ -8,7 +8,7 @@ use crate::scan::{Due, PairScan};
 use network::{Refusal, Relay};
 
 // An `out` line read: its relay and the offset behind it, or a refusal.
-#[derive(Drop)]
+#[derive(Clone, Copy)]
 enum OutLine {
     Withdraws(Relay, usize),
     Refused(Refusal),

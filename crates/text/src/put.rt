@@ -12,7 +12,7 @@ ghost use Rattle.text.specs.WrittenOuts.{AtMostEach};
 use crate::scan::Due;
 
 // Where the writer stands: the next offset, and how many links are written.
-#[derive(Drop)]
+#[derive(Clone, Copy)]
 pub(crate) struct WriteMark {
     pub next: usize,
     pub links: usize,

@@ -10,7 +10,7 @@ use network::limits::{FEW_RELAYS, FEWEST_RELAYS};
 use network::{LinkCheck, Refusal, Relay};
 
 // A part of a text read: the offset behind it, or a refusal.
-#[derive(Drop)]
+#[derive(Clone, Copy)]
 pub enum Step {
     Next(usize),
     Refused(Refusal),

@@ -7,28 +7,28 @@ ghost use Rattle.text.specs.DueForms.{form_of, as_pair};
 ghost use Rattle.text.specs.Scans.{pair_form, number_form, word_gives, number_gives, pair_gives};
 
 // A word: the offset of the first byte that departs, or the offset behind it.
-#[derive(Drop)]
+#[derive(Clone, Copy)]
 pub enum WordScan {
     Departs(usize),
     Reads(usize),
 }
 
 // A number, or a word and a number.
-#[derive(Drop)]
+#[derive(Clone, Copy)]
 pub enum NumberScan {
     Departs(usize),
     Reads(u16, usize),
 }
 
 // A line of two numbers.
-#[derive(Drop)]
+#[derive(Clone, Copy)]
 pub enum PairScan {
     Departs(usize),
     Reads(u16, u16, usize),
 }
 
 // Which form of a network's text is due. `out` lines are due one by one in the reader, all at once in the writer.
-#[derive(Drop)]
+#[derive(Clone, Copy)]
 pub(crate) enum Due {
     Header,
     Link,

@@ -10,7 +10,7 @@ use Rattle.definitions.specs.Network.{link_serves, Accepted}
 use Rattle.definitions.specs.Order.{order_of}
 use Rattle.definitions.specs.Forests.{forests_of, forests_after, mark_of, marks_of, cut_answer, marks_after}
 use Rattle.definitions.specs.Demand.{Kept}
-use Rattle.lists.specs.Maps.{get_d_map}
+use Rattle.lists.specs.Maps.{get_or-map}
 use Rattle.lists.specs.Overwritten.{get_or-overwrite}
 use Rattle.lists.specs.Ranges.{inside}
 use Rattle.theory.specs.ForestNumbers.{forest_in, no-forest}
@@ -51,7 +51,7 @@ module _ (n : ℕ) (lows highs states : List ℕ) where
   pub mark-entry : (k i : ℕ) → i < length lows → get_or (marks_of n lows highs states k) i 0 ≡ mark_of k (forest_in (order_of n lows highs states) lows highs i)
   unfolding marks_of
   mark-entry k i h =
-      get_d_map (mark_of k) (forests_of n lows highs states) i 0 0 (omega (arith, forests-length n lows highs states))
+      get_or-map (mark_of k) (forests_of n lows highs states) i 0 0 (omega (arith, forests-length n lows highs states))
       ∙ ap (mark_of k) (forests-at n lows highs states i h)
 
   pub length-marks : (k : ℕ) → length (marks_of n lows highs states k) ≡ length lows

@@ -13,7 +13,7 @@ use Rattle.definitions.specs.Order.{order_of}
 use Rattle.definitions.specs.Forests.{forests_of}
 use Rattle.lists.specs.Tests.{and-all}
 use Rattle.lists.specs.Tables.{length-table}
-use Rattle.lists.specs.Maps.{get_d_map}
+use Rattle.lists.specs.Maps.{get_or-map}
 use Rattle.lists.specs.Members.{has-at, has-keep, index_of, range-bounds, range-has}
 use Rattle.lists.specs.Distinct.{range-no-repeat}
 use Rattle.lists.specs.Counting.{count-length, count-table, length-keep, no_longer}
@@ -106,7 +106,7 @@ module _ (order lows highs : List ℕ) (arranged : Arranged order lows highs) wh
           (eq-eqb w (later_place order lows highs i) (sym link.4)) in
           let at = index_of own i is_own in
           let number : get_or (map (forest_in order lows highs) own) at.0 0 ≡ f =
-          get_d_map (forest_in order lows highs) own at.0 0 0 at.1 ∙ ap (forest_in order lows highs) at.2 ∙ link.5 in
+          get_or-map (forest_in order lows highs) own at.0 0 0 at.1 ∙ ap (forest_in order lows highs) at.2 ∙ link.5 in
           rw number at
           (has-at (map (forest_in order lows highs) own) at.0 (omega (arith, at.1, length-map own (forest_in order lows highs))))
 

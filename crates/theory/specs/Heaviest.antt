@@ -54,7 +54,10 @@ module _ (w : ℕ → ℕ) where
           let lighter : w x < w b = f zero (omega arith) in
           let before : (i : ℕ) → i < suc (suc a) → w (get_or (x ∷ y ∷ l) i 0) < w b = elim [
             | zero ↦ λ k. lighter
-            | suc (i → ih) ↦ elim i [ zero ↦ λ k. omega arith | suc j ↦ λ k. f (suc j) (omega arith) ]
+            | suc (i → ih) ↦ elim i as (λ i. suc i < suc (suc a) → w (get_or (x ∷ y ∷ l) (suc i) 0) < w b) [
+              | zero ↦ λ k. omega arith
+              | suc j ↦ λ k. f (suc j) (omega arith)
+            ]
           ] in
           record { at = suc (suc a); within = omega arith; here = q; most = most; first = before }
 

@@ -12,7 +12,7 @@ use Rattle.definitions.specs.DisjointRoutes.{LinkOf, RouteHolds, Apart, Disjoint
 use Rattle.definitions.specs.Demand.{Kept}
 use Rattle.lists.specs.Members.{has-map}
 use Rattle.lists.specs.Distinct.{no-repeat-map}
-use Rattle.lists.specs.Maps.{get_d_map}
+use Rattle.lists.specs.Maps.{get_or-map}
 use Rattle.lists.specs.Cuts.{length-join_all-map}
 use Rattle.theory.specs.JoinedRelays.{along-map}
 use Rattle.lists.specs.Ends.{two-entries}
@@ -74,9 +74,9 @@ module _ (order lows highs : List ℕ) (arranged : Arranged order lows highs) (n
           runs =
               record {
                 long = omega arith;
-                starts = get_d_map at route 0 0 0 (omega arith) ∙ ap at holds.starts ∙ (relay-of-place order from hf).2;
+                starts = get_or-map at route 0 0 0 (omega arith) ∙ ap at holds.starts ∙ (relay-of-place order from hf).2;
                 ends =
-                    ap (λ (i : ℕ). get_or (map at route) i 0) last ∙ get_d_map at route (length route - 1) 0 0 (omega arith)
+                    ap (λ (i : ℕ). get_or (map at route) i 0) last ∙ get_or-map at route (length route - 1) 0 0 (omega arith)
                     ∙ ap at holds.ends ∙ (relay-of-place order to ht).2;
                 along =
                     along-map (LeftLink (left_in order lows highs) k) (LinkOf lows highs (Kept marks)) at
@@ -138,7 +138,7 @@ module _ (order lows highs : List ℕ) (arranged : Arranged order lows highs) (n
         → RoutesIn order n lows highs states marks k from to (map (map (relay_at order)) routes)
     relay-routes routes holds =
         let at : ℕ → ℕ = relay_at order in
-        let entry : (i : ℕ) → get_or (map (map at) routes) i [] ≡ map at (get_or routes i []) = λ i. ListN.get_d_map (map at) routes i [] in
+        let entry : (i : ℕ) → get_or (map (map at) routes) i [] ≡ map at (get_or routes i []) = λ i. ListN.get_or-map (map at) routes i [] in
         let size : length (map (map at) routes) ≡ k = length-map routes (map at) ∙ holds.number in
         let disjoint : DisjointRoutes n lows highs states (Kept marks) from to (map (map at) routes) =
         record {

@@ -1,7 +1,8 @@
 -- Two relays are in one tree of a forest, as joined by its links, exactly if the test on their places says so.
 -- Over any order; then for the base and accepted networks.
 use Rattle.std.specs.Prelude.{ℕ, ◌≤◌, ◌<◌, min, max, true, List, ◌↔◌, ◌≢◌, ◌≡◌, length}
-use Rattle.std.proofs.Math.Logic.{by_cases, Iff·trans, Iff·symm}
+use Rattle.std.proofs.Math.Logic.{by_cases}
+use Rattle.std.proofs.Math.Logic.Iff
 use Rattle.std.proofs.Common.{◌∙◌, subst₂, arith}
 use Rattle.std.proofs.Math.Decide.{dec_lt}
 use Rattle.definitions.specs.Lists.{has}
@@ -38,7 +39,7 @@ module _ (left : ℕ → ℕ → ℕ) (laws : LeftLaws left) (i p q : ℕ) (one 
       (λ more.
       let low : q ≡ min p q = omega arith in
       let high : p ≡ max p q = omega arith in
-      Iff·trans turn (subst₂ (λ (t s : ℕ). P q p ↔ Alive left i t s) low high (ordered q p other (omega arith))))
+      Iff.trans turn (subst₂ (λ (t s : ℕ). P q p ↔ Alive left i t s) low high (ordered q p other (omega arith))))
 
   chain-between : Joined (λ _. Unit {0}) (TreeLink left i) p q ↔ AliveBetween left i p q
   chain-between =
@@ -67,14 +68,14 @@ module _ (order lows highs : List ℕ) (arranged : Arranged order lows highs)
   module _ (differ : a ≢ b) where
     pub tree-alive : OneTree lows highs forests f a b ↔ AliveBetween (left_in order lows highs) f (place_of order a) (place_of order b)
     tree-alive =
-        Iff·trans tree-chain
+        Iff.trans tree-chain
         (chain-between (left_in order lows highs) arranged.laws f (place_of order a) (place_of order b)
         (relay-of-place order a ha).0 (relay-of-place order b hb).0 (places-apart order a b ha hb differ))
 
     pub tree-test : OneTree lows highs forests f a b ↔ (one_tree (left_in order lows highs) f (place_of order a) (place_of order b) ≡ true)
     tree-test =
-        Iff·trans tree-alive
-        (Iff·symm
+        Iff.trans tree-alive
+        (Iff.symm
         (test-between (left_in order lows highs) arranged.laws f (place_of order a) (place_of order b)
         (relay-of-place order a ha).0 (relay-of-place order b hb).0 (places-apart order a b ha hb differ)))
 

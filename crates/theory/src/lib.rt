@@ -1,1 +1,3 @@
 // No functions: the theorems about the definitions stand in specs/.
+#![tactic(auto)]
+

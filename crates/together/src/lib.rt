@@ -1,5 +1,7 @@
 // Order, Split, Cut and Route called on one network and one k. The promise is that of the four, answer by answer and list by
 // list, and demand 3 and the last two of the order (document 02, #107) of what they return and leave.
+#![tactic(auto)]
+
 ghost use Rattle.std.specs.Prelude.{◌≡◌};
 ghost use Rattle.definitions.specs.Order.{order_answer, relays_after, places_after};
 ghost use Rattle.definitions.specs.Forests.{split_answer, forests_after, cut_answer, marks_after};
@@ -13,7 +15,7 @@ use network::Relay;
 use routes::RouteAnswer;
 
 // The four answers.
-#[derive(Drop)]
+#[derive(Clone, Copy)]
 pub struct FourAnswers {
     pub order: OrderAnswer,
     pub split: SplitAnswer,

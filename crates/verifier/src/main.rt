@@ -1,5 +1,7 @@
 // The verifier: reads a line that tells where the border is, a network's text and a sheet's text from standard input and prints whether
 // the sheet holds, or the refusal. An input that is longer than the room gets no line: what is said of a sheet rests on its last byte too.
+#![tactic(auto)]
+
 use input::Feature;
 
 fn main() {

@@ -14,28 +14,28 @@ use text::scan;
 use text::scan::{NumberScan, PairScan, WordScan};
 
 // A route's two lines: the offset of its `(over` line and the offset behind that.
-#[derive(Drop)]
+#[derive(Clone, Copy)]
 pub(crate) enum TwoLines {
     Departs(usize),
     Reads(usize, usize),
 }
 
 // Lines of routes: how many, and the offset behind them.
-#[derive(Drop)]
+#[derive(Clone, Copy)]
 pub(crate) enum LineCount {
     Departs(usize),
     Reads(usize, usize),
 }
 
 // The first line: from, to and k, and the offset behind it.
-#[derive(Drop)]
+#[derive(Clone, Copy)]
 pub(crate) enum Head {
     Departs(usize),
     Reads(u16, u16, u16, usize),
 }
 
 // A text of the form: from, to and k, how many routes, `kept`, and the offset of the first route.
-#[derive(Drop)]
+#[derive(Clone, Copy)]
 pub(crate) enum Form {
     Departs(usize),
     Reads(u16, u16, u16, usize, u16, usize),

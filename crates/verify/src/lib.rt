@@ -1,4 +1,6 @@
 // Sheets read back: whether a sheet, whoever made it, holds for a network.
+#![tactic(auto)]
+
 ghost use Rattle.std.specs.Prelude.{◌≡◌, eqb};
 ghost use Rattle.definitions.specs.Forests.{marks_of};
 ghost use Rattle.definitions.specs.Lists.{count};
@@ -19,7 +21,7 @@ mod link;
 mod walk;
 
 // Whether a sheet holds, or a refusal.
-#[derive(Drop)]
+#[derive(Clone, Copy)]
 pub enum SheetAnswer {
     Refused(Refusal),
     Holds,

@@ -6,7 +6,7 @@ ghost use Rattle.verify.specs.Walks.{EndsKnown};
 use network::{Relay, in_service};
 
 // The index of a link in the table, never a relay number.
-#[derive(Drop)]
+#[derive(Clone, Copy)]
 pub(crate) struct Link(pub u16);
 
 // Whether a link with these ends is the pair a b.

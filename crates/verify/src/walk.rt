@@ -13,7 +13,7 @@ use text::scan;
 use text::scan::{NumberScan, WordScan};
 
 // The next relay and the next link of a route, each with the offset behind it; or both have run out, or one of them has.
-#[derive(Drop)]
+#[derive(Clone, Copy)]
 enum NextStep {
     End,
     Uneven,

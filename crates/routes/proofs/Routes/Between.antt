@@ -13,7 +13,7 @@ use Rattle.definitions.specs.Order.{relay_at}
 use Rattle.definitions.specs.Forests.{Entry}
 use Rattle.definitions.specs.Sweep.{slot_at, slot_route, sweep_routes}
 use Rattle.definitions.specs.Route.{routes_between}
-use Rattle.lists.specs.Maps.{get_d_map}
+use Rattle.lists.specs.Maps.{get_or-map}
 use Rattle.theory.specs.PlaceSweep.{Slot, sweep}
 use Rattle.theory.specs.LeftLaws.{LeftLaws}
 use Rattle.theory.specs.Trees.{Alive}
@@ -134,4 +134,4 @@ module _ (left : ℕ → ℕ → ℕ) (look : ℕ → ℕ → Entry) (laws : Lef
         (length-map (sweep_routes left k s t) reverse ∙ routes-length)
         (λ h within.
         subst (λ (r : List ℕ). HoldsRoute out.side_b out.side_a (suc h) r)
-        (sym (get_d_map reverse (sweep_routes left k s t) h [] [] (omega (arith, routes-length)))) (turned h within)))
+        (sym (get_or-map reverse (sweep_routes left k s t) h [] [] (omega (arith, routes-length)))) (turned h within)))

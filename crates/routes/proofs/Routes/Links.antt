@@ -12,7 +12,7 @@ use lib.Seq.{sets, set_comm}
 use Rattle.definitions.specs.Lists.{join_all}
 use Rattle.definitions.specs.Forests.{Entry}
 use Rattle.definitions.specs.Sweep.{sweep_routes}
-use Rattle.lists.specs.Maps.{get_d_map}
+use Rattle.lists.specs.Maps.{get_or-map}
 use Rattle.lists.specs.Stores.{sets-append}
 use Rattle.lists.specs.Steps.{steps_of, length-steps_of, steps_of-reverse_aux}
 use Rattle.theory.specs.LeftLaws.{LeftLaws}
@@ -147,5 +147,5 @@ module _ (left : ℕ → ℕ → ℕ) (look : ℕ → ℕ → Entry) (laws : Lef
       (length-map (sweep_routes left k s t) reverse ∙ number)
       (λ h within.
       subst (λ (r : List ℕ). HoldsRoute out.side_b out.side_a (suc h) r)
-      (sym (get_d_map reverse (sweep_routes left k s t) h [] [] (omega (arith, number))))
+      (sym (get_or-map reverse (sweep_routes left k s t) h [] [] (omega (arith, number))))
       (turned left look laws k s t less alive positive small agree n few high a b no_a no_b h within))
