@@ -1,10 +1,10 @@
 // What the reads of standard input brought. These values are made here alone, each by a function whose condition says when it may be
 // said: that a read failed, that the input ended, that the room is full.
-ghost use Rattle.std.specs.Prelude.{true, false, ◌≡◌, ◌+◌, ◌≤◌, pos, length};
-ghost use Rattle.std.specs.Int.Signed.{lt_z};
-ghost use Rattle.io.specs.Counts.{clamp_len};
+ghost use Rattle.std.specs.Prelude.{true, false, ◌≡◌, ◌+◌, ◌≤◌, length};
+ghost use Rattle.input.specs.Counts.{failed_in, count_in};
 
-use libc::STDIN_FILENO;
+use std::io;
+use std::io::{Read, Stdin};
 
 // What one read brought: no byte where it failed, and none where the input has ended.
 #[derive(Clone, Copy)]
@@ -27,22 +27,32 @@ impl Got {
     }
 }
 
-// What the read call's answer means: a failure where it is negative, else so many bytes.
-fn told(answer: isize, rest: &[u8]) -> Got
-    ensures { (result.failed ≡ lt_z answer (pos 0)) × (result.count ≤ length rest.now) × (result.count ≡ clamp_len answer (length rest.now)) }
+// What the read call's answer means: a failure where it is an error, else so many bytes.
+fn told(answer: io::Result<usize>, rest: &[u8]) -> Got
+    ensures { (result.failed ≡ failed_in answer) × (result.count ≤ length rest.now) × (result.count ≡ count_in answer (length rest.now)) }
 {
-    let failed = answer < 0;
-    let count = io::count(answer, rest);
-    Got { failed, count }
+    match answer {
+        Ok(size) => {
+            let count = if size <= rest.len() { size } else { rest.len() };
+            Got {
+                failed: false,
+                count,
+            }
+        }
+        Err(_) => Got {
+            failed: true,
+            count: 0,
+        },
+    }
 }
 
 // One read behind the first `size` bytes.
-pub fn read_more(buffer: &mut [u8], size: usize) -> Got
+pub fn read_more(stdin: &mut Stdin, buffer: &mut [u8], size: usize) -> Got
     requires { size ≤ length buffer.old }
     ensures { (size + result.count ≤ length buffer.new) × (length buffer.new ≡ length buffer.old) }
 {
     let rest = &mut buffer[size..];
-    let answer = libc::read(STDIN_FILENO, rest);
+    let answer = stdin.read(rest);
     told(answer, rest)
 }
 

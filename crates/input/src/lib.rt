@@ -4,8 +4,10 @@
 
 ghost use Rattle.std.specs.Prelude.{false, ◌≡◌, length};
 ghost use Rattle.definitions.specs.Program.{input_room};
-ghost use Rattle.io.specs.Counts.{IsPrefixLen};
+ghost use Rattle.input.specs.Counts.{IsPrefixLen};
 ghost use Rattle.input.specs.Whole.{long_input_room, set_input_room};
+
+use std::io::Stdin;
 
 mod arrived;
 mod output;
@@ -43,13 +45,13 @@ pub fn set_room() -> [u8; SET_ROOM]
 }
 
 // Reads until the buffer is full, the input ends or a read fails.
-pub fn read_all(buffer: &mut [u8]) -> Arrived
+pub fn read_all(stdin: &mut Stdin, buffer: &mut [u8]) -> Arrived
     ensures within { IsPrefixLen result.count buffer.new }
     ensures full { result.failed ≡ false → result.ended ≡ false → result.count ≡ length buffer.old }
 {
     let mut size: usize = 0;
     while size < buffer.len() {
-        let more = arrived::read_more(buffer, size);
+        let more = arrived::read_more(stdin, buffer, size);
         if more.is_failure() {
             return arrived::failed_at(size, more);
         }
