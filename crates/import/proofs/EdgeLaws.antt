@@ -1,5 +1,5 @@
 -- How the definition reads an `e` line and what is behind the last one, by what the line gave; what `check_edge` and `read_edge`
--- promise, way by way. Assumes nothing.
+-- promise, way by way.
 use Prim.Native.Nat.{ℕ, suc, ◌≤◌, ◌<◌}
 use mathlib.Core.Bool.{Bool, true, false, true≢false}
 use mathlib.Core.List.{List, [], ◌∷◌, ◌++◌}

@@ -1,4 +1,4 @@
--- How the definition imports a text by what its `p` line gave, and the import's promises from what was read. Assumes nothing.
+-- How the definition imports a text by what its `p` line gave, and the import's promises from what was read.
 use Prim.Native.Nat.{ℕ, ◌-◌, ◌≤◌, ◌<◌}
 use mathlib.Core.List.{List, [], ◌∷◌}
 use mathlib.Core.Path.{◌≡◌, sym, ◌∙◌, ap}

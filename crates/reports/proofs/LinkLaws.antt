@@ -1,6 +1,5 @@
 -- The links of a set merged row by row, up to all of them, in the terms of the code. Assumes nothing.
 use Prim.Native.Nat.{ℕ, suc, ◌+◌, ◌-◌, ◌≤◌, ◌<◌}
-use mathlib.Core.Bool.{true}
 use mathlib.Core.List.{List, []}
 use mathlib.Core.Path.{◌≡◌, refl, sym, ◌∙◌, ap, subst}
 use native.Mathlib.Decide.{dec_le}
@@ -9,7 +8,7 @@ use lib.ListN.{length, take, length-append}
 use lib.Seq.{get_or-take, length-take-le, ext_get_or}
 use Rattle.definitions.specs.Lists.{has}
 use Rattle.lists.specs.Ascending.{Ascending}
-use Rattle.lists.specs.Cursors.{drop_below, dropped-has, dropped-ascends, Cursors, cursors-start, cursors-later}
+use Rattle.lists.specs.Cursors.{dropped-has, dropped-ascends, Cursors, cursors-start, cursors-later}
 use Rattle.lists.specs.Merged.{Merging, Merged, merged-start, merged-end, row-begins, row_ends}
 use Rattle.reports.specs.Offsets.{numbers_from, offset_of, seen_from}
 use Rattle.reports.specs.Merges.{Stored, AllBelowIn, Found, InRow, SameRoom, RowMerged, Mergeable, LinksMerged}

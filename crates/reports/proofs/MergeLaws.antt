@@ -3,7 +3,7 @@ use Prim.Native.Nat.{ℕ, ◌+◌, ◌≤◌, ◌<◌}
 use mathlib.Core.Bool.{Bool, true, false}
 use mathlib.Core.List.{List, [], ◌∷◌, ◌++◌}
 use mathlib.Core.Path.{◌≡◌, refl, sym, ◌∙◌, ap}
-use native.Mathlib.Decide.{ℕ_discrete, dec_le}
+use native.Mathlib.Decide.{ℕ_discrete}
 use native.Mathlib.Omega.{arith}
 use lib.Dec.{eqb}
 use lib.ListN.{length, get_or, set, length-set, length-append, get_or-append}
@@ -11,10 +11,10 @@ use lib.Seq.{get_or-set_same, get_or-set_other, get_or-append_seam}
 use Rattle.definitions.specs.Lists.{has}
 use Rattle.lists.specs.Cases.{has_here, has_there}
 use Rattle.lists.specs.Cursors.{drop_below, next_is, dropped-less, dropped-stays, Cursors, cursors-step, sees_back}
-use Rattle.lists.specs.Merged.{Merging, row-skips, row-misses, row-takes}
+use Rattle.lists.specs.Merged.{row-skips, row-misses, row-takes}
 use Rattle.text_theory.specs.SpacedNumbers.{NoNumber, ANumber, none-at, numbers-next}
 use Rattle.reports.specs.Offsets.{numbers_from, offset_of, seen_from}
-use Rattle.reports.specs.Merges.{Passed, SawBack, Stored, AllBelowIn, Found, InRow, RowMoves, SameRoom, LinkTried, RowMerged}
+use Rattle.reports.specs.Merges.{Passed, SawBack, Stored, AllBelowIn, Found, RowMoves, SameRoom, LinkTried, RowMerged}
 
 -- Passing the numbers below a: no number is left, the next is not below a, or it is passed.
 module _ (text : List ℕ) (at a p : ℕ) (inv : drop_below a (numbers_from text at) ≡ drop_below a (numbers_from text p)) where

@@ -1,5 +1,5 @@
 // The mark that stands on a lent text: the reader sets one for each form, where the form is due.
-// Both functions over it are proved by hand; the form itself is read by a function on slice and offset.
+// The form itself is read by a function on slice and offset.
 ghost use Rattle.std.specs.Prelude.{◌≡◌};
 ghost use Rattle.definitions.specs.Form.{scan_form};
 ghost use Rattle.text.specs.DueForms.{form_of, as_pair};
