@@ -6,15 +6,16 @@ use input::Feature;
 
 mod convert;
 
-fn main() {
+fn main(rt: HostRuntime) {
     let mut buffer = input::long_room();
-    let arrived = input::read_all(&mut buffer);
+    let arrived = input::read_all(&mut rt.stdin(), &mut buffer);
     if arrived.is_failure() {
-        input::complain(b"importer: standard input cannot be read\n");
+        input::complain(&mut rt.stderr(), b"importer: standard input cannot be read\n");
         return;
     }
     if !arrived.has_ended() {
         input::complain_of_length(
+            &mut rt.stderr(),
             Feature::Import,
             arrived,
             b"importer: the input has more than 1000000 bytes\n",
@@ -24,5 +25,5 @@ fn main() {
     let count = arrived.size();
     let mut output = program::made::text_room();
     let size = convert::convert(&buffer[..count], &mut output);
-    input::hand_over(Feature::Import, arrived, &output[..size]);
+    input::hand_over(&mut rt.stdout(), Feature::Import, arrived, &output[..size]);
 }

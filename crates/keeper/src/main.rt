@@ -3,15 +3,15 @@
 
 use input::Feature;
 
-fn main() {
+fn main(rt: HostRuntime) {
     let mut buffer = input::room();
-    let arrived = input::read_all(&mut buffer);
+    let arrived = input::read_all(&mut rt.stdin(), &mut buffer);
     if arrived.is_failure() {
-        input::complain(b"keeper: standard input cannot be read\n");
+        input::complain(&mut rt.stderr(), b"keeper: standard input cannot be read\n");
         return;
     }
     let count = arrived.size();
     let mut output = keep::rooms::output();
     let size = keep::keep(&buffer[..count], &mut output);
-    input::hand_over(Feature::Keep, arrived, &output[..size]);
+    input::hand_over(&mut rt.stdout(), Feature::Keep, arrived, &output[..size]);
 }

@@ -3,15 +3,15 @@
 
 use input::Feature;
 
-fn main() {
+fn main(rt: HostRuntime) {
     let mut buffer = input::room();
-    let arrived = input::read_all(&mut buffer);
+    let arrived = input::read_all(&mut rt.stdin(), &mut buffer);
     if arrived.is_failure() {
-        input::complain(b"planner: standard input cannot be read\n");
+        input::complain(&mut rt.stderr(), b"planner: standard input cannot be read\n");
         return;
     }
     let count = arrived.size();
     let mut output = plan::rooms::output();
     let size = plan::plan(&buffer[..count], &mut output);
-    input::hand_over(Feature::Plan, arrived, &output[..size]);
+    input::hand_over(&mut rt.stdout(), Feature::Plan, arrived, &output[..size]);
 }

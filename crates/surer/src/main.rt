@@ -4,15 +4,15 @@
 
 use input::Feature;
 
-fn main() {
+fn main(rt: HostRuntime) {
     let mut buffer = input::room();
-    let arrived = input::read_all(&mut buffer);
+    let arrived = input::read_all(&mut rt.stdin(), &mut buffer);
     if arrived.is_failure() {
-        input::complain(b"surer: standard input cannot be read\n");
+        input::complain(&mut rt.stderr(), b"surer: standard input cannot be read\n");
         return;
     }
     let count = arrived.size();
     let mut output = plan::rooms::output();
     let size = sure::sure(&buffer[..count], &mut output);
-    input::hand_over(Feature::Sure, arrived, &output[..size]);
+    input::hand_over(&mut rt.stdout(), Feature::Sure, arrived, &output[..size]);
 }

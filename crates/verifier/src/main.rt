@@ -4,15 +4,16 @@
 
 use input::Feature;
 
-fn main() {
+fn main(rt: HostRuntime) {
     let mut buffer = input::long_room();
-    let arrived = input::read_all(&mut buffer);
+    let arrived = input::read_all(&mut rt.stdin(), &mut buffer);
     if arrived.is_failure() {
-        input::complain(b"verifier: standard input cannot be read\n");
+        input::complain(&mut rt.stderr(), b"verifier: standard input cannot be read\n");
         return;
     }
     if !arrived.has_ended() {
         input::complain_of_length(
+            &mut rt.stderr(),
             Feature::Verify,
             arrived,
             b"verifier: the input has more than 1000000 bytes\n",
@@ -22,5 +23,5 @@ fn main() {
     let count = arrived.size();
     let mut output = verify::line::output();
     let size = verify::line::verify(&buffer[..count], &mut output);
-    input::hand_over(Feature::Verify, arrived, &output[..size]);
+    input::hand_over(&mut rt.stdout(), Feature::Verify, arrived, &output[..size]);
 }

@@ -1,0 +1,45 @@
+-- `stands::printed::stands` meets its contract: the line in front departs, or the two reports behind it are read.
+use Rattle.std.proofs.Common.{◌≡◌, ◌≤◌, length, sym, refl, ap, ◌∙◌, arith, rules}
+use Rattle.definitions.specs.Lists.{overwrite}
+use Rattle.definitions.specs.Program.{printed}
+use Rattle.definitions.specs.Stands.{stands_form, stands_text}
+use Rattle.text_theory.specs.Forms.{no_zero}
+use Rattle.text.specs.Scans.{pair_gives}
+use Rattle.stands.specs.Printed.{stands-departed, stands-taken}
+use Rattle.stands.proofs.PrintLaws.{line-put, whole-text}
+use Rattle.stands.proofs.printed.stands.Goals as goal
+
+pub pair_line-requires : goal.pair_line-requires
+unfolding no_zero
+pair_line-requires c = record { front_value = refl; middle_value = refl; back_value = refl }
+
+pub slice_bounds-put_both-start : goal.slice_bounds-put_both-start
+unfolding stands_form
+slice_bounds-put_both-start c =
+    let input = c.args.input.now in
+    let within : c.in-Reads.p ≤ length input = (stands-taken input _ _ _ (sym c.pair_line.ensures ∙ ap pair_gives c.in-Reads.is)).0 in
+    search rules
+
+pub slice_bounds-put_both-count : goal.slice_bounds-put_both-count
+unfolding stands_form
+slice_bounds-put_both-count c =
+    let input = c.args.input.now in
+    (stands-taken input _ _ _ (sym c.pair_line.ensures ∙ ap pair_gives c.in-Reads.is)).0
+
+pub returns-in-Departs : goal.returns-in-Departs
+unfolding stands_form printed
+returns-in-Departs c =
+    let input = c.args.input.now in
+    let whole : (c.put_any.result ≡ length (stands_text input)) × (c.put_any.new.output ≡ overwrite (stands_text input) c.args.output.now) =
+        whole-text input _ (stands-departed input _ (sym c.pair_line.ensures ∙ ap pair_gives c.in-Departs.is)) (omega arith)
+        (line-put _ c.put_any.ensures) in
+    record { length = whole.0; bytes = whole.1 }
+
+pub returns-in-Reads : goal.returns-in-Reads
+unfolding stands_form
+returns-in-Reads c =
+    let input = c.args.input.now in
+    let whole : (c.put_both.result ≡ length (stands_text input)) × (c.put_both.new.output ≡ overwrite (stands_text input) c.args.output.now) =
+        whole-text input _ (stands-taken input _ _ _ (sym c.pair_line.ensures ∙ ap pair_gives c.in-Reads.is)).1 (omega arith)
+        c.put_both.ensures in
+    record { length = whole.0; bytes = whole.1 }
