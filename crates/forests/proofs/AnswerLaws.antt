@@ -24,7 +24,7 @@ use Rattle.lists.specs.Tests.{or-neither}
 use Rattle.network.specs.Answers.{refusal_of}
 use Rattle.network.specs.Refusals.{refusal-then, refusal-keeps}
 use Rattle.network.specs.declared.refusal.Refusal.{Refusal}
-use Rattle.theory.specs.ForestBound.{forests-length}
+use Rattle.theory.proofs.ForestBound.{forests-length}
 
 -- After a refusal of the table check the refusal stands, and no list changes.
 refusal-stands : (refusal : Refusal) (check : Answer) (next : List ℕ → Answer) → check ≡ refusal_of refusal

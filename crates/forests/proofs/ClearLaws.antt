@@ -13,7 +13,7 @@ use Rattle.definitions.specs.Order.{order_of, place_of, places_of}
 use Rattle.definitions.specs.Forests.{forests_of}
 use Rattle.lists.specs.Tables.{length-table}
 use Rattle.theory.specs.Ordering.{order-length}
-use Rattle.theory.specs.ForestBound.{forests-length}
+use Rattle.theory.proofs.ForestBound.{forests-length}
 use Rattle.forests.specs.Counts.{turns_of}
 use Rattle.forests.specs.Scan.{begun_with, Scanned}
 

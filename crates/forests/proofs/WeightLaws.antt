@@ -21,7 +21,7 @@ use Rattle.theory.specs.ServingRelays.{serving-below, serving-serves}
 use Rattle.theory.specs.Ordering.{placed-front, placed_at, order-length, order-has}
 use Rattle.theory.specs.Left.{earlier-in, left-count}
 use Rattle.theory.specs.Arranged.{base-arranged}
-use Rattle.theory.specs.ForestDepth.{table-depth}
+use Rattle.theory.proofs.ForestDepth.{table-depth}
 use Rattle.forests.specs.Counts.{turns_of}
 use Rattle.forests.specs.Buckets.{most_count}
 use Rattle.forests.specs.Scan.{placed, following, is_serving}

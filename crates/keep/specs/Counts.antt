@@ -19,7 +19,7 @@ use Rattle.lists.specs.Maps.{get_or-map}
 use Rattle.lists.specs.Members.{range-bounds}
 use Rattle.lists.specs.Tables.{length-table}
 use Rattle.lists.specs.Tests.{or_left, or_right}
-use Rattle.theory.specs.ForestBound.{forests-length, forests-at}
+use Rattle.theory.proofs.ForestBound.{forests-length, forests-at}
 use Rattle.theory.specs.ForestNumbers.{no-forest}
 
 -- The count of the kept is that of the forest numbers 1 to k.

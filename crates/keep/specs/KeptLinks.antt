@@ -16,8 +16,8 @@ use Rattle.definitions.specs.DisjointRoutes.{LinkOf, InService}
 use Rattle.definitions.specs.Demand.{Joined, Kept, Live, dead_count}
 use Rattle.definitions.specs.KeepPromise.{dispensable, link_line, LeaseHolds}
 use Rattle.theory.specs.JoinedRelays.{joined-map}
-use Rattle.theory.specs.Certificate.{survives}
-use Rattle.theory.specs.Columns.{mark-entry}
+use Rattle.theory.proofs.Certificate.{survives}
+use Rattle.theory.proofs.Columns.{mark-entry}
 use Rattle.keep.specs.Listed.{lease_of}
 use Rattle.keep.specs.Counts.{count_ones, mark-at, count-dropped, counts_all}
 

@@ -11,7 +11,7 @@ use Rattle.definitions.specs.Program.{passing, room, printed}
 use Rattle.definitions.specs.Keep.{keep_form, Lease, lease_for, lease_answers, keeper, leased, dropped_count, idle_count, lease_text}
 use Rattle.lists.specs.Outcomes.{then-done, if-done}
 use Rattle.theory.specs.Accepted.{accepted, accepted-states}
-use Rattle.theory.specs.Columns.{length-marks}
+use Rattle.theory.proofs.Columns.{length-marks}
 use Rattle.network.specs.Answers.{refusal_of}
 use Rattle.network.specs.declared.refusal.Refusal.{Refusal}
 use Rattle.network.specs.declared.refusal.Refusal.TheVariants.{Wish}

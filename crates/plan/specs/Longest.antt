@@ -12,7 +12,7 @@ use Rattle.definitions.specs.Program.{room}
 use Rattle.definitions.specs.Plan.{sheet_form, kept_form, Sheet, output_room, planned, numbers_line, route_lines, sheet_text, plan_text}
 use Rattle.lists.specs.Counting.{count-length}
 use Rattle.theory.specs.Accepted.{accepted}
-use Rattle.theory.specs.ForestBound.{forests-length}
+use Rattle.theory.proofs.ForestBound.{forests-length}
 use Rattle.text_theory.specs.Decimal.{length-decimal-at-most}
 use Rattle.text_theory.specs.Spans.{span, written-span}
 use Rattle.plan.specs.SheetLines.{line-length}

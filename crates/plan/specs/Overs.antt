@@ -14,7 +14,7 @@ use Rattle.lists.specs.Maps.{get_or-map}
 use Rattle.lists.specs.Steps.{steps_of, lengths-steps_of}
 use Rattle.theory.specs.Accepted.{accepted}
 use Rattle.theory.specs.Links.{one_link}
-use Rattle.theory.specs.OverLinks.{pair_link, over-holds, overs-found, tree-between, overs-fit}
+use Rattle.theory.proofs.OverLinks.{pair_link, over-holds, overs-found, tree-between, overs-fit}
 use Rattle.theory.specs.RoutePassed.{RoutePassed}
 use Rattle.plan.specs.Routes.{length-routes, below-joined, routes-of}
 

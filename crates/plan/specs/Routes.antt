@@ -11,10 +11,10 @@ use Rattle.definitions.specs.Sweep.{slot_route, sweep_routes}
 use Rattle.definitions.specs.Route.{left_of, routes_between, routes_of}
 use Rattle.theory.specs.PlaceSweep.{sweep}
 use Rattle.theory.specs.Ordering.{order-at}
-use Rattle.theory.specs.Columns.{mark-entry}
-use Rattle.theory.specs.SweepRoutes.{sweep-length}
-use Rattle.theory.specs.RelayRoutes.{RelayRoutes, routes-hold}
-use Rattle.theory.specs.OverLinks.{tree-between}
+use Rattle.theory.proofs.Columns.{mark-entry}
+use Rattle.theory.proofs.SweepRoutes.{sweep-length}
+use Rattle.theory.proofs.RelayRoutes.{RelayRoutes, routes-hold}
+use Rattle.theory.proofs.OverLinks.{tree-between}
 use Rattle.theory.specs.RoutePassed.{RoutePassed}
 
 length-sweep_routes : (left : ℕ → ℕ → ℕ) (k s t : ℕ) → length (sweep_routes left k s t) ≡ k

@@ -22,7 +22,7 @@ use Rattle.lists.specs.Ranges.{inside-range}
 use Rattle.lists.specs.RefusedWithin.{RefusedAs}
 use Rattle.theory.specs.Accepted.{accepted}
 use Rattle.theory.specs.Places.{relays-after, relay-entry}
-use Rattle.theory.specs.LastTwo.{last-two}
+use Rattle.theory.proofs.LastTwo.{last-two}
 use Rattle.text_theory.specs.Spans.{span}
 use Rattle.text_theory.specs.Reach.{network-reach}
 use Rattle.text_theory.specs.Programs.{AnswersAs, answered, outcome-reach}

@@ -1,3 +1,2 @@
-// No functions: the theorems about the definitions stand in specs/.
+// No functions: the theorems about the definitions stand in specs/ and proofs/.
 #![tactic(auto)]
-

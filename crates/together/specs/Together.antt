@@ -8,8 +8,8 @@ use Rattle.definitions.specs.Forests.{forests_after, marks_after}
 use Rattle.definitions.specs.Route.{too_short, route_answer, counts_after, route_relays_after}
 use Rattle.definitions.specs.Demand.{Delivered, RouteDelivers, in_service_count, Holds}
 use Rattle.definitions.specs.LastTwo.{AreLastTwo, sure_figure, LastTwoHolds}
-use Rattle.theory.specs.DemandThree.{demand-three}
-use Rattle.theory.specs.LastTwo.{last-two}
+use Rattle.theory.proofs.DemandThree.{demand-three}
+use Rattle.theory.proofs.LastTwo.{last-two}
 
 -- An accepted network, k from 1 to 32, and lists long enough for Order, Split and Cut.
 pub record LongEnough (n : ℕ) (lows highs states : List ℕ) (k : ℕ) (relays places forests marks : List ℕ) : Type 0 where

@@ -24,7 +24,7 @@ use Rattle.definitions.specs.VerifyPromise.{SaidExactly, VerdictPrinted, VerifyP
 use Rattle.lists.specs.Outcomes.{then-done}
 use Rattle.lists.specs.RefusedWithin.{RefusedAs, refused_as, refuse-as, then-as}
 use Rattle.lists.specs.SameOutcomes.{done-same, done-then}
-use Rattle.theory.specs.Columns.{no-mark, mark-entry}
+use Rattle.theory.proofs.Columns.{no-mark, mark-entry}
 use Rattle.text_theory.specs.RoundTrip.{written_read}
 use Rattle.text_theory.specs.RefusalFourteen.{refusal-fourteen}
 use Rattle.text_theory.specs.Longest.{longest}

@@ -16,7 +16,7 @@ use Rattle.lists.specs.Cases.{has_here, has_there}
 use Rattle.lists.specs.Members.{has-at}
 use Rattle.lists.specs.Counting.{count-length}
 use Rattle.theory.specs.Accepted.{accepted}
-use Rattle.theory.specs.Columns.{length-marks}
+use Rattle.theory.proofs.Columns.{length-marks}
 use Rattle.text_theory.specs.SheetRoundTrip.{sheet-read}
 use Rattle.verify.specs.Exact.{said-exactly}
 

@@ -20,16 +20,16 @@ use Rattle.lists.specs.Overwritten.{get_or-overwrite-zeros}
 use Rattle.lists.specs.Stores.{sets-overwrite}
 use Rattle.lists.specs.Steps.{steps_of}
 use Rattle.lists.specs.Cuts.{lengths-map, length-join_all-map}
-use Rattle.theory.specs.Trees.{Alive}
+use Rattle.theory.proofs.Trees.{Alive}
 use Rattle.theory.specs.Accepted.{accepted}
 use Rattle.theory.specs.ServingRelays.{serving-few}
 use Rattle.theory.specs.Left.{left-laws}
 use Rattle.theory.specs.Places.{relay-placed}
 use Rattle.theory.specs.Arranged.{base-arranged}
-use Rattle.theory.specs.RelayTrees.{AliveBetween, places-differ}
-use Rattle.theory.specs.PlaceRoutes.{RoutesWithin}
-use Rattle.theory.specs.SweepRoutes.{routes-between}
-use Rattle.theory.specs.OverLinks.{place_link, pair_turn, overs-in}
+use Rattle.theory.proofs.RelayTrees.{AliveBetween, places-differ}
+use Rattle.theory.proofs.PlaceRoutes.{RoutesWithin}
+use Rattle.theory.proofs.SweepRoutes.{routes-between}
+use Rattle.theory.proofs.OverLinks.{place_link, pair_turn, overs-in}
 use Rattle.forests.specs.Left.{LeftTable}
 use Rattle.sweep.specs.Side.{table_entry, NoPaths}
 use Rattle.routes.specs.Writing.{Written, written}

@@ -17,7 +17,7 @@ use Rattle.definitions.specs.Over.{overs_of, links_too_short, route_links_answer
 use Rattle.lists.specs.Stores.{sets-overwrite}
 use Rattle.lists.specs.Tests.{or-false, or-none}
 use Rattle.theory.specs.RoutePassed.{unless-passed}
-use Rattle.theory.specs.OverLinks.{overs-fit}
+use Rattle.theory.proofs.OverLinks.{overs-fit}
 use Rattle.routes.specs.Answers.{short_for, core_answer, core_counts, core_relays, core_links, core_scratch, counted_answer}
 use Rattle.routes.proofs.Answers.Refusals.{Promised}
 

@@ -12,7 +12,7 @@ use Rattle.definitions.specs.Forests.{one_tree, Entry}
 use Rattle.lists.specs.Searches.{clash}
 use Rattle.lists.specs.Tests.{tests_same}
 use Rattle.theory.specs.LeftLaws.{LeftLaws}
-use Rattle.theory.specs.Trees.{Alive, one_tree-alive, one_tree-sym}
+use Rattle.theory.proofs.Trees.{Alive, one_tree-alive, one_tree-sym}
 use Rattle.routes.specs.Between.{alive_in, one_tree_in}
 
 -- The test over the places after t is that of `Alive`.

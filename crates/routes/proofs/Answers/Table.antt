@@ -15,7 +15,7 @@ use Rattle.definitions.specs.Over.{entry_of}
 use Rattle.theory.specs.Left.{left-laws, left_of-range}
 use Rattle.theory.specs.Arranged.{base-arranged}
 use Rattle.theory.specs.LeftEntries.{entry_place, entry-link, entry-earlier-in}
-use Rattle.theory.specs.OverLinks.{place_link, look-gives}
+use Rattle.theory.proofs.OverLinks.{place_link, look-gives}
 use Rattle.forests.specs.Left.{left_index, LeftTable}
 use Rattle.forests.proofs.LeftTableLaws.{code-some, code-none}
 use Rattle.sweep.specs.Side.{link_entry, table_entry}

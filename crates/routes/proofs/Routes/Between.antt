@@ -16,11 +16,12 @@ use Rattle.definitions.specs.Route.{routes_between}
 use Rattle.lists.specs.Maps.{get_or-map}
 use Rattle.theory.specs.PlaceSweep.{Slot, sweep}
 use Rattle.theory.specs.LeftLaws.{LeftLaws}
-use Rattle.theory.specs.Trees.{Alive}
-use Rattle.theory.specs.SweepPaths.{trail-length}
-use Rattle.theory.specs.SweepInvariant.{ClosedSlot}
-use Rattle.theory.specs.SweepHolds.{sweep-ends}
-use Rattle.theory.specs.SweepRoutes.{sweep-length, get_or-sweep_routes, all_closed}
+use Rattle.theory.proofs.Trees.{Alive}
+use Rattle.theory.proofs.SweepPaths.{trail-length}
+use Rattle.theory.proofs.SweepInvariant.{ClosedSlot}
+use Rattle.theory.proofs.SweepHolds.{sweep-ends}
+use Rattle.theory.proofs.SweepRoutes.{sweep-length, get_or-sweep_routes}
+use Rattle.theory.proofs.NothingShared.{all_closed}
 use Rattle.sweep.specs.Side.{NoPaths}
 use Rattle.sweep.specs.Sides.{Sides, swept_in}
 use Rattle.sweep.proofs.Paths.Side.{HoldsPath}

@@ -16,7 +16,7 @@ use Rattle.lists.specs.Maps.{get_or-map}
 use Rattle.lists.specs.Stores.{sets-append}
 use Rattle.lists.specs.Steps.{steps_of, length-steps_of, steps_of-reverse_aux}
 use Rattle.theory.specs.LeftLaws.{LeftLaws}
-use Rattle.theory.specs.Trees.{Alive}
+use Rattle.theory.proofs.Trees.{Alive}
 use Rattle.sweep.specs.Side.{second_in, link_in, prior_in, prior_link_in, NoPaths}
 use Rattle.sweep.specs.Sides.{Sides, swept_in}
 use Rattle.sweep.proofs.Paths.Side.{Chain}

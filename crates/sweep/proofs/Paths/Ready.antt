@@ -13,8 +13,8 @@ use Rattle.lists.specs.Searches.{clash}
 use Rattle.lists.specs.Cases.{has_here, has_there, has-nil}
 use Rattle.theory.specs.PlaceSweep.{end_of, downshift}
 use Rattle.theory.specs.LeftLaws.{LeftLaws}
-use Rattle.theory.specs.SweepPaths.{trail-from}
-use Rattle.theory.specs.SweepSide.{Standing, waits, stands, Ready, Highest}
+use Rattle.theory.proofs.SweepPaths.{trail-from}
+use Rattle.theory.proofs.SweepSide.{Standing, waits, stands, Ready, Highest}
 use Rattle.theory.specs.SweepShift.{Came, stays, moves, takes, came}
 
 has-tail : (path : List ℕ) (w : ℕ) → has (tail path) w ≡ true → has path w ≡ true

@@ -11,7 +11,7 @@ use borrow.Author.Tests.{eq-eqb, ne_eqb}
 use Rattle.definitions.specs.Outcome.{pick}
 use Rattle.definitions.specs.Sweep as Sweep
 use Rattle.theory.specs.PlaceSweep.{Slot, end_of, extend, slot_at_t, settle, highest_at, shifted_slot, slot_after}
-use Rattle.theory.specs.SweepSettle.{extend-some}
+use Rattle.theory.proofs.SweepSettle.{extend-some}
 
 module _ (left : ℕ → ℕ → ℕ) (k t v : ℕ) (slots : ℕ → Slot) where
   pub after-t : v ≡ t → (i : ℕ) → slot_after left k t v slots i ≡ slot_at_t left t (slots i) i

@@ -14,11 +14,11 @@ use Rattle.definitions.specs.Sweep as Sweep
 use Rattle.lists.specs.Searches.{largest-same}
 use Rattle.theory.specs.PlaceSweep.{Slot, end_of, ends_a, ends_b, highest_at, downshift, shifted_slot, settle, slot_after}
 use Rattle.theory.specs.LeftLaws.{LeftLaws}
-use Rattle.theory.specs.Trees.{Alive}
-use Rattle.theory.specs.SweepInvariant.{Sweeping, ClosedSlot}
-use Rattle.theory.specs.SweepReady.{ready_a, ready_b, highest_a, highest_b}
-use Rattle.theory.specs.SweepStep.{never-rests, never-rests-at}
-use Rattle.theory.specs.SweepPaths.{trail-start}
+use Rattle.theory.proofs.Trees.{Alive}
+use Rattle.theory.proofs.SweepInvariant.{Sweeping, ClosedSlot}
+use Rattle.theory.proofs.SweepReady.{ready_a, ready_b, highest_a, highest_b}
+use Rattle.theory.proofs.SweepStep.{never-rests, never-rests-at}
+use Rattle.theory.proofs.SweepPaths.{trail-start}
 use Rattle.sweep.specs.Side.{end_in, advance, trade_from}
 use Rattle.sweep.specs.Sides.{Sides, sides, highest_in, leave_from, pass_at, step_in}
 use Rattle.sweep.proofs.Paths.Side.{SideHolds, held-end, side_same}

@@ -10,9 +10,9 @@ use Rattle.definitions.specs.Sweep as Sweep
 use Rattle.definitions.specs.Sweep.{slot_at}
 use Rattle.theory.specs.PlaceSweep.{Slot, start_slot, slot_after, slots_after, sweep_from, sweep}
 use Rattle.theory.specs.LeftLaws.{LeftLaws}
-use Rattle.theory.specs.Trees.{Alive}
-use Rattle.theory.specs.SweepInvariant.{Sweeping}
-use Rattle.theory.specs.SweepHolds.{slot_at-table, sweep-starts, sweep-step}
+use Rattle.theory.proofs.Trees.{Alive}
+use Rattle.theory.proofs.SweepInvariant.{Sweeping}
+use Rattle.theory.proofs.SweepHolds.{slot_at-table, sweep-starts, sweep-step}
 use Rattle.sweep.specs.Side.{prior_start, prior_in, NoPaths}
 use Rattle.sweep.specs.Sides.{Sides, sides, start_a, start_b, step_in, sweep_in, swept_in}
 use Rattle.sweep.proofs.Paths.Side.{side_same}

@@ -7,7 +7,7 @@ use lib.ListN.{length, get_or, set}
 use Rattle.definitions.specs.Lists.{total}
 use Rattle.definitions.specs.Forests.{mark_of}
 use Rattle.lists.specs.Mapped.{mapped, mapped_next, mapped-more, total-more, length-mapped}
-use Rattle.theory.specs.Columns.{mark-small}
+use Rattle.theory.proofs.Columns.{mark-small}
 use Rattle.forests.proofs.marks.mark_links.Goals as goal
 
 pub loop-i-init : goal.loop-i-init

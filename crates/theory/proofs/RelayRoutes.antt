@@ -19,12 +19,12 @@ use Rattle.lists.specs.Ends.{two-entries}
 use Rattle.theory.specs.Ordering.{order-few, order-has, order-relay}
 use Rattle.theory.specs.Places.{relay-of-place, place-of-relay, relay-in, places-apart}
 use Rattle.theory.specs.Arranged.{left_in, Arranged, base-arranged}
-use Rattle.theory.specs.Columns.{MarkedIn, Marked}
-use Rattle.theory.specs.TableLinks.{kept-link}
-use Rattle.theory.specs.RelayTrees.{AliveBetween}
+use Rattle.theory.proofs.Columns.{MarkedIn, Marked}
+use Rattle.theory.proofs.TableLinks.{kept-link}
+use Rattle.theory.proofs.RelayTrees.{AliveBetween}
 use Rattle.theory.specs.SharedLinks.{shared-link}
-use Rattle.theory.specs.PlaceRoutes.{LeftLink, RouteWithin, RoutesWithin}
-use Rattle.theory.specs.SweepRoutes.{routes-between}
+use Rattle.theory.proofs.PlaceRoutes.{LeftLink, RouteWithin, RoutesWithin}
+use Rattle.theory.proofs.SweepRoutes.{routes-between}
 
 -- k routes from `from` to `to` along kept links, with the relays written in all bounded by some number of relays.
 pub record RoutesAmong

@@ -12,10 +12,10 @@ use Rattle.lists.specs.Searches.{clash}
 use Rattle.lists.specs.Tables.{get_or-table}
 use Rattle.theory.specs.PlaceSweep.{Slot, start_slot, slot_after, slots_after, sweep_from, sweep}
 use Rattle.theory.specs.LeftLaws.{LeftLaws}
-use Rattle.theory.specs.Trees.{Alive, alive-lower}
-use Rattle.theory.specs.SweepPaths.{open-longer}
-use Rattle.theory.specs.SweepInvariant.{Sweeping, alone, goes, open-slot, sweeping-same}
-use Rattle.theory.specs.SweepStep.{step-sweeping}
+use Rattle.theory.proofs.Trees.{Alive, alive-lower}
+use Rattle.theory.proofs.SweepPaths.{open-longer}
+use Rattle.theory.proofs.SweepInvariant.{Sweeping, alone, goes, open-slot, sweeping-same}
+use Rattle.theory.proofs.SweepStep.{step-sweeping}
 
 pub slot_at-table : (f : ℕ → Slot) (k i : ℕ) → 1 ≤ i → i ≤ k → slot_at (table f 1 k) i ≡ f i
 unfolding slot_at

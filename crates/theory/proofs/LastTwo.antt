@@ -1,20 +1,19 @@
 -- The last two of the order (document 02, #107): they are in one tree of each forest up to the number of links that the last has to
 -- relays in service, so Route delivers that many routes; and each route of a list takes one of these links, so none has more.
-use Rattle.std.specs.Prelude.{ℕ, suc, ◌-◌, ◌≤◌, ◌<◌, min, max, List, ◌⊎◌, ◌≢◌, ◌≡◌, length, get_or}
+use Rattle.std.specs.Prelude.{ℕ, suc, ◌-◌, ◌≤◌, ◌<◌, List, ◌≡◌, length, get_or}
 use Rattle.std.proofs.Common.{inl, inr, sym, ◌∙◌, ap, subst, arith}
-use Rattle.definitions.specs.Network.{linked, Serving, Accepted}
+use Rattle.definitions.specs.Network.{Serving, Accepted}
 use Rattle.definitions.specs.Order.{links_at, order_of, place_of, relay_at, relays_after}
-use Rattle.definitions.specs.Forests.{earlier, forests_of, marks_after}
+use Rattle.definitions.specs.Forests.{forests_of, marks_after}
 use Rattle.definitions.specs.DisjointRoutes.{AnyLink}
-use Rattle.definitions.specs.Demand.{OneTree, in_service_count}
+use Rattle.definitions.specs.Demand.{in_service_count}
 use Rattle.definitions.specs.LastTwo.{last_relay, last_but_one, AreLastTwo, sure_figure, LastTwo}
 use Rattle.theory.specs.Places.{place-named, relays-after, relay-entry}
-use Rattle.theory.specs.ForestBound.{forests-at}
-use Rattle.theory.specs.Columns.{cut-marks}
-use Rattle.theory.specs.RelayTrees.{one-tree-neighbours}
-use Rattle.theory.specs.RouteAnswer.{delivers}
+use Rattle.theory.proofs.ForestBound.{forests-at}
+use Rattle.theory.proofs.Columns.{cut-marks}
+use Rattle.theory.proofs.RouteAnswer.{delivers}
 use Rattle.theory.specs.RouteLinks.{routes-at-most}
-use Rattle.theory.specs.LastLinks.{last-links}
+use Rattle.theory.proofs.LastOneTree.{EndsLast, turned, differ, last-one-tree}
 
 module _ (n : ℕ) (lows highs states : List ℕ) (ok : Accepted n lows highs states) (two : 2 ≤ in_service_count n states) where
   abbrev order : List ℕ
@@ -23,46 +22,6 @@ module _ (n : ℕ) (lows highs states : List ℕ) (ok : Accepted n lows highs st
   -- The last place.
   abbrev last : ℕ
   last = in_service_count n states
-
-  -- Relays at the last place and at the one before it, in either direction.
-  record EndsLast (from to : ℕ) : Type 0 where
-    starts : Serving n states from
-    ends : Serving n states to
-    lower : suc (min (place_of order from) (place_of order to)) ≡ last
-    higher : max (place_of order from) (place_of order to) ≡ last
-    is_last : (relay_at order last ≡ from) ⊎ (relay_at order last ≡ to)
-
-  turned : {from to : ℕ} → EndsLast to from → EndsLast from to
-  turned e =
-      record {
-        starts = e.ends;
-        ends = e.starts;
-        lower = omega (arith, e.lower);
-        higher = omega (arith, e.higher);
-        is_last = go e.is_last;
-      }
-    where
-      go : {from to : ℕ} → (relay_at order last ≡ to) ⊎ (relay_at order last ≡ from) → (relay_at order last ≡ from) ⊎ (relay_at order last ≡ to)
-      go (inl p) = inr p
-      go (inr p) = inl p
-
-  differ : {from to : ℕ} → EndsLast from to → from ≢ to
-  differ {from} {to} e same =
-      let equal : place_of order from ≡ place_of order to = ap (place_of order) same in
-      omega (arith, e.lower, e.higher)
-
-  -- The last two are in one tree of forest k, for each k up to the links of the last: only the last place is above the earlier of
-  -- them, and it has an earlier neighbour for each of these links.
-  last-one-tree : (k : ℕ) → 1 ≤ k → k ≤ links_at lows highs states (relay_at order last) → (from to : ℕ) → EndsLast from to
-      → OneTree lows highs (forests_of n lows highs states) k from to
-  last-one-tree k one most from to e =
-      (one-tree-neighbours n lows highs states ok (forests_of n lows highs states) (forests-at n lows highs states) k one from to
-      e.starts e.ends (differ e)).1
-      (λ x over upto.
-      let at : last ≡ x = omega (arith, e.lower, e.higher) in
-      let neighbours : k ≤ length (earlier (linked lows highs) order last) =
-      omega (arith, last-links n lows highs states ok (omega arith)) in
-      subst (λ (v : ℕ). k ≤ length (earlier (linked lows highs) order v)) at neighbours)
 
   module _ (relays places : List ℕ) (room_relays : n ≤ length relays) (room_places : n ≤ length places) where
     -- Order's list, and in it the last two.
@@ -85,7 +44,7 @@ module _ (n : ℕ) (lows highs states : List ℕ) (ok : Accepted n lows highs st
         entry (last - 2) (omega arith) ∙ ap (relay_at order) up
 
     -- From the last to the one before it,
-    from_last : (from to : ℕ) → from ≡ last_relay n states listed → to ≡ last_but_one n states listed → EndsLast from to
+    from_last : (from to : ℕ) → from ≡ last_relay n states listed → to ≡ last_but_one n states listed → EndsLast n lows highs states ok two from to
     from_last from to e f =
         let a = place-named n lows highs states last (omega arith) (omega arith) in
         let b = place-named n lows highs states (last - 1) (omega arith) (omega arith) in
@@ -102,9 +61,9 @@ module _ (n : ℕ) (lows highs states : List ℕ) (ok : Accepted n lows highs st
         }
 
     -- and either way.
-    ends_last : (from to : ℕ) → AreLastTwo n states listed from to → EndsLast from to
+    ends_last : (from to : ℕ) → AreLastTwo n states listed from to → EndsLast n lows highs states ok two from to
     ends_last from to (inl e) = from_last from to e.0 e.1
-    ends_last from to (inr e) = turned (from_last to from e.1 e.0)
+    ends_last from to (inr e) = turned n lows highs states ok two (from_last to from e.1 e.0)
 
 pub last-two : LastTwo
 last-two n lows highs states ok two k one most relays places marks room_relays room_places room_marks =

@@ -11,7 +11,7 @@ use Rattle.definitions.specs.Demand.{Joined, alone, onward, Kept, Live, dead_cou
 use Rattle.definitions.specs.Networks.{lent}
 use Rattle.definitions.specs.Opened.{opened}
 use Rattle.definitions.specs.StateExamples.{without_two}
-use Rattle.theory.specs.DemandThree.{demand-three}
+use Rattle.theory.proofs.DemandThree.{demand-three}
 
 abbrev lows : List ℕ
 lows = without_two.lows

@@ -16,9 +16,9 @@ use Rattle.lists.specs.Tests.{and_both, or-either, or-false}
 use Rattle.lists.specs.Searches.{clash, largest-bound, largest-passes, largest-above, largest-none}
 use Rattle.theory.specs.PlaceSweep.{Slot, end_of, ends_a, ends_b, highest_at}
 use Rattle.theory.specs.LeftLaws.{LeftLaws}
-use Rattle.theory.specs.SweepPaths.{trail-from}
-use Rattle.theory.specs.SweepSide.{Standing, waits, stands, Ready, Highest, end-alone}
-use Rattle.theory.specs.SweepInvariant.{ClosedSlot, Sweeping}
+use Rattle.theory.proofs.SweepPaths.{trail-from}
+use Rattle.theory.proofs.SweepSide.{Standing, waits, stands, Ready, Highest, end-alone}
+use Rattle.theory.proofs.SweepInvariant.{ClosedSlot, Sweeping}
 
 module _ (left : ℕ → ℕ → ℕ) (laws : LeftLaws left) (k s t : ℕ) where
   module _ (v : ℕ) (slots : ℕ → Slot) (inv : Sweeping left k s t v slots) where

@@ -14,10 +14,10 @@ use Rattle.lists.specs.Searches.{clash}
 use Rattle.lists.specs.Cases.{has-cases}
 use Rattle.theory.specs.PlaceSweep.{Slot, end_of, extend, settle}
 use Rattle.theory.specs.LeftLaws.{LeftLaws}
-use Rattle.theory.specs.Trees.{Alive, alive-lower}
-use Rattle.theory.specs.SweepPaths.{Trail, OpenPath, open-end, open-longer, trail-start, down-less}
-use Rattle.theory.specs.SweepSide.{Shifted, waiting, below, arrived, end-alone}
-use Rattle.theory.specs.SweepInvariant.{OpenSlot, ClosedSlot, Unended, alone, goes, open-slot}
+use Rattle.theory.proofs.Trees.{Alive, alive-lower}
+use Rattle.theory.proofs.SweepPaths.{Trail, OpenPath, open-end, open-longer, trail-start, down-less}
+use Rattle.theory.proofs.SweepSide.{Shifted, waiting, below, arrived, end-alone}
+use Rattle.theory.proofs.SweepInvariant.{OpenSlot, ClosedSlot, Unended, alone, goes, open-slot}
 
 -- A path with its end at v.
 record Ended (left : ℕ → ℕ → ℕ) (k c v : ℕ) (path : List ℕ) : Type 0 where

@@ -17,13 +17,13 @@ use Rattle.lists.specs.Searches.{clash}
 use Rattle.lists.specs.Cases.{has-nil, has-cases}
 use Rattle.theory.specs.PlaceSweep.{Slot, end_of, extend, slot_at_t, ends_a, ends_b, downshift, settle, highest_at, shifted_slot, slot_elsewhere, slot_after}
 use Rattle.theory.specs.LeftLaws.{LeftLaws}
-use Rattle.theory.specs.Trees.{Alive}
-use Rattle.theory.specs.SweepPaths.{OpenPath, open-end, open_above, open-past, open-longer, trail-start}
-use Rattle.theory.specs.SweepSide.{Passed, none_passes, shift_passes}
-use Rattle.theory.specs.SweepInvariant.{OpenSlot, ClosedSlot, Sweeping, goes, open-slot}
-use Rattle.theory.specs.SweepSettle.{SlotState, extend-some, extend-has, unended, goes_on}
-use Rattle.theory.specs.SweepPassed.{with_paths, passed-sweeping}
-use Rattle.theory.specs.SweepReady.{ready_a, ready_b, highest_a, highest_b, highest-none}
+use Rattle.theory.proofs.Trees.{Alive}
+use Rattle.theory.proofs.SweepPaths.{OpenPath, open-end, open_above, open-past, open-longer, trail-start}
+use Rattle.theory.proofs.SweepSide.{Passed, none_passes, shift_passes}
+use Rattle.theory.proofs.SweepInvariant.{OpenSlot, ClosedSlot, Sweeping, goes, open-slot}
+use Rattle.theory.proofs.SweepSettle.{SlotState, extend-some, extend-has, unended, goes_on}
+use Rattle.theory.proofs.SweepPassed.{with_paths, passed-sweeping}
+use Rattle.theory.proofs.SweepReady.{ready_a, ready_b, highest_a, highest_b, highest-none}
 
 module _ (left : ℕ → ℕ → ℕ) (laws : LeftLaws left) (k s t : ℕ) (less : t < s) (alive : Alive left k t s) where
   module _ (v : ℕ) (slots : ℕ → Slot) (inv : Sweeping left k s t (suc v) slots) where

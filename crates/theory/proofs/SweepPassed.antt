@@ -8,10 +8,10 @@ use Rattle.definitions.specs.Lists.{has}
 use Rattle.lists.specs.Searches.{clash}
 use Rattle.theory.specs.PlaceSweep.{Slot, end_of, settle}
 use Rattle.theory.specs.LeftLaws.{LeftLaws}
-use Rattle.theory.specs.Trees.{Alive}
-use Rattle.theory.specs.SweepSide.{Shifted, Passed, passed-once}
-use Rattle.theory.specs.SweepInvariant.{ClosedSlot, Sweeping, open-slot}
-use Rattle.theory.specs.SweepSettle.{SlotState, settle-both, settle-has_a, settle-has_b, lower, settled}
+use Rattle.theory.proofs.Trees.{Alive}
+use Rattle.theory.proofs.SweepSide.{Shifted, Passed, passed-once}
+use Rattle.theory.proofs.SweepInvariant.{ClosedSlot, Sweeping, open-slot}
+use Rattle.theory.proofs.SweepSettle.{SlotState, settle-both, settle-has_a, settle-has_b, lower, settled}
 
 -- The slots with other paths.
 abbrev pub with_paths : (slots : ℕ → Slot) (new_a new_b : ℕ → List ℕ) (i : ℕ) → Slot

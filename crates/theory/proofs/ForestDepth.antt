@@ -20,7 +20,7 @@ use Rattle.lists.specs.Counting.{count-length, count-table, length-keep, no_long
 use Rattle.theory.specs.LeftLaws.{LeftLaws}
 use Rattle.theory.specs.ForestNumbers.{later_place, forest_in, left-is-link, accepted-link-facts}
 use Rattle.theory.specs.Arranged.{left_in, Arranged, base-arranged}
-use Rattle.theory.specs.ForestBound.{forests-at, forests-none}
+use Rattle.theory.proofs.ForestBound.{forests-at, forests-none}
 
 -- Over any `left` with the three laws, and any count of links up to a place to which a c-th earlier neighbour adds c.
 module _

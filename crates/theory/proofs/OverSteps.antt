@@ -23,11 +23,12 @@ use Rattle.lists.specs.Maps.{map-map, map-agree}
 use Rattle.lists.specs.Steps.{steps_of, steps_of-reverse, steps_of-meet}
 use Rattle.theory.specs.PlaceSweep as Places
 use Rattle.theory.specs.LeftLaws.{LeftLaws}
-use Rattle.theory.specs.Trees.{Alive}
-use Rattle.theory.specs.SweepPaths.{trail-from}
-use Rattle.theory.specs.SweepInvariant.{ClosedSlot, Sweeping}
-use Rattle.theory.specs.SweepHolds.{sweep-ends}
-use Rattle.theory.specs.SweepRoutes.{sweep-length, all_closed}
+use Rattle.theory.proofs.Trees.{Alive}
+use Rattle.theory.proofs.SweepPaths.{trail-from}
+use Rattle.theory.proofs.SweepInvariant.{ClosedSlot, Sweeping}
+use Rattle.theory.proofs.SweepHolds.{sweep-ends}
+use Rattle.theory.proofs.NothingShared.{all_closed}
+use Rattle.theory.proofs.SweepRoutes.{sweep-length}
 use Rattle.theory.specs.Erased.{places, erase, slot-erased, sweep-erased}
 use Rattle.theory.specs.LookedPaths.{Looked, LookedSlot, sweep-looked}
 

@@ -11,8 +11,8 @@ use Rattle.definitions.specs.Demand.{Joined, alone, onward, Kept, Live, dead_cou
 use Rattle.definitions.specs.LastTwo.{AreLastTwo, sure_figure, RoutesInService, LastTwoHolds}
 use Rattle.definitions.specs.Networks.{mesh, lent}
 use Rattle.definitions.specs.Opened.{opened}
-use Rattle.theory.specs.DemandThree.{demand-three}
-use Rattle.theory.specs.LastTwo.{last-two}
+use Rattle.theory.proofs.DemandThree.{demand-three}
+use Rattle.theory.proofs.LastTwo.{last-two}
 
 abbrev lows : List ℕ
 lows = mesh.lows

@@ -14,11 +14,12 @@ use Rattle.theory.specs.ServingRelays.{serving-once, serving-relay}
 use Rattle.theory.specs.Ordering.{placed-candidates}
 use Rattle.theory.specs.ForestNumbers.{Placed, forest-placed}
 use Rattle.theory.specs.Arranged.{Arranged, arranged-placed}
-use Rattle.theory.specs.ForestBound.{links_in, forest-size}
-use Rattle.theory.specs.Columns.{NumberedIn, MarkedIn}
-use Rattle.theory.specs.RelayTrees.{tree-test}
-use Rattle.theory.specs.Certificate.{LiveIn, survives-in}
-use Rattle.theory.specs.Mesh.{mesh-accepted}
+use Rattle.theory.proofs.ForestBound.{links_in, forest-size}
+use Rattle.theory.proofs.Columns.{NumberedIn, MarkedIn}
+use Rattle.theory.proofs.RelayTrees.{tree-test}
+use Rattle.theory.proofs.LiveRoute.{LiveIn}
+use Rattle.theory.proofs.Certificate.{survives-in}
+use Rattle.theory.proofs.Mesh.{mesh-accepted}
 
 abbrev lows : List ℕ
 lows = mesh.lows

@@ -14,7 +14,8 @@ use Rattle.lists.specs.Maps.{get_or-map}
 use Rattle.lists.specs.Overwritten.{get_or-overwrite}
 use Rattle.lists.specs.Ranges.{inside}
 use Rattle.theory.specs.ForestNumbers.{forest_in, no-forest}
-use Rattle.theory.specs.ForestBound.{forests-length, forests-at, forests-after}
+use Rattle.theory.proofs.ForestBound.{forests-length, forests-at}
+use Rattle.theory.proofs.SplitBound.{forests-after}
 
 -- A list with the forest number of each link, in any order: 0 for a link that has an end without a place.
 abbrev pub NumberedIn : (order lows highs forests : List ℕ) → Type 0

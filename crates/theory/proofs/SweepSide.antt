@@ -10,7 +10,7 @@ use Rattle.lists.specs.Cases.{has-nil, has-cases, has_there}
 use Rattle.theory.specs.PlaceSweep.{end_of, before_end, downshift}
 use Rattle.theory.specs.LeftLaws.{LeftLaws}
 use Rattle.theory.specs.SweepShift.{source, Came, stays, moves, takes, came, source_one}
-use Rattle.theory.specs.SweepPaths.{Trail, OpenPath, open-end, open_above, open-start, open-past, open-lower, trail-from}
+use Rattle.theory.proofs.SweepPaths.{Trail, OpenPath, open-end, open_above, open-start, open-past, open-lower, trail-from}
 
 -- A path of an open index before v: still its start alone, above which v is, or an open path.
 pub data Standing (left : ℕ → ℕ → ℕ) (k s c i v : ℕ) (path : List ℕ) : Type 0 where

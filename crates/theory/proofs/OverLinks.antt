@@ -18,12 +18,12 @@ use Rattle.lists.specs.Searches.{first_holds}
 use Rattle.lists.specs.Maps.{map-map}
 use Rattle.lists.specs.Steps.{steps_of, steps_of-map, length-all-steps}
 use Rattle.theory.specs.Arranged.{left_in, Arranged, base-arranged}
-use Rattle.theory.specs.RelayTrees.{AliveBetween, places-differ, one-tree-alive, one-tree-test}
-use Rattle.theory.specs.ForestBound.{forests-at}
-use Rattle.theory.specs.Columns.{mark-entry}
-use Rattle.theory.specs.RelayRoutes.{routes-hold}
+use Rattle.theory.proofs.RelayTrees.{AliveBetween, places-differ, one-tree-alive, one-tree-test}
+use Rattle.theory.proofs.ForestBound.{forests-at}
+use Rattle.theory.proofs.Columns.{mark-entry}
+use Rattle.theory.proofs.RelayRoutes.{routes-hold}
 use Rattle.theory.specs.LeftEntries.{entry_in, EntryLink, entry-link-in, entry-joins-in}
-use Rattle.theory.specs.OverSteps.{over-steps}
+use Rattle.theory.proofs.OverSteps.{over-steps}
 
 -- The link of the table that joins a and b; 0 if there is none.
 unfoldable pub pair_link : (lows highs : List ℕ) (a b : ℕ) → ℕ

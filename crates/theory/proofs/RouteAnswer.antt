@@ -18,9 +18,9 @@ use Rattle.lists.specs.Outcomes.{if-done}
 use Rattle.lists.specs.Overwritten.{take-overwrite}
 use Rattle.lists.specs.Cuts.{cut_up-joined, total-lengths}
 use Rattle.lists.specs.Ranges.{inside}
-use Rattle.theory.specs.Columns.{Numbered, Marked}
-use Rattle.theory.specs.RelayTrees.{one-tree-alive, one-tree-test}
-use Rattle.theory.specs.RelayRoutes.{RelayRoutes, routes-hold}
+use Rattle.theory.proofs.Columns.{Numbered, Marked}
+use Rattle.theory.proofs.RelayTrees.{one-tree-alive, one-tree-test}
+use Rattle.theory.proofs.RelayRoutes.{RelayRoutes, routes-hold}
 
 module _ (n : ℕ) (lows highs states : List ℕ) (ok : Accepted n lows highs states) (k : ℕ) (one : 1 ≤ k) (most : k ≤ 32)
     (from to : ℕ) (hf : Serving n states from) (ht : Serving n states to) (differ : from ≢ to)

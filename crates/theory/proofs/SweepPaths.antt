@@ -7,7 +7,7 @@ use Rattle.lists.specs.Searches.{clash}
 use Rattle.lists.specs.Cases.{has-nil, has-cases, has-not}
 use Rattle.theory.specs.PlaceSweep.{end_of}
 use Rattle.theory.specs.LeftLaws.{LeftLaws}
-use Rattle.theory.specs.Trees.{Alive, alive-lower, alive-left, alive-join}
+use Rattle.theory.proofs.Trees.{Alive, alive-lower, alive-left, alive-join}
 
 -- x is an earlier neighbour of y, by a link of the forests 1 to k.
 abbrev pub Down : (left : ℕ → ℕ → ℕ) (k x y : ℕ) → Type 0

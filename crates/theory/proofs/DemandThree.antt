@@ -3,10 +3,10 @@
 use Rattle.definitions.specs.Forests.{forests_after, marks_after}
 use Rattle.definitions.specs.Demand.{DemandThree}
 use Rattle.theory.specs.Places.{maximal-order}
-use Rattle.theory.specs.ForestBound.{split-bound, split-in-one, split-in-none, split-total}
-use Rattle.theory.specs.Columns.{split-numbers, cut-marks, no-mark}
-use Rattle.theory.specs.RouteAnswer.{delivers}
-use Rattle.theory.specs.Certificate.{survives}
+use Rattle.theory.proofs.SplitBound.{split-bound, split-in-one, split-in-none, split-total}
+use Rattle.theory.proofs.Columns.{split-numbers, cut-marks, no-mark}
+use Rattle.theory.proofs.RouteAnswer.{delivers}
+use Rattle.theory.proofs.Certificate.{survives}
 
 pub demand-three : DemandThree
 demand-three n lows highs states ok k one most relays places forests marks room_relays room_places room_forests room_marks =

@@ -5,7 +5,7 @@ use Rattle.std.proofs.Common.{arith, sym, subst}
 use Rattle.definitions.specs.Lists.{has}
 use Rattle.theory.specs.PlaceSweep.{Slot, end_of}
 use Rattle.theory.specs.LeftLaws.{LeftLaws}
-use Rattle.theory.specs.SweepPaths.{Trail, OpenPath, open-start}
+use Rattle.theory.proofs.SweepPaths.{Trail, OpenPath, open-start}
 
 -- Index i is open before v. B(i) is t alone until t has been treated; from then on t is not in A(i).
 pub record OpenSlot (left : ℕ → ℕ → ℕ) (k s t v i : ℕ) (slot : Slot) : Type 0 where

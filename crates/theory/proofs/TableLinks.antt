@@ -7,11 +7,11 @@ use Rattle.definitions.specs.Network.{joins}
 use Rattle.definitions.specs.Order.{place_of, relay_at}
 use Rattle.definitions.specs.DisjointRoutes.{LinkOf}
 use Rattle.definitions.specs.Demand.{InForest, Kept}
-use Rattle.theory.specs.Trees.{TreeLink, tree_link-sym}
+use Rattle.theory.proofs.Trees.{TreeLink, tree_link-sym}
 use Rattle.theory.specs.Links.{joins-ends, joins-sym}
 use Rattle.theory.specs.ForestNumbers.{forest_in, Placed, AllPlaced, places-placed, left-is-link}
 use Rattle.theory.specs.Arranged.{left_in, Arranged, arranged-forest}
-use Rattle.theory.specs.Columns.{NumberedIn, MarkedIn, kept-forest}
+use Rattle.theory.proofs.Columns.{NumberedIn, MarkedIn, kept-forest}
 
 module _ (order lows highs : List ℕ) (arranged : Arranged order lows highs) where
   -- A link of forest f between two places is a link of the table between their relays.

@@ -13,14 +13,14 @@ use Rattle.definitions.specs.Route.{left_of, one_tree_of}
 use Rattle.definitions.specs.Demand.{Joined, OneTree}
 use Rattle.theory.specs.JoinedRelays.{joined-sym, joined-map}
 use Rattle.theory.specs.LeftLaws.{LeftLaws}
-use Rattle.theory.specs.Trees.{Alive, TreeLink, tree_link-sym, chain-alive, one_tree-alive, one_tree-sym}
+use Rattle.theory.proofs.Trees.{Alive, TreeLink, tree_link-sym, chain-alive, one_tree-alive, one_tree-sym}
 use Rattle.theory.specs.Ordering.{order-has}
 use Rattle.theory.specs.Places.{relay-of-place, places-apart}
 use Rattle.theory.specs.Left.{left-count}
 use Rattle.theory.specs.ForestNumbers.{AllPlaced, forest-placed}
 use Rattle.theory.specs.Arranged.{left_in, Arranged, base-arranged}
-use Rattle.theory.specs.Columns.{NumberedIn, Numbered}
-use Rattle.theory.specs.TableLinks.{forest-link, forest-places}
+use Rattle.theory.proofs.Columns.{NumberedIn, Numbered}
+use Rattle.theory.proofs.TableLinks.{forest-link, forest-places}
 
 -- The places above the earlier of two, up to the later.
 abbrev pub AliveBetween : (left : ℕ → ℕ → ℕ) (i p q : ℕ) → Type 0

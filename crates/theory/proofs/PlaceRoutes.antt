@@ -16,7 +16,7 @@ use Rattle.lists.specs.Distinct.{no-repeat-keep}
 use Rattle.lists.specs.Counting.{no_longer}
 use Rattle.lists.specs.Reversed.{first-reverse, last-reverse, along-reverse}
 use Rattle.lists.specs.Concat.{has-join_all, no_repeat-join_all, length-join_all-less, is_either, inner, length-inner}
-use Rattle.theory.specs.Trees.{TreeLink, tree_link-sym}
+use Rattle.theory.proofs.Trees.{TreeLink, tree_link-sym}
 
 -- A link of one of the forests 1 to k, either way round.
 abbrev pub LeftLink : (left : ℕ → ℕ → ℕ) (k a b : ℕ) → Type 0

@@ -1,25 +1,21 @@
 -- Forest i holds at most n − i links, where n counts the relays in service; each link with both ends in service is in one forest from
--- 1 to n − 1, every other in none, and the counts of all the forests add up to the links with both ends in service: of the forest
--- numbers as defined, and of the list that Split leaves. The bound is proved over any order.
+-- 1 to n − 1, every other in none, and the counts of all the forests add up to the links with both ends in service. The bound is
+-- proved over any order.
 use Prim.Native.Nat.{ℕ, suc, ◌+◌, ◌-◌, ◌≤◌, ◌<◌}
 use Rattle.std.proofs.Math.Bool.{Bool, true, false}
-use mathlib.Core.List.{List, [], ◌∷◌}
-use Rattle.std.specs.Prelude.{◌≡◌, take}
+use mathlib.Core.List.{List}
+use Rattle.std.specs.Prelude.{◌≡◌}
 use Rattle.std.proofs.Math.Path.{refl, ap}
 use Rattle.std.proofs.Common.{sym, ◌∙◌, zero-add}
 use native.Mathlib.Omega.{arith}
-use borrow.Author.Tests.{eqb-true, le-leb, lt-leb, le-ltb}
-use Rattle.std.proofs.Math.Dec.{eqb, ltb, leb}
+use borrow.Author.Tests.{eqb-true, le-leb, lt-leb}
+use Rattle.std.proofs.Math.Dec.{eqb, leb}
 use Rattle.std.proofs.Math.ListN.{length, get_or}
-use Rattle.std.proofs.Math.Seq.{take-length}
-use Rattle.definitions.specs.Outcome.{done, refuse_if}
-use Rattle.definitions.specs.Lists.{table, overwrite, keep, count, total, greatest}
-use Rattle.definitions.specs.Network.{linked, link_serves, table_check, Accepted}
+use Rattle.definitions.specs.Lists.{table, keep, count, total}
+use Rattle.definitions.specs.Network.{linked, link_serves, Accepted}
 use Rattle.definitions.specs.Order.{serving_relays, order_of, relay_at}
-use Rattle.definitions.specs.Forests.{forest_of, forests_of, split_answer, forests_after}
-use Rattle.lists.specs.Outcomes.{refuse-not, then-done, if-done}
+use Rattle.definitions.specs.Forests.{forest_of, forests_of}
 use Rattle.lists.specs.Tables.{length-table, get_or-table}
-use Rattle.lists.specs.Overwritten.{get_or-overwrite, take-overwrite}
 use Rattle.lists.specs.Members.{index_of, range-bounds}
 use Rattle.lists.specs.Counting.{count_same, count-table, length-keep}
 use Rattle.lists.specs.Pigeonhole.{told-apart}
@@ -151,48 +147,3 @@ module _ (n : ℕ) (lows highs states : List ℕ) (ok : Accepted n lows highs st
               → get_or (forests_of n lows highs states) i 0 < 1 + length (serving_relays n states)
           go true e = omega (arith, forests-range i h e)
           go false e = omega (arith, forests-none i h e)
-
-  -- What Split leaves.
-  pub forests-after : (old : List ℕ) → length lows ≤ length old
-      → forests_after n lows highs states old ≡ overwrite (forests_of n lows highs states) old
-  unfolding forests_after split_answer
-  forests-after old h =
-      let short = ltb (length old) (length lows) in
-      let value = greatest (forests_of n lows highs states) ∷ [] in
-      if-done (split_answer n lows highs states old) value (overwrite (forests_of n lows highs states) old) old
-      (then-done (table_check n lows highs states) (λ _. refuse_if short 12 0 (done value)) [] ok
-      ∙ refuse-not short 12 0 (done value) (le-ltb (length old) (length lows) h))
-
-  split-front : (old : List ℕ) → length lows ≤ length old
-      → take (length lows) (forests_after n lows highs states old) ≡ forests_of n lows highs states
-  split-front old h =
-      let forests = forests_of n lows highs states in
-      ap (take (length lows)) (forests-after old h)
-      ∙ take-overwrite forests old (length lows) (omega (arith, forests-length n lows highs states))
-      ∙ ap (λ (k : ℕ). take k forests) (sym (forests-length n lows highs states))
-      ∙ take-length forests
-
-  pub split-bound : (old : List ℕ) → length lows ≤ length old → (i : ℕ) → 1 ≤ i → i ≤ length (serving_relays n states)
-      → count (eqb i) (take (length lows) (forests_after n lows highs states old)) ≤ length (serving_relays n states) - i
-  split-bound old h i some within = rw (split-front old h) (forests-bound i some)
-
-  pub split-total : (old : List ℕ) → length lows ≤ length old
-      → total
-      (table (λ i. count (eqb i) (take (length lows) (forests_after n lows highs states old))) 1 (length (serving_relays n states)))
-      ≡ count (link_serves lows highs states) (table (λ i. i) 0 (length lows))
-  split-total old h = rw (split-front old h) forests-total
-
-  split-entry : (old : List ℕ) → length lows ≤ length old → (i : ℕ) → i < length lows
-      → get_or (forests_after n lows highs states old) i 0 ≡ get_or (forests_of n lows highs states) i 0
-  split-entry old h i k =
-      ap (λ (l : List ℕ). get_or l i 0) (forests-after old h)
-      ∙ get_or-overwrite (forests_of n lows highs states) old i 0 (omega (arith, forests-length n lows highs states))
-
-  pub split-in-one : (old : List ℕ) → length lows ≤ length old → (i : ℕ) → i < length lows → link_serves lows highs states i ≡ true
-      → (1 ≤ get_or (forests_after n lows highs states old) i 0)
-      × (get_or (forests_after n lows highs states old) i 0 < length (serving_relays n states))
-  split-in-one old h i k e = rw (split-entry old h i k) (forests-range i k e)
-
-  pub split-in-none : (old : List ℕ) → length lows ≤ length old → (i : ℕ) → i < length lows → link_serves lows highs states i ≡ false
-      → get_or (forests_after n lows highs states old) i 0 ≡ 0
-  split-in-none old h i k e = split-entry old h i k ∙ forests-none i k e

@@ -1,7 +1,7 @@
 -- The certificate: whichever fewer than k relays are dead, the kept links join the same live relays as all the links.
 -- Over any order, whose relays are the ones in service, and for any k from 1 on; then for the base and accepted networks.
-use Rattle.std.specs.Prelude.{ℕ, ◌≤◌, ◌<◌, min, max, Bool, true, false, List, [], map, ◌⊎◌, ◌↔◌, ◌≢◌, ◌≡◌, length, get_or}
-use Rattle.std.proofs.Common.{true≢false, inl, inr, sym, ◌∙◌, ap, subst, subst₂, arith}
+use Rattle.std.specs.Prelude.{ℕ, ◌≤◌, ◌<◌, min, max, Bool, true, List, map, ◌↔◌, ◌≢◌, ◌≡◌, length}
+use Rattle.std.proofs.Common.{inl, inr, ap, subst₂, arith}
 use Rattle.std.proofs.Math.Logic.{by_cases}
 use Rattle.std.proofs.Math.Decide.{dec_le}
 use Rattle.definitions.specs.Lists.{has, count}
@@ -10,17 +10,18 @@ use Rattle.definitions.specs.Order.{serving_relays, order_of, place_of, relay_at
 use Rattle.definitions.specs.Route.{routes_between}
 use Rattle.definitions.specs.DisjointRoutes.{LinkOf, InService}
 use Rattle.definitions.specs.Demand.{Joined, alone, onward, Kept, Live, dead_count}
-use Rattle.lists.specs.Pigeonhole.{count-within, pigeonhole, first_passing, free-list}
-use Rattle.theory.specs.JoinedRelays.{joined-map, joined-replace, route-joined}
+use Rattle.lists.specs.Pigeonhole.{count-within}
+use Rattle.theory.specs.JoinedRelays.{joined-map, joined-replace}
 use Rattle.theory.specs.LeftLaws.{LeftLaws}
-use Rattle.theory.specs.Trees.{Alive, TreeLink, alive-lower, alive-left}
+use Rattle.theory.proofs.Trees.{Alive, TreeLink, alive-lower, alive-left}
 use Rattle.theory.specs.Ordering.{order-no-repeat, order-serving, order-has, order-relay}
 use Rattle.theory.specs.ForestNumbers.{forest_in, Placed, joined-placed, placed-serves}
 use Rattle.theory.specs.Arranged.{left_in, Arranged, arranged-forest, base-arranged}
-use Rattle.theory.specs.Columns.{MarkedIn, Marked, kept-forest}
-use Rattle.theory.specs.TableLinks.{place-link}
-use Rattle.theory.specs.RelayTrees.{AliveBetween}
-use Rattle.theory.specs.RelayRoutes.{RoutesIn, routes-in}
+use Rattle.theory.proofs.Columns.{MarkedIn, Marked, kept-forest}
+use Rattle.theory.proofs.TableLinks.{place-link}
+use Rattle.theory.proofs.RelayTrees.{AliveBetween}
+use Rattle.theory.proofs.RelayRoutes.{routes-in}
+use Rattle.theory.proofs.LiveRoute.{LiveIn, live-route}
 
 -- The places between the ends of a link of forest f are alive at f.
 link-alive : (left : ℕ → ℕ → ℕ) → LeftLaws left → (f p q : ℕ) → TreeLink left f p q → AliveBetween left f p q
@@ -40,46 +41,9 @@ link-differ : (left : ℕ → ℕ → ℕ) → LeftLaws left → (f p q : ℕ) �
 link-differ left laws f p q (inl l) same = omega (arith, laws.below f p (omega arith))
 link-differ left laws f p q (inr l) same = omega (arith, laws.below f q (omega arith))
 
--- A relay of the order that is not dead.
-abbrev pub LiveIn : List ℕ → (ℕ → Bool) → ℕ → Type 0
-LiveIn order dead r = (has order r ≡ true) × (dead r ≡ false)
-
 module _ (order lows highs : List ℕ) (arranged : Arranged order lows highs) (n : ℕ) (states : List ℕ)
     (serving : (r : ℕ) → has order r ≡ true → Serving n states r) (k : ℕ) (one : 1 ≤ k) (marks : List ℕ)
     (marked : MarkedIn order lows highs k marks) (dead : ℕ → Bool) (few : count dead order < k) where
-  -- Of k routes between two live relays one is live throughout: each dead relay is on at most one of them.
-  live-route : (a b : ℕ) → LiveIn order dead a → LiveIn order dead b → (routes : List (List ℕ))
-      → RoutesIn order n lows highs states marks k a b routes → Joined (LiveIn order dead) (LinkOf lows highs (Kept marks)) a b
-  live-route a b la lb routes holds = go (free-list dead (λ i. get_or routes i []) k)
-    where
-      ends-live : (x : ℕ) → dead x ≡ true → (x ≡ a) ⊎ (x ≡ b) → ⊥
-      ends-live x d (inl e) = true≢false (sym d ∙ ap dead e ∙ la.1)
-      ends-live x d (inr e) = true≢false (sym d ∙ ap dead e ∙ lb.1)
-
-      found : ℕ → ℕ
-      found i = first_passing dead (get_or routes i [])
-
-      within : (i : ℕ) → i < k → i < length routes
-      within i h = omega (arith, holds.among.number)
-
-      go : ((i : ℕ) × (i < k) × ((x : ℕ) → has (get_or routes i []) x ≡ true → dead x ≡ false))
-          ⊎ ((i : ℕ) → i < k → (has (get_or routes i []) (found i) ≡ true) × (dead (found i) ≡ true))
-          → Joined (LiveIn order dead) (LinkOf lows highs (Kept marks)) a b
-      go (inl free) =
-          let route : List ℕ = get_or routes free.0 [] in
-          let route-holds = holds.among.disjoint.each free.0 (within free.0 free.1) in
-          subst₂ (Joined (LiveIn order dead) (LinkOf lows highs (Kept marks))) route-holds.runs.starts route-holds.runs.ends
-          (route-joined route (omega (arith, route-holds.runs.long))
-          (λ x h. (holds.within free.0 (within free.0 free.1) x h, free.2 x h)) route-holds.runs.along)
-      go (inr blocked) =
-          let all : k ≤ count dead order =
-          pigeonhole dead order k found (λ i h. (holds.within i (within i h) (found i) (blocked i h).0, (blocked i h).1))
-          (λ i j less h e.
-          ends-live (found i) (blocked i (omega arith)).1
-          ((holds.among.disjoint.apart i j (within i (omega arith)) (within j h) (omega arith)).relays (found i) (blocked i (omega arith)).0
-          (subst (λ (x : ℕ). has (get_or routes j []) x ≡ true) (sym e) (blocked j h).0))) in
-          absurd (omega arith)
-
   -- A link of the table between live relays, replaced by a chain of kept links through live relays.
   detour : (a b : ℕ) → LiveIn order dead a → LiveIn order dead b → LinkOf lows highs (λ i. Unit {0}) a b
       → Joined (LiveIn order dead) (LinkOf lows highs (Kept marks)) a b
@@ -96,7 +60,7 @@ module _ (order lows highs : List ℕ) (arranged : Arranged order lows highs) (n
       (λ dropped.
       let alive : AliveBetween left k p q =
       alive-lower left arranged.laws k f (min p q) (max p q) one (omega arith) (link-alive left arranged.laws f p q link) in
-      live-route a b la lb (map (map (relay_at order)) (routes_between left k p q))
+      live-route order lows highs arranged n states serving k one marks marked dead few a b la lb (map (map (relay_at order)) (routes_between left k p q))
       (routes-in order lows highs arranged n states serving k marks marked one a b la.0 lb.0
       (λ e. link-differ left arranged.laws f p q link (ap (place_of order) e)) alive))
 
