@@ -1,6 +1,6 @@
 -- The import on the mesh and on small texts (document 02, #106): what is taken, each refusal with its place, and what the program
 -- prints. By computation. Assumes nothing.
-use Rattle.std.specs.Prelude.{ℕ, List, [], ◌∷◌, ◌++◌, ◌≡◌, refl, replicate}
+use Rattle.std.specs.Prelude.{ℕ, List, [], ◌∷◌, ◌++◌, refl, replicate}
 use Prim.Native.String.{String}
 use Rattle.definitions.specs.Outcome.{refused, done, Answer}
 use Rattle.definitions.specs.Form.{bytes}

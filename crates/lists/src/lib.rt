@@ -1,3 +1,2 @@
 // No functions: facts on lists and numbers stand in specs/.
 #![tactic(auto)]
-

@@ -1,5 +1,5 @@
 -- What the import promises, proved for every room. Assumes nothing.
-use Rattle.std.specs.Prelude.{ℕ, ◌≤◌, List, [], ◌⊎◌, ◌≢◌, ◌≡◌, refl, length, drop, replicate}
+use Rattle.std.specs.Prelude.{ℕ, ◌≤◌, List, [], ◌⊎◌, ◌≢◌, ◌≡◌, length, drop, replicate}
 use Rattle.std.proofs.Common.{inl, inr, sym, ◌∙◌, ap, arith}
 use Rattle.definitions.specs.Outcome.{done}
 use Rattle.definitions.specs.Network.{Accepted}

@@ -1,7 +1,7 @@
 -- What the program prints of a set of reports, proved: the text of an accepted network, which Read gives back, or the first refusal met;
 -- and it goes by the whole set. Assumes nothing.
 use Rattle.std.specs.Prelude.{ℕ, ◌<◌, List, [], ◌∷◌, ◌++◌, ◌≢◌, ◌≡◌, refl, length, get_or, drop}
-use Rattle.std.proofs.Common.{◌∙◌, ap, arith}
+use Rattle.std.proofs.Common.{ap, arith}
 use Rattle.std.proofs.Math.Seq.{drop-append_seam}
 use Rattle.definitions.specs.Outcome.{done}
 use Rattle.definitions.specs.Lists.{outside}

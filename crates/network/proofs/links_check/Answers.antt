@@ -1,6 +1,6 @@
 -- `network::links_check` meets its contract. The loop's invariant: the bits hold the pairs of the links passed, and the
 -- check of all links is that of the links from here on.
-use Prim.Native.Nat.{ℕ, ◌-◌}
+use Prim.Native.Nat.{ℕ}
 use mathlib.Core.Bool.{true}
 use mathlib.Core.Path.{◌≡◌, refl, ap}
 use native.Mathlib.Omega.{arith}
@@ -42,13 +42,13 @@ returns-in-RelayRange c =
     c.args.highs.now
     0
     (length c.args.lows.now)) =
-        let a = c.args in
-        let now = c.loop-i in
-        turn-refused a.n a.lows.now a.highs.now now.i now.seen _ c.check_link.result
-        c.loop-i-test.true
-        now.invariant.1
-        c.check_link.ensures
-        now.invariant.3 in
+    let a = c.args in
+    let now = c.loop-i in
+    turn-refused a.n a.lows.now a.highs.now now.i now.seen _ c.check_link.result
+    c.loop-i-test.true
+    now.invariant.1
+    c.check_link.ensures
+    now.invariant.3 in
     fault 5 refl (ap fault_of c.in-RelayRange.is)
 
 pub returns-in-NotBelow : goal.returns-in-NotBelow
@@ -61,13 +61,13 @@ returns-in-NotBelow c =
     c.args.highs.now
     0
     (length c.args.lows.now)) =
-        let a = c.args in
-        let now = c.loop-i in
-        turn-refused a.n a.lows.now a.highs.now now.i now.seen _ c.check_link.result
-        c.loop-i-test.true
-        now.invariant.1
-        c.check_link.ensures
-        now.invariant.3 in
+    let a = c.args in
+    let now = c.loop-i in
+    turn-refused a.n a.lows.now a.highs.now now.i now.seen _ c.check_link.result
+    c.loop-i-test.true
+    now.invariant.1
+    c.check_link.ensures
+    now.invariant.3 in
     fault 6 refl (ap fault_of c.in-NotBelow.is)
 
 pub returns-in-Repeated : goal.returns-in-Repeated
@@ -80,13 +80,13 @@ returns-in-Repeated c =
     c.args.highs.now
     0
     (length c.args.lows.now)) =
-        let a = c.args in
-        let now = c.loop-i in
-        turn-refused a.n a.lows.now a.highs.now now.i now.seen _ c.check_link.result
-        c.loop-i-test.true
-        now.invariant.1
-        c.check_link.ensures
-        now.invariant.3 in
+    let a = c.args in
+    let now = c.loop-i in
+    turn-refused a.n a.lows.now a.highs.now now.i now.seen _ c.check_link.result
+    c.loop-i-test.true
+    now.invariant.1
+    c.check_link.ensures
+    now.invariant.3 in
     fault 7 refl (ap fault_of c.in-Repeated.is)
 
 pub overflow_add-i : goal.overflow_add-i

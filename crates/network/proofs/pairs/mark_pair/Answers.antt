@@ -15,8 +15,8 @@ pair_index-pair-requires c =
 pub bounds-seen-word : goal.bounds-seen-word
 bounds-seen-word c =
     let pair-word : c.pair_index-pair.result / 64 < length c.args.seen.now =
-        let a = c.args in
-        omega (arith, c.pair_index-pair.ensures, pair-below a.n a.a.0 a.b.0 (omega arith) (omega arith)) in
+    let a = c.args in
+    omega (arith, c.pair_index-pair.ensures, pair-below a.n a.a.0 a.b.0 (omega arith) (omega arith)) in
     pair-word
 
 pub returns-then-bits-bit-eq1 : goal.returns-then-bits-bit-eq1
@@ -31,8 +31,8 @@ returns-then-bits-bit-eq1 c =
 pub bounds-seen-word-2 : goal.bounds-seen-word-2
 bounds-seen-word-2 c =
     let pair-word : c.pair_index-pair.result / 64 < length c.args.seen.now =
-        let a = c.args in
-        omega (arith, c.pair_index-pair.ensures, pair-below a.n a.a.0 a.b.0 (omega arith) (omega arith)) in
+    let a = c.args in
+    omega (arith, c.pair_index-pair.ensures, pair-below a.n a.a.0 a.b.0 (omega arith) (omega arith)) in
     pair-word
 
 pub returns : goal.returns

@@ -1,6 +1,6 @@
 -- `network::row_starts::first_row_starts` meets its contract: after b turns the first b entries follow the rule.
 --
-use Prim.Native.Nat.{◌+◌, ◌-◌}
+use Prim.Native.Nat.{◌+◌}
 use mathlib.Core.Path.{refl, ◌∙◌}
 use native.Mathlib.Omega.{arith}
 use lib.ListN.{get_or, length-set}

@@ -1,6 +1,5 @@
 -- `states_fault` meets its contract. The loop's invariant: what is gathered is above 1 exactly if the greatest entry passed is.
 --
-use Prim.Native.Nat.{◌-◌}
 use native.Mathlib.Omega.{arith}
 use Rattle.network.proofs.StateLaws.{not_as_long, all-gathered, none_yet, one_more}
 use Rattle.network.proofs.states.states_fault.Goals as goal

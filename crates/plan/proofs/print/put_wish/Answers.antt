@@ -1,0 +1,11 @@
+-- `plan::print::put_wish` meets its contract: the form is four words with three numbers between them.
+use Rattle.definitions.specs.Plan.{sheet_form}
+use Rattle.plan.proofs.print.put_wish.Goals as goal
+
+pub put_triple-requires : goal.put_triple-requires
+unfolding sheet_form
+put_triple-requires c = c.requires
+
+pub returns : goal.returns
+unfolding sheet_form
+returns c = c.put_triple.ensures
