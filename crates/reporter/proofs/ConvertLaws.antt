@@ -21,7 +21,7 @@ use Rattle.definitions.specs.ReportSets.{
 use Rattle.text_theory.specs.Programs.{read-alone}
 use Rattle.text_theory.specs.ReportProof.{report-promise}
 use Rattle.text_theory.specs.ReportsPrinted.{reports-line}
-use Rattle.network.specs.Answers.{refusal_of, refusal_number, refusal_place}
+use Rattle.network.specs.Answers.{refusal_number, refusal_place}
 use Rattle.network.specs.declared.refusal.Refusal.TheVariants.{Wish}
 use Rattle.text.specs.Answers.{read_outcome}
 use Rattle.text.specs.declared.ReadAnswer.{ReadAnswer}

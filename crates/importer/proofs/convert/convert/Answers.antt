@@ -2,4 +2,4 @@
 use Rattle.importer.proofs.convert.convert.Goals as goal
 
 pub returns : goal.returns
-returns c = (c.put_imported.ensures.size, c.put_imported.ensures.bytes)
+returns c = record { length = c.put_imported.ensures.size; bytes = c.put_imported.ensures.bytes }

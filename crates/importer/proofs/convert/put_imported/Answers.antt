@@ -5,9 +5,9 @@ use Rattle.importer.proofs.convert.put_imported.Goals as goal
 
 pub put_made-requires : goal.put_made-requires
 put_made-requires c = record {
-      in_bounds = c.requires;
-      left = loads-left _ _ _ _ _ c.load_drawing-answer.ensures;
-    }
+  in_bounds = c.requires;
+  left = loads-left _ _ _ _ _ c.load_drawing-answer.ensures;
+}
 
 pub returns : goal.returns
 returns c =

@@ -1,27 +1,44 @@
 -- `reporter::convert::convert` meets its contract: the line in front departs, or the set behind it is taken.
-use mathlib.Core.List.{[], ◌∷◌}
+use Prim.Native.Nat.{◌≤◌}
 use mathlib.Core.Path.{◌≡◌, refl, sym, ◌∙◌, ap}
 use native.Mathlib.Omega.{arith}
-use Rattle.definitions.specs.Form.{reads, scan_form}
-use Rattle.definitions.specs.ReportSets.{reports_form}
+use borrow.Author.Rules.{rules}
+use lib.ListN.{length}
+use Rattle.definitions.specs.Lists.{overwrite}
+use Rattle.definitions.specs.ReportSets.{reports_form, reports_text}
 use Rattle.text_theory.specs.Forms.{no_zero}
 use Rattle.text.specs.Scans.{number_gives}
-use Rattle.reporter.proofs.ConvertLaws.{line_refused, set-printed}
+use Rattle.reporter.proofs.ConvertLaws.{line_refused, set-taken, set-printed}
 use Rattle.reporter.proofs.convert.convert.Goals as goal
 
 pub single_line-requires : goal.single_line-requires
 unfolding no_zero
 single_line-requires c = (refl, refl)
 
+pub slice_bounds-put_reported-start : goal.slice_bounds-put_reported-start
+unfolding reports_form
+slice_bounds-put_reported-start c =
+    let input = c.args.input.now in
+    let within : c.in-Reads.p ≤ length input = (set-taken input _ _ (sym c.single_line.ensures ∙ ap number_gives c.in-Reads.is)).0 in
+    search rules
+
+pub slice_bounds-put_reported-count : goal.slice_bounds-put_reported-count
+unfolding reports_form
+slice_bounds-put_reported-count c =
+    (set-taken c.args.input.now _ _ (sym c.single_line.ensures ∙ ap number_gives c.in-Reads.is)).0
+
 pub returns-in-Departs : goal.returns-in-Departs
 unfolding reports_form
 returns-in-Departs c =
-    line_refused c.args.input.now _ _ _ _
-    (sym c.single_line.ensures ∙ ap number_gives c.in-Departs.is) (omega arith) c.put_any.ensures
+    let input = c.args.input.now in
+    let whole : (c.put_any.result ≡ length (reports_text input)) × (c.put_any.new.output ≡ overwrite (reports_text input) c.args.output.now) =
+    line_refused input _ _ _ _ (sym c.single_line.ensures ∙ ap number_gives c.in-Departs.is) (omega arith) c.put_any.ensures in
+    record { length = whole.0; bytes = whole.1 }
 
 pub returns-in-Reads : goal.returns-in-Reads
+unfolding reports_form
 returns-in-Reads c =
-    let line : scan_form c.args.input.now reports_form 0 ≡ reads (c.in-Reads.n ∷ []) c.n-1.given.0.1.0
-      unfolding reports_form =
-        sym c.single_line.ensures ∙ ap number_gives c.in-Reads.is in
-    set-printed _ _ _ _ _ _ (line c.put_reported.ensures
+    let input = c.args.input.now in
+    let whole : (c.put_reported.result ≡ length (reports_text input)) × (c.put_reported.new.output ≡ overwrite (reports_text input) c.args.output.now) =
+    set-printed input _ _ _ _ _ (sym c.single_line.ensures ∙ ap number_gives c.in-Reads.is) c.put_reported.ensures in
+    record { length = whole.0; bytes = whole.1 }

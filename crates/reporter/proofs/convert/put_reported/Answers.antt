@@ -5,9 +5,9 @@ use Rattle.reporter.proofs.convert.put_reported.Goals as goal
 
 pub put_made-requires : goal.put_made-requires
 put_made-requires c = record {
-      in_bounds = c.requires;
-      left = loads-left _ _ _ _ _ c.load_reports-answer.ensures;
-    }
+  in_bounds = c.requires;
+  left = loads-left _ _ _ _ _ c.load_reports-answer.ensures;
+}
 
 pub returns : goal.returns
 returns c =
