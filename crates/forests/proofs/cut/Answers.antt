@@ -9,8 +9,8 @@ use Rattle.forests.proofs.cut.Goals as goal
 pub returns-then-k-lt1 : goal.returns-then-k-lt1
 returns-then-k-lt1 c =
     let good : let a = c.args in
-          Accepted a.n a.lows.now a.highs.now a.states.now =
-        sym c.table_check.ensures ∙ ap check_outcome c.in-Accepted.is in
+    Accepted a.n a.lows.now a.highs.now a.states.now =
+    sym c.table_check.ensures ∙ ap check_outcome c.in-Accepted.is in
     let a = c.args in
     let both = cut-count a.n a.lows.now a.highs.now a.states.now a.k a.marks.now good (below 1 32 a.k c.if-k-lt1.true) in
     record { answer = both.0; marks = both.1 }
@@ -18,8 +18,8 @@ returns-then-k-lt1 c =
 pub returns-then-k-gt-ROUTES : goal.returns-then-k-gt-ROUTES
 returns-then-k-gt-ROUTES c =
     let good : let a = c.args in
-          Accepted a.n a.lows.now a.highs.now a.states.now =
-        sym c.table_check.ensures ∙ ap check_outcome c.in-Accepted.is in
+    Accepted a.n a.lows.now a.highs.now a.states.now =
+    sym c.table_check.ensures ∙ ap check_outcome c.in-Accepted.is in
     let a = c.args in
     let both = cut-count a.n a.lows.now a.highs.now a.states.now a.k a.marks.now good
     (above 1 32 a.k c.if-k-lt1.false c.if-k-gt-ROUTES.true) in
@@ -28,8 +28,8 @@ returns-then-k-gt-ROUTES c =
 pub returns-then-marks-m : goal.returns-then-marks-m
 returns-then-marks-m c =
     let good : let a = c.args in
-          Accepted a.n a.lows.now a.highs.now a.states.now =
-        sym c.table_check.ensures ∙ ap check_outcome c.in-Accepted.is in
+    Accepted a.n a.lows.now a.highs.now a.states.now =
+    sym c.table_check.ensures ∙ ap check_outcome c.in-Accepted.is in
     let a = c.args in
     let both = cut_short a.n a.lows.now a.highs.now a.states.now a.k a.marks.now good
     (inside 1 32 a.k c.if-k-lt1.false c.if-k-gt-ROUTES.false) c.if-marks-m.true in
@@ -38,8 +38,8 @@ returns-then-marks-m c =
 pub cut_accepted-requires : goal.cut_accepted-requires
 cut_accepted-requires c =
     let good : let a = c.args in
-          Accepted a.n a.lows.now a.highs.now a.states.now =
-        sym c.table_check.ensures ∙ ap check_outcome c.in-Accepted.is in
+    Accepted a.n a.lows.now a.highs.now a.states.now =
+    sym c.table_check.ensures ∙ ap check_outcome c.in-Accepted.is in
     (good, c.if-marks-m.false)
 
 pub returns-in-Refused : goal.returns-in-Refused
@@ -52,8 +52,8 @@ returns-in-Refused c =
 pub returns-else-marks-m : goal.returns-else-marks-m
 returns-else-marks-m c =
     let good : let a = c.args in
-          Accepted a.n a.lows.now a.highs.now a.states.now =
-        sym c.table_check.ensures ∙ ap check_outcome c.in-Accepted.is in
+    Accepted a.n a.lows.now a.highs.now a.states.now =
+    sym c.table_check.ensures ∙ ap check_outcome c.in-Accepted.is in
     let a = c.args in
     let in_range = inside 1 32 a.k c.if-k-lt1.false c.if-k-gt-ROUTES.false in
     let made = c.cut_accepted in

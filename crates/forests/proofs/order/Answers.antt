@@ -12,8 +12,8 @@ use Rattle.forests.proofs.order.Goals as goal
 pub returns-then-relays-size : goal.returns-then-relays-size
 returns-then-relays-size c =
     let good : let a = c.args in
-          Accepted a.n a.lows.now a.highs.now a.states.now =
-        sym c.table_check.ensures ∙ ap check_outcome c.in-Accepted.is in
+    Accepted a.n a.lows.now a.highs.now a.states.now =
+    sym c.table_check.ensures ∙ ap check_outcome c.in-Accepted.is in
     let a = c.args in
     let both = order-short a.n a.lows.now a.highs.now a.states.now a.relays.now a.places.now good
     (or_left (ltb (length a.relays.now) a.n) (ltb (length a.places.now) a.n) (lt-ltb (length a.relays.now) a.n c.if-relays-size.true)) in
@@ -22,8 +22,8 @@ returns-then-relays-size c =
 pub returns-then-places-size : goal.returns-then-places-size
 returns-then-places-size c =
     let good : let a = c.args in
-          Accepted a.n a.lows.now a.highs.now a.states.now =
-        sym c.table_check.ensures ∙ ap check_outcome c.in-Accepted.is in
+    Accepted a.n a.lows.now a.highs.now a.states.now =
+    sym c.table_check.ensures ∙ ap check_outcome c.in-Accepted.is in
     let a = c.args in
     let both = order-short a.n a.lows.now a.highs.now a.states.now a.relays.now a.places.now good
     (or_right (ltb (length a.relays.now) a.n) (ltb (length a.places.now) a.n) (lt-ltb (length a.places.now) a.n c.if-places-size.true)) in
@@ -32,8 +32,8 @@ returns-then-places-size c =
 pub place_relays-requires : goal.place_relays-requires
 place_relays-requires c =
     let good : let a = c.args in
-          Accepted a.n a.lows.now a.highs.now a.states.now =
-        sym c.table_check.ensures ∙ ap check_outcome c.in-Accepted.is in
+    Accepted a.n a.lows.now a.highs.now a.states.now =
+    sym c.table_check.ensures ∙ ap check_outcome c.in-Accepted.is in
     (good, c.if-relays-size.false, c.if-places-size.false)
 
 pub returns-in-Refused : goal.returns-in-Refused
@@ -46,8 +46,8 @@ returns-in-Refused c =
 pub returns-else-places-size : goal.returns-else-places-size
 returns-else-places-size c =
     let good : let a = c.args in
-          Accepted a.n a.lows.now a.highs.now a.states.now =
-        sym c.table_check.ensures ∙ ap check_outcome c.in-Accepted.is in
+    Accepted a.n a.lows.now a.highs.now a.states.now =
+    sym c.table_check.ensures ∙ ap check_outcome c.in-Accepted.is in
     let a = c.args in
     let one = c.if-relays-size.false in
     let other = c.if-places-size.false in

@@ -8,8 +8,8 @@ use Rattle.forests.proofs.split.Goals as goal
 pub returns-then-forests-m : goal.returns-then-forests-m
 returns-then-forests-m c =
     let good : let a = c.args in
-          Accepted a.n a.lows.now a.highs.now a.states.now =
-        sym c.table_check.ensures ∙ ap check_outcome c.in-Accepted.is in
+    Accepted a.n a.lows.now a.highs.now a.states.now =
+    sym c.table_check.ensures ∙ ap check_outcome c.in-Accepted.is in
     let a = c.args in
     let both = split-short a.n a.lows.now a.highs.now a.states.now a.forests.now good c.if-forests-m.true in
     record { answer = both.0; forests = both.1 }
@@ -17,8 +17,8 @@ returns-then-forests-m c =
 pub number_links-requires : goal.number_links-requires
 number_links-requires c =
     let good : let a = c.args in
-          Accepted a.n a.lows.now a.highs.now a.states.now =
-        sym c.table_check.ensures ∙ ap check_outcome c.in-Accepted.is in
+    Accepted a.n a.lows.now a.highs.now a.states.now =
+    sym c.table_check.ensures ∙ ap check_outcome c.in-Accepted.is in
     (good, c.if-forests-m.false)
 
 pub returns-in-Refused : goal.returns-in-Refused
@@ -31,8 +31,8 @@ returns-in-Refused c =
 pub returns-else-forests-m : goal.returns-else-forests-m
 returns-else-forests-m c =
     let good : let a = c.args in
-          Accepted a.n a.lows.now a.highs.now a.states.now =
-        sym c.table_check.ensures ∙ ap check_outcome c.in-Accepted.is in
+    Accepted a.n a.lows.now a.highs.now a.states.now =
+    sym c.table_check.ensures ∙ ap check_outcome c.in-Accepted.is in
     let a = c.args in
     let enough = c.if-forests-m.false in
     let stored = c.number_links.ensures in

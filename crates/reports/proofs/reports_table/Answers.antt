@@ -21,9 +21,9 @@ returns-then-n-gt-RELAYS c =
 pub returns-then-twice : goal.returns-then-twice
 returns-then-twice c =
     let told : AllTold c.args.text.now
-          c.args.n
-          c.place_all.new.offsets c.place_all.new.starts c.in-All.twice c.in-All.beyond =
-        subst (PlacedAll _ _ _ _) c.in-All.is c.place_all.ensures in
+    c.args.n
+    c.place_all.new.offsets c.place_all.new.starts c.in-All.twice c.in-All.beyond =
+    subst (PlacedAll _ _ _ _) c.in-All.is c.place_all.ensures in
     let a = c.args in
     refused-early _ a.lows.now a.highs.now a.states.now _
     (set_twice _ a.text.now _ _ _ (omega arith) (omega arith) _ _ _ _ told c.if-twice.true)
@@ -31,9 +31,9 @@ returns-then-twice c =
 pub returns-then-beyond : goal.returns-then-beyond
 returns-then-beyond c =
     let told : AllTold c.args.text.now
-          c.args.n
-          c.place_all.new.offsets c.place_all.new.starts c.in-All.twice c.in-All.beyond =
-        subst (PlacedAll _ _ _ _) c.in-All.is c.place_all.ensures in
+    c.args.n
+    c.place_all.new.offsets c.place_all.new.starts c.in-All.twice c.in-All.beyond =
+    subst (PlacedAll _ _ _ _) c.in-All.is c.place_all.ensures in
     let a = c.args in
     refused-early _ a.lows.now a.highs.now a.states.now _
     (set-far _ a.text.now _ _ _ (omega arith) (omega arith) _ _ _ _ told c.if-twice.false c.if-beyond.true)
@@ -41,9 +41,9 @@ returns-then-beyond c =
 pub join-requires : goal.join-requires
 join-requires c =
     let told : AllTold c.args.text.now
-          c.args.n
-          c.place_all.new.offsets c.place_all.new.starts c.in-All.twice c.in-All.beyond =
-        subst (PlacedAll _ _ _ _) c.in-All.is c.place_all.ensures in
+    c.args.n
+    c.place_all.new.offsets c.place_all.new.starts c.in-All.twice c.in-All.beyond =
+    subst (PlacedAll _ _ _ _) c.in-All.is c.place_all.ensures in
     (omega arith, omega arith, rw (c.if-twice.false, c.if-beyond.false) at told)
 
 pub returns-in-Bad : goal.returns-in-Bad

@@ -14,8 +14,8 @@ use Rattle.text.proofs.write.Goals as goal
 pub text_length-size-requires : goal.text_length-size-requires
 text_length-size-requires c =
     let good : let a = c.args in
-          Accepted a.n a.lows.now a.highs.now a.states.now =
-        sym c.table_check.ensures ∙ ap check_outcome c.in-Accepted.is in
+    Accepted a.n a.lows.now a.highs.now a.states.now =
+    sym c.table_check.ensures ∙ ap check_outcome c.in-Accepted.is in
     let a = c.args in
     let proper = accepted a.n a.lows.now a.highs.now a.states.now good in
     let states = accepted-states a.n a.lows.now a.highs.now a.states.now good in
@@ -24,8 +24,8 @@ text_length-size-requires c =
 pub returns-then-buffer-size : goal.returns-then-buffer-size
 returns-then-buffer-size c =
     let good : let a = c.args in
-          Accepted a.n a.lows.now a.highs.now a.states.now =
-        sym c.table_check.ensures ∙ ap check_outcome c.in-Accepted.is in
+    Accepted a.n a.lows.now a.highs.now a.states.now =
+    sym c.table_check.ensures ∙ ap check_outcome c.in-Accepted.is in
     let a = c.args in
     let short =
     write-short a.n a.lows.now a.highs.now a.states.now a.buffer.now good
@@ -37,8 +37,8 @@ returns-then-buffer-size c =
 pub write_accepted-requires : goal.write_accepted-requires
 write_accepted-requires c =
     let good : let a = c.args in
-          Accepted a.n a.lows.now a.highs.now a.states.now =
-        sym c.table_check.ensures ∙ ap check_outcome c.in-Accepted.is in
+    Accepted a.n a.lows.now a.highs.now a.states.now =
+    sym c.table_check.ensures ∙ ap check_outcome c.in-Accepted.is in
     (good, omega (arith, c.text_length-size.ensures))
 
 pub returns-in-Refused : goal.returns-in-Refused
@@ -53,8 +53,8 @@ returns-in-Refused c =
 pub returns-else-buffer-size : goal.returns-else-buffer-size
 returns-else-buffer-size c =
     let good : let a = c.args in
-          Accepted a.n a.lows.now a.highs.now a.states.now =
-        sym c.table_check.ensures ∙ ap check_outcome c.in-Accepted.is in
+    Accepted a.n a.lows.now a.highs.now a.states.now =
+    sym c.table_check.ensures ∙ ap check_outcome c.in-Accepted.is in
     let a = c.args in
     let made = c.write_accepted.ensures in
     let written =

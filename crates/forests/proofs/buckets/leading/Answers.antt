@@ -41,12 +41,11 @@ pub loop-count-smaller : goal.loop-count-smaller
 loop-count-smaller c = omega arith
 
 pub loop-count-preserved : goal.loop-count-preserved
-loop-count-preserved c =
-    (
-      omega arith,
-      none_above c.args.bits.now c.loop-count.count c.first_column-g.result (omega arith) c.loop-count.invariant.1
-          c.first_column-g.ensures (omega arith),
-    )
+loop-count-preserved c = (
+  omega arith,
+  none_above c.args.bits.now c.loop-count.count c.first_column-g.result (omega arith) c.loop-count.invariant.1
+      c.first_column-g.ensures (omega arith),
+)
 
 pub returns : goal.returns
 returns c =

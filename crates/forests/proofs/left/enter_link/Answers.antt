@@ -4,7 +4,7 @@ use mathlib.Core.Path.{◌≡◌, ◌∙◌, ap₂}
 use lib.ListN.{get_or}
 use native.Mathlib.Omega.{arith}
 use Rattle.forests.specs.Left.{later_at, earlier_at}
-use Rattle.forests.proofs.EnterLaws.{is-entered, no-forest-entered, none-past-entered, entered-some, entered-none, end-some, end_none, }
+use Rattle.forests.proofs.EnterLaws.{is-entered, no-forest-entered, none-past-entered, entered-some, entered-none, end-some, end_none}
 use Rattle.forests.proofs.left.enter_link.Goals as goal
 
 pub returns-then-forest-lt1 : goal.returns-then-forest-lt1
@@ -18,8 +18,8 @@ returns-then-forest-lt1 c =
 pub put_left-requires : goal.put_left-requires
 put_left-requires c =
     let late : let a = c.args in
-          c.later.result.0 ≡ later_at a.lows.now a.highs.now a.places.now a.i =
-        c.later.ensures ∙ ap₂ max c.place_of-p.ensures c.place_of-q.ensures in
+    c.later.result.0 ≡ later_at a.lows.now a.highs.now a.places.now a.i =
+    c.later.ensures ∙ ap₂ max c.place_of-p.ensures c.place_of-q.ensures in
     let v = late in
     let some = c.if-forest-lt1.false in
     let p = c.requires in
@@ -28,11 +28,11 @@ put_left-requires c =
 pub returns-then-forest-k : goal.returns-then-forest-k
 returns-then-forest-k c =
     let early : let a = c.args in
-          c.earlier-near.result.0 ≡ earlier_at a.lows.now a.highs.now a.places.now a.i =
-        c.earlier-near.ensures ∙ ap₂ min c.place_of-p.ensures c.place_of-q.ensures in
+    c.earlier-near.result.0 ≡ earlier_at a.lows.now a.highs.now a.places.now a.i =
+    c.earlier-near.ensures ∙ ap₂ min c.place_of-p.ensures c.place_of-q.ensures in
     let late : let a = c.args in
-          c.later.result.0 ≡ later_at a.lows.now a.highs.now a.places.now a.i =
-        c.later.ensures ∙ ap₂ max c.place_of-p.ensures c.place_of-q.ensures in
+    c.later.result.0 ≡ later_at a.lows.now a.highs.now a.places.now a.i =
+    c.later.ensures ∙ ap₂ max c.place_of-p.ensures c.place_of-q.ensures in
     let a = c.args in
     let is_in = is-entered a.k (get_or a.forests.now a.i 0) c.if-forest-lt1.false c.if-forest-k.true in record {
       table_left = entered-some a.k a.i a.lows.now a.highs.now a.places.now a.forests.now a.n a.table.now _

@@ -20,8 +20,8 @@ offset_bounds-marks-i c = omega arith
 pub bounds-marks-i : goal.bounds-marks-i
 bounds-marks-i c =
     let long : length c.loop-i.marks ≡ length c.args.marks.now =
-        ap length c.loop-i.invariant.1
-        ∙ length-mapped (mark_of c.args.k) c.args.marks.now c.loop-i.i (omega arith) in
+    ap length c.loop-i.invariant.1
+    ∙ length-mapped (mark_of c.args.k) c.args.marks.now c.loop-i.i (omega arith) in
     omega (arith, long)
 
 pub mark-it-requires : goal.mark-it-requires
@@ -33,8 +33,8 @@ offset_bounds-marks-i-in-loop-i c = omega arith
 pub bounds-marks-i-in-loop-i : goal.bounds-marks-i-in-loop-i
 bounds-marks-i-in-loop-i c =
     let long : length c.loop-i.marks ≡ length c.args.marks.now =
-        ap length c.loop-i.invariant.1
-        ∙ length-mapped (mark_of c.args.k) c.args.marks.now c.loop-i.i (omega arith) in
+    ap length c.loop-i.invariant.1
+    ∙ length-mapped (mark_of c.args.k) c.args.marks.now c.loop-i.i (omega arith) in
     omega (arith, long)
 
 pub overflow_add-kept : goal.overflow_add-kept

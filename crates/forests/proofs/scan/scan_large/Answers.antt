@@ -21,22 +21,21 @@ serving-turns-requires c = scan-serves c.requires
 pub prepare-start-requires : goal.prepare-start-requires
 prepare-start-requires c =
     let arrays : let a = c.args in
-          ChainArrays a.n a.lows.now c.relay_copies-first.result c.half_link_zeros-nexts.result c.relay_copies-counts.result
-          × NoBits (length c.relay_copies-counts.result) c.column_zeros-bits.result =
-        let t = accepted c.args.n c.args.lows.now c.args.highs.now c.args.states.now c.requires.accepted in
-        scan-arrays 1000 6000 most_columns c.args.n c.args.lows.now t.few (omega arith) (omega (arith, t.short)) (omega arith)
-        c.relay_copies-first.ensures c.half_link_zeros-nexts.ensures c.relay_copies-counts.ensures c.column_zeros-bits.ensures in
+    ChainArrays a.n a.lows.now c.relay_copies-first.result c.half_link_zeros-nexts.result c.relay_copies-counts.result
+    × NoBits (length c.relay_copies-counts.result) c.column_zeros-bits.result =
+    let t = accepted c.args.n c.args.lows.now c.args.highs.now c.args.states.now c.requires.accepted in
+    scan-arrays 1000 6000 most_columns c.args.n c.args.lows.now t.few (omega arith) (omega (arith, t.short)) (omega arith)
+    c.relay_copies-first.ensures c.half_link_zeros-nexts.ensures c.relay_copies-counts.ensures c.column_zeros-bits.ensures in
     (c.serving-turns.ensures, c.requires.accepted, arrays.0)
 
 pub scan_in-requires : goal.scan_in-requires
 scan_in-requires c =
     let arrays : let a = c.args in
-          ChainArrays a.n a.lows.now c.relay_copies-first.result c.half_link_zeros-nexts.result c.relay_copies-counts.result
-          × NoBits (length c.relay_copies-counts.result) c.column_zeros-bits.result =
-        let t = accepted c.args.n c.args.lows.now c.args.highs.now c.args.states.now c.requires.accepted in
-        scan-arrays 1000 6000 most_columns c.args.n c.args.lows.now t.few (omega arith) (omega (arith, t.short)) (omega arith)
-        c.relay_copies-first.ensures c.half_link_zeros-nexts.ensures c.relay_copies-counts.ensures c.column_zeros-bits.ensures in
-    (
+    ChainArrays a.n a.lows.now c.relay_copies-first.result c.half_link_zeros-nexts.result c.relay_copies-counts.result
+    × NoBits (length c.relay_copies-counts.result) c.column_zeros-bits.result =
+    let t = accepted c.args.n c.args.lows.now c.args.highs.now c.args.states.now c.requires.accepted in
+    scan-arrays 1000 6000 most_columns c.args.n c.args.lows.now t.few (omega arith) (omega (arith, t.short)) (omega arith)
+    c.relay_copies-first.ensures c.half_link_zeros-nexts.ensures c.relay_copies-counts.ensures c.column_zeros-bits.ensures in (
       c.requires,
       made-ready arrays c.serving-turns.ensures (omega (arith, c.prepare-start.auto)) (omega (arith, c.prepare-start.auto))
           c.prepare-start.ensures,

@@ -37,25 +37,25 @@ visit-h-requires c =
 pub loop-h-smaller : goal.loop-h-smaller
 loop-h-smaller c =
     let moved : let a = c.args in
-          let visited = c.visit-h in
-          (c.loop-h.h < visited.result)
-          × Walking a.lows.now a.highs.now a.x.0 visited.result c.leave-count.new.counts
-          visited.new.counts visited.new.bits a.forests.now visited.new.forests =
-        let visited = c.visit-h in
-        walk-moves c.requires c.leave-count.ensures.moved c.loop-h.h c.loop-h-test.true c.loop-h.invariant.0 visited.result
-        visited.ensures in
+    let visited = c.visit-h in
+    (c.loop-h.h < visited.result)
+    × Walking a.lows.now a.highs.now a.x.0 visited.result c.leave-count.new.counts
+    visited.new.counts visited.new.bits a.forests.now visited.new.forests =
+    let visited = c.visit-h in
+    walk-moves c.requires c.leave-count.ensures.moved c.loop-h.h c.loop-h-test.true c.loop-h.invariant.0 visited.result
+    visited.ensures in
     omega (arith, (moved).0)
 
 pub loop-h-preserved : goal.loop-h-preserved
 loop-h-preserved c =
     let moved : let a = c.args in
-          let visited = c.visit-h in
-          (c.loop-h.h < visited.result)
-          × Walking a.lows.now a.highs.now a.x.0 visited.result c.leave-count.new.counts
-          visited.new.counts visited.new.bits a.forests.now visited.new.forests =
-        let visited = c.visit-h in
-        walk-moves c.requires c.leave-count.ensures.moved c.loop-h.h c.loop-h-test.true c.loop-h.invariant.0 visited.result
-        visited.ensures in
+    let visited = c.visit-h in
+    (c.loop-h.h < visited.result)
+    × Walking a.lows.now a.highs.now a.x.0 visited.result c.leave-count.new.counts
+    visited.new.counts visited.new.bits a.forests.now visited.new.forests =
+    let visited = c.visit-h in
+    walk-moves c.requires c.leave-count.ensures.moved c.loop-h.h c.loop-h-test.true c.loop-h.invariant.0 visited.result
+    visited.ensures in
     ((moved).1, omega (arith, c.loop-h.invariant.1))
 
 pub returns : goal.returns

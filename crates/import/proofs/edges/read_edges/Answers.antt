@@ -16,9 +16,9 @@ loop-i-init c =
 
 pub read_edge-requires : goal.read_edge-requires
 read_edge-requires c = record {
-      n_bound = (omega arith, omega arith, omega arith);
-      rows_for = (c.requires.rows_for.0, c.loop-i.invariant.4);
-    }
+  n_bound = (omega arith, omega arith, omega arith);
+  rows_for = (c.requires.rows_for.0, c.loop-i.invariant.4);
+}
 
 pub returns-in-Refused : goal.returns-in-Refused
 returns-in-Refused c =

@@ -9,7 +9,7 @@ use Rattle.plan.proofs.wish.wish_line.Goals as goal
 
 pub pair_line-requires : goal.pair_line-requires
 unfolding no_zero
-pair_line-requires c = record { front_value = refl; middle_value = refl; back_value = refl; }
+pair_line-requires c = record { front_value = refl; middle_value = refl; back_value = refl }
 
 pub number_word-requires : goal.number_word-requires
 unfolding no_zero

@@ -19,9 +19,9 @@ unfolding with_front
 returns-in-Departs-word c =
     let a = c.args in
     let taken : scan_form a.text.now (single_form a.front.now a.back.now) a.at
-          ≡ with_front (c.in-Reads.x ∷ []) (scan_form a.text.now (word a.back.now ∷ []) c.in-Reads.p) =
-        first_reads a.text.now a.front.now (word a.back.now ∷ []) a.at _ _
-        (sym c.word_number.ensures ∙ ap number_gives c.in-Reads.is) in
+    ≡ with_front (c.in-Reads.x ∷ []) (scan_form a.text.now (word a.back.now ∷ []) c.in-Reads.p) =
+    first_reads a.text.now a.front.now (word a.back.now ∷ []) a.at _ _
+    (sym c.word_number.ensures ∙ ap number_gives c.in-Reads.is) in
     sym (taken ∙ ap (with_front (c.in-Reads.x ∷ [])) (form-word _ _ _ ∙ sym c.word.ensures ∙ ap word_gives c.in-Departs-word.is))
 
 pub returns-in-Reads-word : goal.returns-in-Reads-word
@@ -29,7 +29,7 @@ unfolding with_front
 returns-in-Reads-word c =
     let a = c.args in
     let taken : scan_form a.text.now (single_form a.front.now a.back.now) a.at
-          ≡ with_front (c.in-Reads.x ∷ []) (scan_form a.text.now (word a.back.now ∷ []) c.in-Reads.p) =
-        first_reads a.text.now a.front.now (word a.back.now ∷ []) a.at _ _
-        (sym c.word_number.ensures ∙ ap number_gives c.in-Reads.is) in
+    ≡ with_front (c.in-Reads.x ∷ []) (scan_form a.text.now (word a.back.now ∷ []) c.in-Reads.p) =
+    first_reads a.text.now a.front.now (word a.back.now ∷ []) a.at _ _
+    (sym c.word_number.ensures ∙ ap number_gives c.in-Reads.is) in
     sym (taken ∙ ap (with_front (c.in-Reads.x ∷ [])) (form-word _ _ _ ∙ sym c.word.ensures ∙ ap word_gives c.in-Reads-word.is))

@@ -6,7 +6,7 @@ pub write_accepted-requires : goal.write_accepted-requires
 write_accepted-requires c =
     let a = c.args in
     let table : Front c.in-Table.n c.in-Table.m a.lows.now a.highs.now a.states.now =
-        left-front _ _ _ _ _ _ c.in-Table.is c.requires.left in
+    left-front _ _ _ _ _ _ c.in-Table.is c.requires.left in
     (table.accepted, front_fits _ _ a.lows.now a.highs.now a.states.now a.output.now table c.requires.in_bounds)
 
 pub returns-in-Refused : goal.returns-in-Refused

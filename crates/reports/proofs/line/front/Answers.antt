@@ -28,20 +28,20 @@ pub returns-in-Departs-word : goal.returns-in-Departs-word
 unfolding with_front report_front
 returns-in-Departs-word c =
     let spaced : let a = c.args in
-          scan_form a.text.now report_front a.at ≡ with_front (c.in-Reads.relay ∷ []) (word_gives c.word.result) =
-        let a = c.args in
-        first_reads a.text.now (bytes "(report ") (word (bytes " ") ∷ []) a.at _ _
-        (sym c.word_number.ensures ∙ ap number_gives c.in-Reads.is)
-        ∙ ap (with_front (c.in-Reads.relay ∷ [])) (form-word a.text.now (bytes " ") _ ∙ sym c.word.ensures) in
+    scan_form a.text.now report_front a.at ≡ with_front (c.in-Reads.relay ∷ []) (word_gives c.word.result) =
+    let a = c.args in
+    first_reads a.text.now (bytes "(report ") (word (bytes " ") ∷ []) a.at _ _
+    (sym c.word_number.ensures ∙ ap number_gives c.in-Reads.is)
+    ∙ ap (with_front (c.in-Reads.relay ∷ [])) (form-word a.text.now (bytes " ") _ ∙ sym c.word.ensures) in
     rw c.in-Departs-word.is at (sym spaced)
 
 pub returns-in-Reads-word : goal.returns-in-Reads-word
 unfolding with_front report_front
 returns-in-Reads-word c =
     let spaced : let a = c.args in
-          scan_form a.text.now report_front a.at ≡ with_front (c.in-Reads.relay ∷ []) (word_gives c.word.result) =
-        let a = c.args in
-        first_reads a.text.now (bytes "(report ") (word (bytes " ") ∷ []) a.at _ _
-        (sym c.word_number.ensures ∙ ap number_gives c.in-Reads.is)
-        ∙ ap (with_front (c.in-Reads.relay ∷ [])) (form-word a.text.now (bytes " ") _ ∙ sym c.word.ensures) in
+    scan_form a.text.now report_front a.at ≡ with_front (c.in-Reads.relay ∷ []) (word_gives c.word.result) =
+    let a = c.args in
+    first_reads a.text.now (bytes "(report ") (word (bytes " ") ∷ []) a.at _ _
+    (sym c.word_number.ensures ∙ ap number_gives c.in-Reads.is)
+    ∙ ap (with_front (c.in-Reads.relay ∷ [])) (form-word a.text.now (bytes " ") _ ∙ sym c.word.ensures) in
     rw c.in-Reads-word.is at (sym spaced)

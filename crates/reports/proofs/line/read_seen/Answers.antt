@@ -27,13 +27,13 @@ returns-then-byte-ne32 c =
 pub overflow_add-p : goal.overflow_add-p
 overflow_add-p c =
     let space : byte_at c.args.text.now c.loop-left.p ≡ 32 =
-        sym c.byte.ensures ∙ c.if-byte-ne32.false in
+    sym c.byte.ensures ∙ c.if-byte-ne32.false in
     omega (arith, byte-within c.args.text.now c.loop-left.p (omega (arith, space)))
 
 pub returns-in-Departs : goal.returns-in-Departs
 returns-in-Departs c =
     let space : byte_at c.args.text.now c.loop-left.p ≡ 32 =
-        sym c.byte.ensures ∙ c.if-byte-ne32.false in
+    sym c.byte.ensures ∙ c.if-byte-ne32.false in
     loop-departs c.loop-left.invariant space c.loop-left-test.true
     (sym c.number.ensures ∙ ap number_gives c.in-Departs.is)
 

@@ -12,19 +12,19 @@ use Rattle.reports.proofs.line.report_line.Goals as goal
 pub returns-then-relay-gt-HIGHEST_RELAY : goal.returns-then-relay-gt-HIGHEST_RELAY
 returns-then-relay-gt-HIGHEST_RELAY c =
     let front : let a = c.args in
-          scan_form a.text.now report_front a.at ≡ reads (c.in-Reads.relay ∷ []) c.in-Reads.p =
-        sym c.front.ensures ∙ ap number_gives c.in-Reads.is in
+    scan_form a.text.now report_front a.at ≡ reads (c.in-Reads.relay ∷ []) c.in-Reads.p =
+    sym c.front.ensures ∙ ap number_gives c.in-Reads.is in
     let a = c.args in
     relay-bad a.text.now a.at front c.if-relay-gt-HIGHEST_RELAY.true
 
 pub returns-then-number-gt-LAST_SERIAL : goal.returns-then-number-gt-LAST_SERIAL
 returns-then-number-gt-LAST_SERIAL c =
     let front : let a = c.args in
-          scan_form a.text.now report_front a.at ≡ reads (c.in-Reads.relay ∷ []) c.in-Reads.p =
-        sym c.front.ensures ∙ ap number_gives c.in-Reads.is in
+    scan_form a.text.now report_front a.at ≡ reads (c.in-Reads.relay ∷ []) c.in-Reads.p =
+    sym c.front.ensures ∙ ap number_gives c.in-Reads.is in
     let number : let a = c.args in
-          scan_serial a.text.now c.in-Reads.p ≡ reads (c.in-Reads-serial.number ∷ []) c.in-Reads-serial.q =
-        sym c.serial.ensures ∙ ap serial_gives c.in-Reads-serial.is in
+    scan_serial a.text.now c.in-Reads.p ≡ reads (c.in-Reads-serial.number ∷ []) c.in-Reads-serial.q =
+    sym c.serial.ensures ∙ ap serial_gives c.in-Reads-serial.is in
     let a = c.args in
     serial-bad a.text.now a.at front number c.if-number-gt-LAST_SERIAL.true
 
@@ -37,8 +37,8 @@ returns-in-Departs c =
 pub returns-in-Departs-serial : goal.returns-in-Departs-serial
 returns-in-Departs-serial c =
     let front : let a = c.args in
-          scan_form a.text.now report_front a.at ≡ reads (c.in-Reads.relay ∷ []) c.in-Reads.p =
-        sym c.front.ensures ∙ ap number_gives c.in-Reads.is in
+    scan_form a.text.now report_front a.at ≡ reads (c.in-Reads.relay ∷ []) c.in-Reads.p =
+    sym c.front.ensures ∙ ap number_gives c.in-Reads.is in
     let a = c.args in
     departs-bad a.text.now a.at
     (serial-departs a.text.now a.at _ _ front _
@@ -47,9 +47,9 @@ returns-in-Departs-serial c =
 pub returns-else-number-gt-LAST_SERIAL : goal.returns-else-number-gt-LAST_SERIAL
 returns-else-number-gt-LAST_SERIAL c =
     let front : let a = c.args in
-          scan_form a.text.now report_front a.at ≡ reads (c.in-Reads.relay ∷ []) c.in-Reads.p =
-        sym c.front.ensures ∙ ap number_gives c.in-Reads.is in
+    scan_form a.text.now report_front a.at ≡ reads (c.in-Reads.relay ∷ []) c.in-Reads.p =
+    sym c.front.ensures ∙ ap number_gives c.in-Reads.is in
     let number : let a = c.args in
-          scan_serial a.text.now c.in-Reads.p ≡ reads (c.in-Reads-serial.number ∷ []) c.in-Reads-serial.q =
-        sym c.serial.ensures ∙ ap serial_gives c.in-Reads-serial.is in
+    scan_serial a.text.now c.in-Reads.p ≡ reads (c.in-Reads-serial.number ∷ []) c.in-Reads-serial.q =
+    sym c.serial.ensures ∙ ap serial_gives c.in-Reads-serial.is in
     c.tail.ensures _ _ front number

@@ -27,19 +27,19 @@ returns-in-Departs c p u front number =
 pub returns-in-Bad : goal.returns-in-Bad
 returns-in-Bad c p u front number =
     let name : let a = c.args in
-          scan_word a.text.now (bytes " (sees") a.at ≡ reads [] c.in-Reads.sees =
-        sym c.word.ensures ∙ ap word_gives c.in-Reads.is in
+    scan_word a.text.now (bytes " (sees") a.at ≡ reads [] c.in-Reads.sees =
+    sym c.word.ensures ∙ ap word_gives c.in-Reads.is in
     seen-bad c.args.text.now p front number name
     (rw c.in-Bad.is at c.read_seen.ensures)
 
 pub returns-in-Departs-word : goal.returns-in-Departs-word
 returns-in-Departs-word c p u front number =
     let name : let a = c.args in
-          scan_word a.text.now (bytes " (sees") a.at ≡ reads [] c.in-Reads.sees =
-        sym c.word.ensures ∙ ap word_gives c.in-Reads.is in
+    scan_word a.text.now (bytes " (sees") a.at ≡ reads [] c.in-Reads.sees =
+    sym c.word.ensures ∙ ap word_gives c.in-Reads.is in
     let seen : let a = c.args in
-          SeenEnds a.text.now a.relay c.in-Reads.sees c.in-Ends.least c.in-Ends.p c.in-Ends.above =
-        rw c.in-Ends.is at c.read_seen.ensures in
+    SeenEnds a.text.now a.relay c.in-Reads.sees c.in-Ends.least c.in-Ends.p c.in-Ends.above =
+    rw c.in-Ends.is at c.read_seen.ensures in
     let text = c.args.text.now in
     departs-bad text p
     (end-departs text p _ _ front _ _ number _ name _ _ seen.scanned _
@@ -48,10 +48,10 @@ returns-in-Departs-word c p u front number =
 pub returns-in-Reads-word : goal.returns-in-Reads-word
 returns-in-Reads-word c p u front number =
     let name : let a = c.args in
-          scan_word a.text.now (bytes " (sees") a.at ≡ reads [] c.in-Reads.sees =
-        sym c.word.ensures ∙ ap word_gives c.in-Reads.is in
+    scan_word a.text.now (bytes " (sees") a.at ≡ reads [] c.in-Reads.sees =
+    sym c.word.ensures ∙ ap word_gives c.in-Reads.is in
     let seen : let a = c.args in
-          SeenEnds a.text.now a.relay c.in-Reads.sees c.in-Ends.least c.in-Ends.p c.in-Ends.above =
-        rw c.in-Ends.is at c.read_seen.ensures in
+    SeenEnds a.text.now a.relay c.in-Reads.sees c.in-Ends.least c.in-Ends.p c.in-Ends.above =
+    rw c.in-Ends.is at c.read_seen.ensures in
     line-told c.args.text.now p front number name c.requires (omega arith) seen
     (sym c.word-in-Ends.ensures ∙ ap word_gives c.in-Reads-word.is) c.top_of.ensures

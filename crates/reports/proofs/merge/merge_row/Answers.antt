@@ -23,7 +23,7 @@ returns-in-Departs c =
 pub try_link-count-requires : goal.try_link-count-requires
 try_link-count-requires c =
     let number : ANumber c.args.text.now c.loop-count.p c.in-Reads.b c.in-Reads.next =
-        sym c.word_number.ensures ∙ ap number_gives c.in-Reads.is in
+    sym c.word_number.ensures ∙ ap number_gives c.in-Reads.is in
     let inv = c.loop-count.invariant in
     let below = next-below inv number in
     (omega (arith, below, inv.room.offsets_room, c.requires.n_in_bounds.0), c.loop-count-test.true)
@@ -31,13 +31,13 @@ try_link-count-requires c =
 pub loop-count-smaller : goal.loop-count-smaller
 loop-count-smaller c =
     let number : ANumber c.args.text.now c.loop-count.p c.in-Reads.b c.in-Reads.next =
-        sym c.word_number.ensures ∙ ap number_gives c.in-Reads.is in
+    sym c.word_number.ensures ∙ ap number_gives c.in-Reads.is in
     omega (arith, number_behind _ c.loop-count.p _ _ number)
 
 pub loop-count-preserved : goal.loop-count-preserved
 loop-count-preserved c =
     let number : ANumber c.args.text.now c.loop-count.p c.in-Reads.b c.in-Reads.next =
-        sym c.word_number.ensures ∙ ap number_gives c.in-Reads.is in
+    sym c.word_number.ensures ∙ ap number_gives c.in-Reads.is in
     row-tried c.loop-count.invariant number c.loop-count-test.true c.try_link-count.ensures
 
 pub returns : goal.returns

@@ -20,19 +20,19 @@ returns-in-Departs c =
 pub returns-then-a-x : goal.returns-then-a-x
 returns-then-a-x c =
     let number : ANumber c.args.text.now c.loop-x.p c.in-Reads.x c.in-Reads.q =
-        sym c.word_number.ensures ∙ ap number_gives c.in-Reads.is in
+    sym c.word_number.ensures ∙ ap number_gives c.in-Reads.is in
     let a = c.args in
     next-stays a.text.now a.at a.a c.loop-x.p c.loop-x.invariant _ _ number (omega (arith, c.if-a-x.true))
 
 pub loop-x-smaller : goal.loop-x-smaller
 loop-x-smaller c =
     let number : ANumber c.args.text.now c.loop-x.p c.in-Reads.x c.in-Reads.q =
-        sym c.word_number.ensures ∙ ap number_gives c.in-Reads.is in
+    sym c.word_number.ensures ∙ ap number_gives c.in-Reads.is in
     omega (arith, number_behind c.args.text.now c.loop-x.p _ _ number)
 
 pub loop-x-preserved : goal.loop-x-preserved
 loop-x-preserved c =
     let number : ANumber c.args.text.now c.loop-x.p c.in-Reads.x c.in-Reads.q =
-        sym c.word_number.ensures ∙ ap number_gives c.in-Reads.is in
+    sym c.word_number.ensures ∙ ap number_gives c.in-Reads.is in
     let a = c.args in
     next-passes a.text.now a.at a.a c.loop-x.p c.loop-x.invariant _ _ number (omega (arith, c.if-a-x.false))

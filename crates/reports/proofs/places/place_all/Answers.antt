@@ -17,36 +17,36 @@ returns-in-Bad c =
 pub bounds-offsets-r : goal.bounds-offsets-r
 bounds-offsets-r c =
     let told : LineTold c.args.text.now c.loop-p.p
-          c.in-Reads.relay.0 c.in-Reads.field-1 c.in-Reads.sees c.in-Reads.top.0 c.in-Reads.next c.in-Reads.above =
-        subst (LineRead _ _) c.in-Reads.is c.report_line.ensures in
+    c.in-Reads.relay.0 c.in-Reads.field-1 c.in-Reads.sees c.in-Reads.top.0 c.in-Reads.next c.in-Reads.above =
+    subst (LineRead _ _) c.in-Reads.is c.report_line.ensures in
     omega (arith, line-within _ _ _ _ _ _ _ _ told c.loop-p-test.true, c.loop-p.invariant.room)
 
 pub bounds-offsets-r-in-Reads : goal.bounds-offsets-r-in-Reads
 bounds-offsets-r-in-Reads c =
     let told : LineTold c.args.text.now c.loop-p.p
-          c.in-Reads.relay.0 c.in-Reads.field-1 c.in-Reads.sees c.in-Reads.top.0 c.in-Reads.next c.in-Reads.above =
-        subst (LineRead _ _) c.in-Reads.is c.report_line.ensures in
+    c.in-Reads.relay.0 c.in-Reads.field-1 c.in-Reads.sees c.in-Reads.top.0 c.in-Reads.next c.in-Reads.above =
+    subst (LineRead _ _) c.in-Reads.is c.report_line.ensures in
     omega (arith, line-within _ _ _ _ _ _ _ _ told c.loop-p-test.true, c.loop-p.invariant.room)
 
 pub bounds-starts-r : goal.bounds-starts-r
 bounds-starts-r c =
     let told : LineTold c.args.text.now c.loop-p.p
-          c.in-Reads.relay.0 c.in-Reads.field-1 c.in-Reads.sees c.in-Reads.top.0 c.in-Reads.next c.in-Reads.above =
-        subst (LineRead _ _) c.in-Reads.is c.report_line.ensures in
+    c.in-Reads.relay.0 c.in-Reads.field-1 c.in-Reads.sees c.in-Reads.top.0 c.in-Reads.next c.in-Reads.above =
+    subst (LineRead _ _) c.in-Reads.is c.report_line.ensures in
     omega (arith, line-within _ _ _ _ _ _ _ _ told c.loop-p-test.true, c.loop-p.invariant.starts_room)
 
 pub loop-p-smaller : goal.loop-p-smaller
 loop-p-smaller c =
     let told : LineTold c.args.text.now c.loop-p.p
-          c.in-Reads.relay.0 c.in-Reads.field-1 c.in-Reads.sees c.in-Reads.top.0 c.in-Reads.next c.in-Reads.above =
-        subst (LineRead _ _) c.in-Reads.is c.report_line.ensures in
+    c.in-Reads.relay.0 c.in-Reads.field-1 c.in-Reads.sees c.in-Reads.top.0 c.in-Reads.next c.in-Reads.above =
+    subst (LineRead _ _) c.in-Reads.is c.report_line.ensures in
     omega (arith, line-within _ _ _ _ _ _ _ _ told c.loop-p-test.true)
 
 pub loop-p-preserved : goal.loop-p-preserved
 loop-p-preserved c =
     let told : LineTold c.args.text.now c.loop-p.p
-          c.in-Reads.relay.0 c.in-Reads.field-1 c.in-Reads.sees c.in-Reads.top.0 c.in-Reads.next c.in-Reads.above =
-        subst (LineRead _ _) c.in-Reads.is c.report_line.ensures in
+    c.in-Reads.relay.0 c.in-Reads.field-1 c.in-Reads.sees c.in-Reads.top.0 c.in-Reads.next c.in-Reads.above =
+    subst (LineRead _ _) c.in-Reads.is c.report_line.ensures in
     placing-more _ _ _ _ _ _ _ _ told c.loop-p-test.true _ _ _ _ _ _ _ c.loop-p.invariant
     c.either-twice.ensures c.either-beyond.ensures
 

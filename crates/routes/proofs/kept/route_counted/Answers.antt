@@ -68,7 +68,7 @@ returns c =
         answer = route_outcome called.result;
         routed = called.ensures.over_each a.states.now c.requires
             (gave a.n a.lows.now a.highs.now a.states.now c.requires.accepted
-          c.relay_copies-order.ensures c.relay_copies-places.ensures c.link_zeros-numbers.ensures
+            c.relay_copies-order.ensures c.relay_copies-places.ensures c.link_zeros-numbers.ensures
             c.side_for_1000_relays-a.ensures c.side_for_1000_relays-b.ensures c.scan.ensures c.scan.auto.places c.scan.auto.forests);
         kept = c.with_kept.ensures ∙ ap (λ (kept : ℕ). and_then (route_outcome called.result) (λ _. done (kept ∷ []))) counted;
       };

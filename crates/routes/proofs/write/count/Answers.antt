@@ -26,12 +26,11 @@ pub loop-c-smaller : goal.loop-c-smaller
 loop-c-smaller c = omega arith
 
 pub loop-c-preserved : goal.loop-c-preserved
-loop-c-preserved c =
-    (
-      omega arith,
-      count_turn c.args.side.now _ c.loop-c.x.0 c.prior_of-x.result.0 c.loop-c.c (omega arith) c.if-x-eq0.false
-          c.prior_of-x.ensures c.loop-c.invariant.1,
-    )
+loop-c-preserved c = (
+  omega arith,
+  count_turn c.args.side.now _ c.loop-c.x.0 c.prior_of-x.result.0 c.loop-c.c (omega arith) c.if-x-eq0.false
+      c.prior_of-x.ensures c.loop-c.invariant.1,
+)
 
 pub returns : goal.returns
 returns c =

@@ -31,8 +31,8 @@ unfolding stands_form printed
 returns-in-Departs c =
     let input = c.args.input.now in
     let whole : (c.put_any.result ≡ length (stands_text input)) × (c.put_any.new.output ≡ overwrite (stands_text input) c.args.output.now) =
-        whole-text input _ (stands-departed input _ (sym c.pair_line.ensures ∙ ap pair_gives c.in-Departs.is)) (omega arith)
-        (line-put _ c.put_any.ensures) in
+    whole-text input _ (stands-departed input _ (sym c.pair_line.ensures ∙ ap pair_gives c.in-Departs.is)) (omega arith)
+    (line-put _ c.put_any.ensures) in
     record { length = whole.0; bytes = whole.1 }
 
 pub returns-in-Reads : goal.returns-in-Reads
@@ -40,6 +40,6 @@ unfolding stands_form
 returns-in-Reads c =
     let input = c.args.input.now in
     let whole : (c.put_both.result ≡ length (stands_text input)) × (c.put_both.new.output ≡ overwrite (stands_text input) c.args.output.now) =
-        whole-text input _ (stands-taken input _ _ _ (sym c.pair_line.ensures ∙ ap pair_gives c.in-Reads.is)).1 (omega arith)
-        c.put_both.ensures in
+    whole-text input _ (stands-taken input _ _ _ (sym c.pair_line.ensures ∙ ap pair_gives c.in-Reads.is)).1 (omega arith)
+    c.put_both.ensures in
     record { length = whole.0; bytes = whole.1 }

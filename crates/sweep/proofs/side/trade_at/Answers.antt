@@ -7,9 +7,9 @@ use Rattle.sweep.proofs.side.trade_at.Goals as goal
 
 pub trade-requires : goal.trade-requires
 trade-requires c = record {
-      i_value = sym c.end_of-end.ensures ∙ c.if-end-v.true;
-      j_bound = omega arith;
-    }
+  i_value = sym c.end_of-end.ensures ∙ c.if-end-v.true;
+  j_bound = omega arith;
+}
 
 pub returns-then-end-v : goal.returns-then-end-v
 unfolding trade_at

@@ -19,9 +19,9 @@ pair_line-requires-in-Link c = record { front_value = refl; middle_value = refl;
 pub number_line-requires : goal.number_line-requires
 unfolding no_zero
 number_line-requires c = record {
-      front_value = refl;
-      back_value = refl;
-    }
+  front_value = refl;
+  back_value = refl;
+}
 
 pub word-requires : goal.word-requires
 unfolding no_zero
