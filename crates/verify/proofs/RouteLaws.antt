@@ -10,7 +10,7 @@ use borrow.Author.Tests.{eq-eqb, ne_eqb, eqb-false, not-true}
 use Rattle.definitions.specs.Outcome.{pick}
 use Rattle.definitions.specs.Form.{bytes, departs, reads, scan_word, scan_form}
 use Rattle.definitions.specs.SheetForm.{route_front, over_front, scan_numbers}
-use Rattle.definitions.specs.SheetTest.{Walk, walk, walk_route, good_steps, routes_hold}
+use Rattle.definitions.specs.SheetTest.{Walk, walk_route, good_steps, routes_hold}
 use Rattle.lists.specs.Bitmap.{marked}
 use Rattle.lists.specs.Tests.{and_both}
 use Rattle.verify.specs.Offsets.{after, two_lines}
