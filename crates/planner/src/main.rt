@@ -7,7 +7,10 @@ fn main(rt: HostRuntime) {
     let mut buffer = input::room();
     let arrived = input::read_all(&mut rt.stdin(), &mut buffer);
     if arrived.is_failure() {
-        input::complain(&mut rt.stderr(), b"planner: standard input cannot be read\n");
+        input::complain(
+            &mut rt.stderr(),
+            b"planner: standard input cannot be read\n",
+        );
         return;
     }
     let count = arrived.size();
