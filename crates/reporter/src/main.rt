@@ -10,7 +10,10 @@ fn main(rt: HostRuntime) {
     let mut buffer = input::set_room();
     let arrived = input::read_all(&mut rt.stdin(), &mut buffer);
     if arrived.is_failure() {
-        input::complain(&mut rt.stderr(), b"reporter: standard input cannot be read\n");
+        input::complain(
+            &mut rt.stderr(),
+            b"reporter: standard input cannot be read\n",
+        );
         return;
     }
     if !arrived.has_ended() {

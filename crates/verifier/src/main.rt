@@ -8,7 +8,10 @@ fn main(rt: HostRuntime) {
     let mut buffer = input::long_room();
     let arrived = input::read_all(&mut rt.stdin(), &mut buffer);
     if arrived.is_failure() {
-        input::complain(&mut rt.stderr(), b"verifier: standard input cannot be read\n");
+        input::complain(
+            &mut rt.stderr(),
+            b"verifier: standard input cannot be read\n",
+        );
         return;
     }
     if !arrived.has_ended() {
