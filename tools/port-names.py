@@ -16,11 +16,12 @@ LEMMAS = {
     "out_line": "out-line",
     "end_line": "end-line",
     "read_kept": "read_kept-written",
+    "get_d_map": "get_or-map",
 }
 # Lemmas of one file whose name another of that file would take.
 ONLY = {"crates/text_theory/specs/RefusalTwo.antt": {"one_more": "one_more-read"}}
 # Words of the kit in the names of lemmas, as the kit spells them now.
-WORDS = {"getD": "get_or", "getD_map": "get_or-map", "reverseAux": "reverse_aux"}
+WORDS = {"getD": "get_or", "reverseAux": "reverse_aux"}
 
 
 def files(top, *endings):
