@@ -22,22 +22,22 @@ mv "$copy" "$room/moved" && cp -R "$room/moved" "$copy" && rm -rf "$room/moved"
 built 'a copy of the whole folder' ''
 for source in crates/lower/src/lib.rt crates/upper/src/lib.rt crates/planner/src/lib.rt; do
     echo "fn more" >>"$copy/$source" && touch -d '-1 year' "$copy/$source" "$copy/$(dirname "$source")"
-    built "an edit of $source with an older date" 'check planner'
+    built "an edit of $source with an older date" 'run planner'
 done
 sed -i 's/fn/FN/' "$copy/crates/lower/src/lib.rt" && touch -r "$copy/crates/upper/src/lib.rt" "$copy/crates/lower/src/lib.rt"
-built 'an edit that leaves the size, in an archive of older dates' 'check planner'
+built 'an edit that leaves the size, in an archive of older dates' 'run planner'
 mkdir -p "$copy/crates/upper/proofs" && echo 'proof' >"$copy/crates/upper/proofs/New.antt" && touch -d '-1 year' "$copy/crates/upper/proofs/New.antt"
-built 'a new file' 'check planner'
+built 'a new file' 'run planner'
 rm -r "$copy/crates/upper/proofs"
-built 'a file less' 'check planner'
+built 'a file less' 'run planner'
 echo '# a line more' >>"$copy/crates.txt"
-built 'crates.txt' 'check planner'
+built 'crates.txt' 'run planner'
 printf 'x' >>"$copy/target/bin/planner"
-built 'another program in its place' 'check planner'
+built 'another program in its place' 'run planner'
 rm -f "$copy/target/bin/planner.sums" "$copy/target/bin/planner.listing"
-built 'no sums beside it' 'check planner'
+built 'no sums beside it' 'run planner'
 rm "$copy/target/bin/planner"
-built 'no program' 'check planner'
+built 'no program' 'run planner'
 # A listing counts only once its files have been at rest; until then the sums are compared each time.
 sleep 3.1
 built 'at rest' ''
@@ -47,15 +47,16 @@ sed -i 1d "$copy/target/bin/planner.listing"
 built 'a listing that names no sources' ''
 same 'the listing names them again' 'crates.txt crates/planner crates/upper crates/lower' "$(head -n 1 "$copy/target/bin/planner.listing")"
 echo 'fn less' >>"$copy/crates/lower/src/lib.rt" && sed -i '1s, crates/lower,,' "$copy/target/bin/planner.listing"
-built 'a listing that names one source less, and an edit of that' 'check planner'
+built 'a listing that names one source less, and an edit of that' 'run planner'
 sleep 3.1
 built 'at rest again' ''
 echo 'fn last' >>"$copy/crates/lower/src/lib.rt" && touch -d '-1 year' "$copy/crates/lower/src/lib.rt"
-built 'an edit after that, with an older date' 'check planner'
+built 'an edit after that, with an older date' 'run planner'
 
 # What is said, and where an edit comes while it builds.
-rm "$copy/target/bin/planner"
+rm "$copy/target/bin/planner" && echo 3 >"$room/takes/upper" && echo 12 >"$room/takes/planner"
 ask "$copy/nolkisei" plan 4 1 1 -m.net
+rm "$room"/takes/*
 same 'what is said of a build' "nolkisei: building planner, some minutes, once (the kit's own words go to $copy/target/build.log)
 nolkisei: 2 of 3: upper proved (3 s)
 nolkisei: 3 of 3: planner proved (12 s)" "$words"
@@ -64,14 +65,14 @@ rm "$copy/target/bin/planner" && touch "$room/edit" && : >"$room/asked"
 ask "$copy/nolkisei" plan 4 1 1 -m.net
 same 'an edit while it builds: the sheet' "$sheet" "$output"
 says 'an edit while it builds' 0 'nolkisei: a source was changed meanwhile, so this is done again'
-same 'an edit while it builds: built twice' $'check planner\ncheck planner' "$(cat "$room/asked")"
+same 'an edit while it builds: built twice' $'run planner\nrun planner' "$(cat "$room/asked")"
 
 rm -f "$copy/target/bin/planner" "$room/asked"
 (cd "$work" && "$copy/nolkisei" plan 4 1 1 -m.net >"$room/first" 2>/dev/null; echo "status $?" >>"$room/first") &
 ask "$copy/nolkisei" plan 4 1 1 -m.net
 wait $!
 same 'two runs at once, of a missing program' "$sheet$sheet" "$output$(cat "$room/first")"
-same 'one of them builds' 'check planner' "$(cat "$room/asked")"
+same 'one of them builds' 'run planner' "$(cat "$room/asked")"
 for command in 'verify -m.net mesh.sheet:verifier' 'import mesh.col:importer' 'sure -m.net:surer' 'keep 1 -m.net:keeper' 'reports 5 mesh.reports:reporter' \
     'stands relay-4-old.report relay-4-new.report:stander'; do
     cp "$copy"/networks/{mesh.sheet,mesh.col,mesh.reports,relay-4-old.report,relay-4-new.report} "$work"
@@ -79,17 +80,18 @@ for command in 'verify -m.net mesh.sheet:verifier' 'import mesh.col:importer' 's
     # shellcheck disable=SC2086
     ask "$copy/nolkisei" ${command%:*}
     same "${command%:*}, of a missing program" 0 "${output##*status }"
-    same "${command%:*} builds its own" "check ${command#*:}" "$(cat "$room/asked")"
+    same "${command%:*} builds its own" "run ${command#*:}" "$(cat "$room/asked")"
 done
 
 # What does not let it build: a proof that fails, a full disk, a folder that may not be written to, no kit, no tool to tell by.
-: >"$room/bad"
+: >"$room/bad" && echo 2 >"$room/takes/planner"
 echo 'fn bad' >>"$copy/crates/upper/src/lib.rt"
 for again in first second; do
     ask "$copy/nolkisei" plan 4 1 1 -m.net
     same "a build that fails, the $again time: no sheet" 'status 2' "$output"
     says "a build that fails, the $again time" 2 $'nolkisei: planner NOT PROVED (exit 1, 2 s)\nnolkisei: FAILED: planner\nnolkisei: the planner could not be built; '"$copy/target/build.log tells why"
 done
+rm "$room/takes/planner"
 echo 'cp: error writing: No space left on device' >"$room/bad"
 ask "$copy/nolkisei" plan 4 1 1 -m.net
 says 'a full disk' 2 'nolkisei: the disk is full: nothing more can be written to '
@@ -116,7 +118,7 @@ rm "$room/bad"
 mkdir "$room/few" && for tool in bash env cat od find cmp sort xargs sha256sum flock mkdir mv rm grep; do ln -s "$(type -P $tool)" "$room/few/$tool"; done
 ask env PATH="$room/few" "$copy/nolkisei" plan 4 1 1 -m.net
 says 'no kit' 2 'nolkisei: the Rattle kit (rt) is needed to build the planner, which is missing or was not built from its sources as they are'
-built 'the edit that was bad' 'check planner'
+built 'the edit that was bad' 'run planner'
 ask env PATH="$room/few" "$copy/nolkisei" plan 4 1 1 -m.net
 same 'no awk and no kit, of a fresh program' "$sheet" "$output$words"
 ask env PATH="$room/few" "$copy/nolkisei" plan 4 4 1 -m.net
@@ -132,7 +134,7 @@ same 'no awk, of a program that is not fresh: no sheet' 'status 2' "$output"
 rm "$room/few/find"
 ask env PATH="$room/few" "$copy/nolkisei" plan 4 1 1 -m.net
 says 'no tool to tell by' 2 'nolkisei: find is not on this machine; without it nobody can tell whether the planner was built from its sources as they are'
-built 'once more' 'check planner'
+built 'once more' 'run planner'
 
 # Programs that do not do their part.
 for part in 'exit 3: could not be run to its end' 'echo "(sheet (from 4) (to 1) (k 1))": not whole' ': : gave no answer' 'echo "(sheet (from 4) (to 1) (k 2))"; echo "(end)": not whole'; do

@@ -30,9 +30,11 @@ ask "$copy/nolkisei" plan
 same 'what tells more' "nolkisei: usage: nolkisei plan FROM TO K FILE ($copy/nolkisei help plan tells more)" "$words"
 
 # All programs ahead, and none a second time.
+echo 12 >"$room/takes/planner"
 ask env NOLKISEI_PAUSE=0.05 "$copy/nolkisei" build
+rm "$room/takes/planner"
 same 'build' 'status 0' "$output"
-same 'build, one run of the kit' 'check planner keeper verifier importer surer reporter stander' "$(cat "$room/asked")"
+same 'build, one run of the kit each' "$(printf 'run %s\n' planner keeper verifier importer surer reporter stander)" "$(cat "$room/asked")"
 says 'build, what is done' 0 'nolkisei: 3 of 9: planner proved (12 s)'
 says 'build, how long' 0 'nolkisei: 0 s so far: 0 of 9 crates done, at work on lower'
 says 'build, its end' 0 'nolkisei: all 7 programs are built from the sources as they are'

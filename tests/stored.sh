@@ -1,6 +1,7 @@
 # For the scripts beside it that run stored inputs: comparing what is due with what is written, and networks to ask about.
 set -u
 cd "$(dirname "${BASH_SOURCE[0]}")/.." || exit 1
+here=. && . tools/kit.sh
 tested=0
 wrong=0
 

@@ -1,29 +1,47 @@
 # For the commands: proving and building programs with the kit, one run at a time, with what is done of how many. tools/sums.sh says
-# when a program is built; the kit's own lines go to target/build.log.
+# when a program is built, tools/kit.sh how; the kit's own lines go to target/build.log.
 . "$here/tools/sums.sh"
+. "$here/tools/kit.sh"
 
-# waiting: leaves in waits the crates that are not done yet, of all in crates, and in busy those of them that need no other that waits.
-waiting() {
-    local line name need
-    waits=() busy=()
-    for name in "${crates[@]}"; do
-        [ -n "${done_of[$name]:-}" ] || waits+=("$name")
-    done
+# each PROGRAM..: builds one after the other, and says how that ended, and at which of them.
+each() {
+    local name
+    for name; do build_program "$name" 2>&1 || { echo "ended $? $name" && return; }; done
+    echo 'ended 0'
+}
+
+# done_below CRATE: counts the crates that it needs as done: the kit builds these first, and says nothing of one that was built before.
+done_below() {
+    local name crates sources
+    sources "$1" || return
+    for name in "${crates[@]:1}"; do done_of[$name]=yes; done
+}
+
+# next_crate: leaves in next the first crate by crates.txt, of all in crates, that is not done and needs no other that is not done.
+next_crate() {
+    local line name needed need
+    next=''
     while IFS= read -r line || [ -n "$line" ]; do
-        line=${line%%#*} name=${line%%:*} name=${name//[[:blank:]]/}
-        case " ${waits[*]} " in *" $name "*) ;; *) continue ;; esac
-        for need in ${line#*:}; do
-            case " ${waits[*]} " in *" $need "*) continue 2 ;; esac
+        of_line "$line" && [ -z "${done_of[$name]:-}" ] || continue
+        case " ${crates[*]} " in *" $name "*) ;; *) continue ;; esac
+        for need in $needed; do
+            case " ${crates[*]} " in *" $need "*) [ -n "${done_of[$need]:-}" ] || continue 2 ;; esac
         done
-        busy+=("$name")
+        next=$name
+        return
     done <"$here/crates.txt"
+}
+
+# since START: the whole seconds since that microsecond.
+since() {
+    echo "$(((${EPOCHREALTIME/[.,]/} - $1) / 1000000))"
 }
 
 # follow: keeps the kit's lines in the log and says which crate of how many is done, and every 20 seconds, or whatever NOLKISEI_PAUSE
 # says, how long it has been at work.
 # Leaves in status how the kit ended and in faults what it did not prove.
 follow() {
-    local line='' part name count=${#crates[@]} began=$SECONDS
+    local line='' part at='' next from began=$SECONDS count=${#crates[@]}
     local -A done_of=()
     status=2 faults=()
     while :; do
@@ -32,19 +50,30 @@ follow() {
         0) line+=$part ;;
         1) break ;;
         *)
-            line+=$part
-            waiting
-            [ ${#busy[@]} -eq 0 ] || say "$((SECONDS - began)) s so far: ${#done_of[@]} of $count crates done, at work on ${busy[*]:0:3}"
+            line+=$part next=$at
+            [ -n "$at" ] || next_crate
+            [ -z "$next" ] || say "$((SECONDS - began)) s so far: ${#done_of[@]} of $count crates done, at work on $next"
             continue
             ;;
         esac
         { printf '%s\n' "$line" >&9; } 2>/dev/null
-        name=${line#rt: } name=${name%% *}
         case $line in
-        'ended '*) status=${line#ended } ;;
-        'rt: '*'NOT PROVED'* | 'rt: '*FAILED*) faults+=("${line#rt: }") ;;
-        'rt: '*' proved (unchanged'*) done_of[$name]=yes ;;
-        'rt: '*' proved ('*) done_of[$name]=yes && say "${#done_of[@]} of $count: ${line#rt: }" ;;
+        'rt: chose --jobs '*) at=${line##* } from=${EPOCHREALTIME/[.,]/} && done_below "$at" ;;
+        'logic=proved '*)
+            [ -z "$at" ] || { done_of[$at]=yes && say "${#done_of[@]} of $count: $at proved ($(since "$from") s)"; }
+            at=''
+            ;;
+        'rt: nothing has changed since the last proved build, by out/'*)
+            at=${line##*by out/} at=${at%%.stamp*}
+            done_below "$at" && done_of[$at]=yes
+            at=''
+            ;;
+        'ended 0') status=0 ;;
+        'ended '*)
+            read -r _ status part <<<"$line"
+            [ -z "$at" ] || faults+=("$at NOT PROVED (exit $status, $(since "$from") s)")
+            faults+=("FAILED: $part")
+            ;;
         esac
         line=''
     done
@@ -80,8 +109,8 @@ failed() {
     fail "the $1 could not be built; $typed tells why"
 }
 
-# prove PROGRAM..: one run of the kit over programs that are not fresh. The sums from before the run are
-# written beside them, and only if no source was touched meanwhile.
+# prove PROGRAM..: has the kit build programs that are not fresh. The sums from before the run are written beside them, and only if no
+# source was touched meanwhile.
 prove() {
     local name before names="$*"
     local -A sum_of=()
@@ -92,8 +121,8 @@ prove() {
     all_crates "$@"
     before=$(listing)
     { : >"$log"; } 2>/dev/null
-    for name; do rm -f -- "$here/target/bin/$name".{sums,listing} "$here/target/stamp/$name"; done 2>/dev/null
-    follow < <(cd -- "$here" && rt check "$@" 2>&1; echo "ended $?")
+    for name; do rm -f -- "$here/target/bin/$name".{sums,listing}; done 2>/dev/null
+    follow < <(each "$@")
     [ "$status" -eq 0 ] || failed "$names"
     for name; do [ -x "$here/target/bin/$name" ] || failed "$name"; done
     if [ "$(listing)" != "$before" ]; then

@@ -2,11 +2,11 @@
 # PROGRAM.listing: its first line names the sources of the program, and the others are these files and the program as they were then.
 
 # files PROGRAM ACTION..: find over the sources, and the program where one is named, with what is to be done with each file. Edits that
-# must fail are no sources. To be called where a shell of its own is at hand.
+# must fail and what the kit leaves in a crate's folder are no sources. To be called where a shell of its own is at hand.
 files() {
     local own=${1:+target/bin/$1}
     shift
-    cd -- "$here" 2>/dev/null && LC_ALL=C exec find -L ${own:+"$own"} "${sources[@]}" -name must-fail -prune -o -type f "$@" 2>/dev/null
+    cd -- "$here" 2>/dev/null && LC_ALL=C exec find -L ${own:+"$own"} "${sources[@]}" -regex 'crates/[^/]*/\(must-fail\|out\)' -prune -o -type f "$@" 2>/dev/null
 }
 
 # listing [PROGRAM]: the sources by name, and of each of these files what changes whenever the file does.

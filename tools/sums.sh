@@ -2,14 +2,23 @@
 # sum of the sources it was built from and its own. While the listing of these files is the same (tools/fresh.sh) no file has changed
 # since the sums last agreed; where it is another, or none, the sums are compared again.
 
+# of_line LINE: leaves in name the crate of a line of crates.txt, which is its first word, and in needed what it needs. Fails where the
+# line has none.
+of_line() {
+    local line=${1%%#*}
+    name=${line%%:*} needed=${line#*:}
+    [ "$name" != "$line" ] || return
+    name=${name#"${name%%[![:blank:]]*}"} name=${name%%[[:blank:]]*}
+    [ -n "$name" ]
+}
+
 # sources PROGRAM: leaves in sources the folders of the program's crates by crates.txt. Fails where they cannot be told.
 sources() {
-    local line name i
+    local line name needed i
     local -A needs=()
     sources=()
     while IFS= read -r line || [ -n "$line" ]; do
-        line=${line%%#*} name=${line%%:*}
-        [ "$name" = "$line" ] || needs[${name//[[:blank:]]/}]=${line#*:}
+        of_line "$line" && needs[$name]=$needed
     done 2>/dev/null <"$here/crates.txt"
     [ -n "${needs[$1]+listed}" ] || return 1
     crates=("$1")
