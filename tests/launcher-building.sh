@@ -15,6 +15,7 @@ built() {
 
 built 'nothing has changed' ''
 echo more >>"$copy/crates/other/src/lib.rt" && echo more >>"$copy/crates/keeper/src/lib.rt" && echo more >"$copy/crates/lower/must-fail/one.edit"
+mkdir -p "$copy/crates/lower/out" && echo made >"$copy/crates/lower/out/lower.rlib"
 built 'what is not of the planner' ''
 touch -d '1 minute' "$copy/crates/lower/src/lib.rt" && touch "$copy/crates.txt"
 built 'newer dates alone' ''
@@ -28,6 +29,8 @@ sed -i 's/fn/FN/' "$copy/crates/lower/src/lib.rt" && touch -r "$copy/crates/uppe
 built 'an edit that leaves the size, in an archive of older dates' 'run planner'
 mkdir -p "$copy/crates/upper/proofs" && echo 'proof' >"$copy/crates/upper/proofs/New.antt" && touch -d '-1 year' "$copy/crates/upper/proofs/New.antt"
 built 'a new file' 'run planner'
+mkdir "$copy/crates/upper/proofs/out" && echo 'proof' >"$copy/crates/upper/proofs/out/Answers.antt"
+built 'a new file of a function that is called out' 'run planner'
 rm -r "$copy/crates/upper/proofs"
 built 'a file less' 'run planner'
 echo '# a line more' >>"$copy/crates.txt"
