@@ -1,5 +1,5 @@
 // All that a program has to do with the outside: it reads standard input into a room of its own, hands over the text that is due, and
-// complains. The programs name neither read nor write, so that they can hand over nothing else.
+// complains. The programs name neither read nor write: tests/streams reads their text for it, since each has the runtime.
 #![tactic(auto)]
 
 ghost use Rattle.std.specs.Prelude.{false, ◌≡◌, length};
