@@ -19,6 +19,7 @@ use Rattle.forests.specs.Buckets.{
   column_words,
   most_count,
   column_of,
+  columns_for,
   word_in,
   waits_for,
   bit_for,
@@ -95,19 +96,17 @@ unfolding marked word_of
 in-word bits count r = rw (slot-word count r, slot-bit count r)
 
 -- Words of zeros have no bit.
-pub no_bits : (columns size : ℕ) (bits : List ℕ) → bits ≡ replicate (columns * column_words) 0 → size ≤ columns * word_bits
-    → NoBits size bits
+pub no_bits : (words size : ℕ) (bits : List ℕ) → bits ≡ replicate words 0 → columns_for size * column_words ≤ words → NoBits size bits
 unfolding word_of
-no_bits columns size bits e room =
+no_bits words size bits e room =
     record {
       room = λ r h. omega (arith, long);
       none = λ c r some most h.
-          ap (λ (l : List ℕ). marked l (slot_of c r)) e
-          ∙ marked-none (columns * column_words) (slot_of c r) (omega (arith, long, slot-word c r));
+          ap (λ (l : List ℕ). marked l (slot_of c r)) e ∙ marked-none words (slot_of c r) (omega (arith, long, slot-word c r));
     }
   where
-    long : length bits ≡ columns * column_words
-    long = ap length e ∙ length-replicate {A = ℕ} (columns * column_words) 0
+    long : length bits ≡ words
+    long = ap length e ∙ length-replicate {A = ℕ} words 0
 
 -- The count of r is changed, and its bits with it.
 module _ {counts bits : List ℕ} (r : ℕ) (below : r < length counts) (s : Buckets counts bits) where

@@ -1,6 +1,6 @@
 -- The laws of the greatest key: it tells the relay in service with the greatest count, of equals the lowest; and of the counted
 -- links this is the first relay of the order. Assumes nothing.
-use Prim.Native.Nat.{ℕ, ◌+◌, ◌-◌, ◌%◌, ◌≤◌, ◌<◌, max}
+use Prim.Native.Nat.{ℕ, ◌+◌, ◌≤◌, ◌<◌, max}
 use mathlib.Core.Bool.{Bool, true, false, true≢false}
 use mathlib.Core.List.{List}
 use mathlib.Core.Path.{◌≡◌, refl, sym, ◌∙◌, ap}
@@ -34,10 +34,6 @@ pub record Best (states counts : List ℕ) (r best : ℕ) : Type 0 where
   pub own : 0 < best → Own states counts r best
   pub most : (s : ℕ) → Serving r states s → key_of s (get_or counts s 0) ≤ best
 
-pub best_none : (states counts : List ℕ) → Best states counts 0 0
-best_none states counts =
-    record { own = λ some. absurd (omega arith); most = λ s h. let below = h.0 in absurd (omega arith) }
-
 pub best-more : (states counts : List ℕ) (r best : ℕ) → Best states counts r best
     → Best states counts (r + 1) (max best (serving_key r (get_or states r 0) (get_or counts r 0)))
 unfolding serves
@@ -70,25 +66,6 @@ best-more states counts r best b = go (serves states r) refl
     go false e =
         let same : max best 0 ≡ best = omega arith in
         rw same (record { own = before; most = λ s h. under s h (λ z. true≢false (sym h.1 ∙ ap (serves states) z ∙ e)) })
-
--- The greatest key tells its relay, and that is the one with the most links.
-pub best-busiest : (n : ℕ) (states counts : List ℕ) (best : ℕ) → n ≤ 1000 → Best states counts n best
-    → Busiest n states counts (1023 - best % 1024)
-best-busiest n states counts best few b =
-    record {
-      serving = λ r h. let o = own r h in rw (told o) o.serving;
-      most = λ r h. let o = own r h in rw (told o) (omega (arith, o.key, o.serving.0, b.most r h, h.0));
-      lowest = λ r h e. let o = own r h in rw (told o) (lowest r h o (rw (told o) at e));
-    }
-  where
-    own : (r : ℕ) → Serving n states r → Own states counts n best
-    own r h = b.own (omega (arith, b.most r h, h.0))
-
-    told : (o : Own states counts n best) → 1023 - best % 1024 ≡ o.at
-    told o = omega (arith, o.key, o.serving.0)
-
-    lowest : (r : ℕ) → Serving n states r → (o : Own states counts n best) → get_or counts r 0 ≡ get_or counts o.at 0 → o.at ≤ r
-    lowest r h o e = omega (arith, o.key, o.serving.0, b.most r h, h.0, e)
 
 -- The relay in service with the most links, of equals the lowest, is the first of the order.
 pub busiest-first : (n : ℕ) (lows highs states counts : List ℕ) (x : ℕ) → ServingCounted lows highs states counts

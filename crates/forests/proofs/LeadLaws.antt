@@ -11,7 +11,7 @@ use lib.ListN.{length, get_or}
 use Rattle.lists.specs.Bitmap.{no-bit, bit_of, marked}
 use Rattle.lists.specs.LowestBit.{lowest-bit}
 use Rattle.forests.specs.Counts.{Heaviest}
-use Rattle.forests.specs.Buckets.{word_bits, column_words, column_of, word_in, word_of, slot_of, Buckets, FirstColumn, LowestBit, Leads}
+use Rattle.forests.specs.Buckets.{word_bits, column_words, column_of, word_in, word_of, slot_of, Buckets, NoneBelow, FirstBit, LowestBit, Leads}
 use Rattle.forests.proofs.BucketLaws.{in-word}
 
 pub lowest-relay : (g word : ℕ) → 0 < word → word < 2 ^ 64 → LowestBit g word (g * word_bits + count_trailing_zeros 64 word)
@@ -19,14 +19,6 @@ lowest-relay g word some few =
     let low = lowest-bit word some few in
     let s : (g * word_bits + count_trailing_zeros 64 word) % word_bits ≡ count_trailing_zeros 64 word = omega (arith, low.0) in
     record { column = omega (arith, low.0); given = rw s low.1; lowest = rw s low.2 }
-
-pub none_more : (count : ℕ) (bits : List ℕ) (g : ℕ) → ((h : ℕ) → h < g → get_or bits (word_in h count) 0 ≡ 0)
-    → get_or bits (word_in g count) 0 ≡ 0 → (h : ℕ) → h < g + 1 → get_or bits (word_in h count) 0 ≡ 0
-none_more count bits g below here h less = go (ℕ_discrete h g)
-  where
-    go : Dec (h ≡ g) → get_or bits (word_in h count) 0 ≡ 0
-    go (yes e) = rw e here
-    go (no e) = below h (omega arith)
 
 module _ (bits : List ℕ) where
   in-zero : (count r : ℕ) → get_or bits (word_in (column_of r) count) 0 ≡ 0 → marked bits (slot_of count r) ≡ false
@@ -37,12 +29,12 @@ module _ (bits : List ℕ) where
   NoneAbove columns most count =
       (c r : ℕ) → count < c → c ≤ most → column_of r < columns → marked bits (slot_of c r) ≡ false
 
-  pub none_above : {columns most : ℕ} (count g : ℕ) → 0 < count → NoneAbove columns most count → FirstColumn columns count bits g
-      → columns ≤ g → NoneAbove columns most (count - 1)
-  none_above {columns} {most} count g some above first end c r more within column = go (ℕ_discrete c count)
+  pub none_above : {columns most : ℕ} (count : ℕ) → 0 < count → NoneAbove columns most count → NoneBelow columns count bits
+      → NoneAbove columns most (count - 1)
+  none_above {columns} {most} count some above none c r more within column = go (ℕ_discrete c count)
     where
       go : Dec (c ≡ count) → marked bits (slot_of c r) ≡ false
-      go (yes e) = rw e (in-zero count r (first.none (column_of r) (omega arith)))
+      go (yes e) = rw e (in-zero count r (none (column_of r) column))
       go (no e) = above c r (omega arith) within column
 
   -- Where no bit is set, any relay leads.
@@ -50,17 +42,16 @@ module _ (bits : List ℕ) where
   none-lead x none = record { leads = λ c r some within column set. absurd (true≢false (sym set ∙ none c r some within column)) }
 
   -- The first bit in the word of this count, where no bit stands above it.
-  pub first-leads : {columns most : ℕ} (count g word x : ℕ) → 0 < count → count ≤ most → NoneAbove columns most count
-      → FirstColumn columns count bits g → g < columns → word ≡ get_or bits (word_in g count) 0 → LowestBit g word x
-      → Leads columns most bits x
-  first-leads {columns} {most} count g word x some within above first less e low =
+  pub first-leads : {columns most : ℕ} (count g word x : ℕ) → count ≤ most → NoneAbove columns most count
+      → FirstBit columns count bits g → word ≡ get_or bits (word_in g count) 0 → LowestBit g word x → Leads columns most bits x
+  first-leads {columns} {most} count g word x within above first e low =
       record {
         leads = λ c r from to column set.
             let under : c ≤ count = no-higher c r to column set in (
               count,
               under,
               within,
-              omega (arith, low.column),
+              omega (arith, low.column, first.within),
               own,
               λ same. lowest r (rw (← same) at set),
             );

@@ -106,17 +106,6 @@ module _ {n k : ℕ} {lows highs states places forests table : List ℕ} (can : 
       let t = accepted n lows highs states can.accepted in
       ap₂ min (can.place (get_or lows i 0) (omega (arith, t.ordered i h, t.below i h))) (can.place (get_or highs i 0) (t.below i h))
 
-  pub left-starts : LeftTo n k lows highs states 0 table table
-  left-starts =
-      record {
-        sound = λ f v a b c d p. absurd (omega (arith, can.zeros (left_index n f v) (index-within n k f v a b c d)));
-        full = λ j h. absurd (omega arith);
-        beyond = record { long = refl; rest = λ j h. refl };
-      }
-
-  pub ends-start : EndsTo n k lows highs states 0 forests forests
-  ends-start = record { early = λ j h. absurd (omega arith); number = λ j a b. can.forest j b; long = refl }
-
   pub left-enters : {table' forests' : List ℕ} (i : ℕ) → i < length lows → LeftTo n k lows highs states i table table'
       → EndsTo n k lows highs states i forests forests' → Enterable n k i lows highs places forests' table'
   left-enters {table'} {forests'} i h at ends =

@@ -4,7 +4,7 @@ use mathlib.Core.Bool.{Bool, true, false, ◌||◌}
 use mathlib.Core.List.{List}
 use mathlib.Core.Path.{◌≡◌, refl, sym, ◌∙◌, ap, subst}
 use native.Mathlib.Omega.{arith}
-use borrow.Author.Tests.{eqb-true, eqb-false, eq-eqb, ne_eqb}
+use borrow.Author.Tests.{eqb-true, eqb-false, eq-eqb}
 use lib.Dec.{eqb}
 use lib.ListN.{length, get_or, set, length-set}
 use lib.Seq.{get_or-set_same, get_or-set_other}
@@ -64,16 +64,6 @@ on-at counts b last run r within = go (eqb b last) refl
         ≡ get_or counts r 0 + pick (eqb last r) run 0 + pick (eqb b r) 1 0
     go true e = rw (sym (eqb-true b last e)) (again (eqb b r))
     go false e = rw (more-at counts last run r within)
-
--- The two ways of a link behind a run, as the code takes them.
-pub run-goes-on : (r last run : ℕ) (counts : List ℕ) → r ≡ last → (run + 1 ≡ run_on r last run) × (counts ≡ list_on r last run counts)
-unfolding run_on list_on
-run-goes-on r last run counts e = rw (eq-eqb r last e) (refl, refl)
-
-pub run-is-over : (r last run : ℕ) (counts : List ℕ) {counts' : List ℕ} → (r ≡ last → ⊥) → counts' ≡ more_links last run counts
-    → (1 ≡ run_on r last run) × (counts' ≡ list_on r last run counts)
-unfolding run_on list_on
-run-is-over r last run counts e stored = rw (ne_eqb r last e) (refl, stored)
 
 -- Before the first turn no link is counted.
 pub counted_none : (lows highs counts : List ℕ) → NoneBeyond 0 counts → CountedBut lows highs (length lows) 0 0 counts

@@ -1,30 +1,21 @@
 -- The sizes of arrays: what a small network fits, what every network fits, and arrays for the scan. Assumes nothing.
-use Prim.Native.Nat.{ℕ, ◌*◌, ◌≤◌, ◌<◌}
-use mathlib.Core.Bool.{Bool, true, false}
+use Prim.Native.Nat.{ℕ, ◌*◌, ◌≤◌}
+use mathlib.Core.Bool.{Bool, true}
 use mathlib.Core.List.{List}
 use mathlib.Core.Path.{◌≡◌, sym, ◌∙◌, ap}
 use native.Mathlib.Omega.{arith}
-use borrow.Author.Tests.{leb-true, le-leb, lt-leb}
+use borrow.Author.Tests.{leb-true}
 use lib.Dec.{leb}
 use lib.ListN.{length, get_or, replicate, length-replicate, get_or-replicate}
 use Rattle.definitions.specs.Network.{Accepted}
 use Rattle.lists.specs.Tests.{and_both}
-use Rattle.theory.specs.Accepted.{ProperTable, ProperStates, accepted, accepted-states}
+use Rattle.theory.specs.Accepted.{ProperTable, accepted}
 use Rattle.forests.specs.Chains.{Chainable}
-use Rattle.forests.specs.Buckets.{word_bits, column_words, NoBits}
+use Rattle.forests.specs.Buckets.{column_words, columns_for, NoBits}
 use Rattle.forests.specs.Counts.{turns_of}
-use Rattle.forests.specs.Scan.{is_small, Scannable, ChainArrays, Prepared, Ready}
+use Rattle.forests.specs.Scan.{is_small, ChainArrays, Prepared, Ready}
 use Rattle.forests.proofs.CountLaws.{none-counted}
 use Rattle.forests.proofs.BucketLaws.{no_bits}
-
--- The test as the code makes it, where the first holds and where it fails.
-pub few-relays : (n m : ℕ) → n ≤ 128 → leb m 384 ≡ is_small n m
-unfolding is_small
-few-relays n m h = rw (le-leb n 128 h)
-
-pub many-relays : (n m : ℕ) → 128 < n → false ≡ is_small n m
-unfolding is_small
-many-relays n m h = rw (lt-leb n 128 h)
 
 -- What a small network has.
 pub small-sizes : {small : Bool} (n m : ℕ) → small ≡ is_small n m → small ≡ true → (n ≤ 128) × (m ≤ 384)
@@ -32,15 +23,6 @@ unfolding is_small
 small-sizes n m e t =
     let both = and_both (leb n 128) (leb m 384) (sym e ∙ t) in
     (leb-true n 128 both.0, leb-true m 384 both.1)
-
--- Zeros for 1,000 relays or 3,000 links are enough.
-pub relay-room : (n : ℕ) (lows highs states list : List ℕ) → Accepted n lows highs states → list ≡ replicate 1000 0 → n ≤ length list
-relay-room n lows highs states list ok e =
-    omega (arith, (accepted n lows highs states ok).few, ap length e ∙ length-replicate {A = ℕ} 1000 0)
-
-pub link-room : (n : ℕ) (lows highs states list : List ℕ) → Accepted n lows highs states → list ≡ replicate 3000 0 → length lows ≤ length list
-link-room n lows highs states list ok e =
-    omega (arith, (accepted n lows highs states ok).short, ap length e ∙ length-replicate {A = ℕ} 3000 0)
 
 -- A table of fewer relays is one of more.
 pub wide-table : {n size : ℕ} {lows highs : List ℕ} → n ≤ size → size ≤ 1000 → ProperTable n lows highs → ProperTable size lows highs
@@ -74,24 +56,18 @@ chain-arrays size halves n lows {first} {nexts} {counts} heads few room f h c =
       no_counts = none-counted size counts c;
     }
 
-pub scan-arrays : (size halves columns n : ℕ) (lows : List ℕ) {first nexts counts bits : List ℕ} → n ≤ size → size ≤ 1000 → 2 * length lows ≤ halves
-    → size ≤ columns * word_bits → first ≡ replicate size (2 * length lows) → nexts ≡ replicate halves 0
-    → counts ≡ replicate size 0 → bits ≡ replicate (columns * column_words) 0
+pub scan-arrays : (size halves words n : ℕ) (lows : List ℕ) {first nexts counts bits : List ℕ} → n ≤ size → size ≤ 1000 → 2 * length lows ≤ halves
+    → columns_for size * column_words ≤ words → first ≡ replicate size (2 * length lows) → nexts ≡ replicate halves 0
+    → counts ≡ replicate size 0 → bits ≡ replicate words 0
     → ChainArrays n lows first nexts counts × NoBits (length counts) bits
-scan-arrays size halves columns n lows {first} {nexts} {counts} {bits} heads few room wide f h c b = (
+scan-arrays size halves words n lows {first} {nexts} {counts} {bits} heads few room wide f h c b = (
   chain-arrays size halves n lows heads few room f h c,
-  no_bits columns (length counts) bits b (omega (arith, ap length c, length-replicate {A = ℕ} size 0)),
+  rw (ap length c ∙ length-replicate {A = ℕ} size 0) (no_bits words size _ b wide),
 )
 
 -- Columns of more relays are columns of fewer.
 fewer-columns : {size fewer : ℕ} {bits : List ℕ} → fewer ≤ size → NoBits size bits → NoBits fewer bits
 fewer-columns h b = record { room = λ r p. b.room r (omega arith); none = b.none }
-
--- The states of the relays are those of an accepted network.
-pub scan-serves : {n : ℕ} {lows highs states relays places forests : List ℕ} → Scannable n lows highs states relays places forests
-    → (n ≤ 1000) × ProperStates n states
-scan-serves {n} {lows} {highs} {states} can =
-    ((accepted n lows highs states can.accepted).few, accepted-states n lows highs states can.accepted)
 
 -- When the chains are made in them, the scan can begin.
 pub made-ready : {n turns start : ℕ} {lows highs states first first' nexts nexts' counts counts' bits : List ℕ}

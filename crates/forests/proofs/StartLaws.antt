@@ -1,6 +1,6 @@
 -- The laws of the start, when no relay is placed: count by count the first n relays have count 1, and word by word their bits
 -- are set in the words of count 1; then relay by relay those that are withdrawn wait no more. Assumes nothing.
-use Prim.Native.Nat.{ℕ, suc, ◌+◌, ◌-◌, ◌*◌, ◌%◌, ◌^◌, ◌≤◌, ◌<◌, min}
+use Prim.Native.Nat.{ℕ, suc, ◌+◌, ◌-◌, ◌*◌, ◌%◌, ◌≤◌, ◌<◌, min}
 use mathlib.Core.Bool.{Bool, true, false}
 use mathlib.Core.List.{List}
 use mathlib.Core.Path.{◌≡◌, refl, sym, ◌∙◌, ap}
@@ -15,7 +15,7 @@ use Rattle.definitions.specs.Lists.{table, count}
 use Rattle.definitions.specs.Network.{serves}
 use Rattle.definitions.specs.Order.{all_relays, serving_relays}
 use Rattle.lists.specs.Counting.{length-keep}
-use Rattle.lists.specs.Bitmap.{bit_of, marked, one_bit}
+use Rattle.lists.specs.Bitmap.{bit_of, marked}
 use Rattle.lists.specs.LowestBit.{bit-ones}
 use Rattle.forests.specs.Counts.{withdrawn_count, NoneBeyond, AllWait, StartCounts, turns_of}
 use Rattle.forests.specs.Buckets.{
@@ -35,39 +35,9 @@ use Rattle.forests.specs.Buckets.{
 use Rattle.forests.proofs.CountLaws.{all-serve}
 use Rattle.forests.proofs.BucketLaws.{in-word}
 
--- The relays below r have count 1; one more has it, and still none from n on waits.
-abbrev pub WaitTo : (r : ℕ) (counts : List ℕ) → Type 0
-WaitTo r counts = (q : ℕ) → q < r → get_or counts q 0 ≡ 1
-
-pub wait-more : (r : ℕ) (counts : List ℕ) → r < length counts → WaitTo r counts → WaitTo (r + 1) (set counts r 1)
-wait-more r counts h w q less = go (ℕ_discrete q r)
-  where
-    go : Dec (q ≡ r) → get_or (set counts r 1) q 0 ≡ 1
-    go (yes e) = rw e (get_or-set_same counts r 1 0 h)
-    go (no e) = get_or-set_other counts r q 1 0 e ∙ w q (omega arith)
-
-pub beyond-stays : (r n : ℕ) (counts : List ℕ) → r < n → NoneBeyond n counts → NoneBeyond n (set counts r 1)
-beyond-stays r n counts h none q more = get_or-set_other counts r q 1 0 (λ e. omega arith) ∙ none q more
-
 -- The count that relay r begins with.
 abbrev begins : (n r : ℕ) → ℕ
 begins n r = pick (ltb r n) 1 0
-
--- A full word, as the code makes it.
-pub shifted_one : (left : ℕ) → left < word_bits → 1 * 2 ^ left % 2 ^ 64 ≡ 2 ^ left
-shifted_one left h = let e : left % word_bits ≡ left = omega arith in rw e at (one_bit left)
-
-pub part-word : (left : ℕ) → left < word_bits → 1 * 2 ^ left % 2 ^ 64 - 1 ≡ full_word left
-part-word left h = rw (shifted_one left h) (ap (λ (k : ℕ). 2 ^ k - 1) few)
-  where
-    few : left ≡ min left word_bits
-    few = omega arith
-
-pub whole_word : (left : ℕ) → word_bits ≤ left → 18446744073709551615 ≡ full_word left
-whole_word left h = ap (λ (k : ℕ). 2 ^ k - 1) all
-  where
-    all : word_bits ≡ min left word_bits
-    all = omega arith
 
 -- The columns below g have their bits, and the others have none.
 pub record FilledTo (n g : ℕ) (bits : List ℕ) : Type 0 where
@@ -82,10 +52,6 @@ no-higher n c r some e = go (ltb r n)
     go : (b : Bool) → eqb (pick b 1 0) c ≡ false
     go true = ne_eqb 1 c (λ z. e (sym z))
     go false = ne_eqb 0 c (λ z. omega arith)
-
-pub fill_none : (n : ℕ) (bits : List ℕ) → NoBits n bits → FilledTo n 0 bits
-fill_none n bits s =
-    record { done = λ c r some most h less. absurd (omega arith); none = λ c r some most h less. s.none c r some most h }
 
 -- The columns of n relays are there, before the loop as in it.
 pub column-there : (n g : ℕ) (bits bits' : List ℕ) → NoBits n bits → length bits' ≡ length bits → g < columns_for n
@@ -142,15 +108,6 @@ module _ (n g : ℕ) (bits : List ℕ) (room : word_in (g + 1) 0 ≤ length bits
           stays c r most (λ at. e at.1) ∙ f.none c r some most h (omega arith) ∙ sym (no-higher n c r some e)
       done c r some most h within (no e) one = stays c r most (λ at. e at.0) ∙ f.done c r some most h (omega arith)
 
-pub fill-all : (n g : ℕ) (bits : List ℕ) → columns_for n ≤ g → FilledTo n g bits → Filled n bits
-fill-all n g bits enough f c r some most h = go (dec_lt (column_of r) g)
-  where
-    go : Dec (column_of r < g) → marked bits (slot_of c r) ≡ eqb (begins n r) c
-    go (yes p) = f.done c r some most h p
-    go (no p) =
-        f.none c r some most h (omega arith)
-        ∙ sym (ap (λ (b : Bool). eqb (pick b 1 0) c) (le-ltb r n (omega arith)) ∙ ne_eqb 0 c (λ z. omega arith))
-
 -- Counts and bits of the start agree.
 pub start-buckets : (n : ℕ) (counts bits : List ℕ) → ((r : ℕ) → r < length counts → HasColumn bits r) → AllWait n counts
     → Filled n bits → Buckets counts bits
@@ -175,13 +132,6 @@ pub record WithdrawnTo (n : ℕ) (states : List ℕ) (r : ℕ) (counts : List �
   pub before : (q : ℕ) → q < r → get_or counts q 0 ≡ pick (serves states q) 1 0
   pub waiting : (q : ℕ) → r ≤ q → q < n → get_or counts q 0 ≡ 1
   pub rest : NoneBeyond n counts
-
-pub withdrawn-none : (n : ℕ) (states counts : List ℕ) → AllWait n counts → WithdrawnTo n states 0 counts
-withdrawn-none n states counts w =
-    record { room = w.room; before = λ q h. absurd (omega arith); waiting = λ q h less. w.waiting q less; rest = w.rest }
-
-pub withdrawn-all : (n : ℕ) (states counts : List ℕ) → WithdrawnTo n states n counts → StartCounts n states counts
-withdrawn-all n states counts w = record { room = w.room; waiting = w.before; rest = w.rest }
 
 pub leaves-withdrawn : (r state : ℕ) (counts : List ℕ) {counts' : List ℕ} → state ≡ 0 → counts' ≡ set counts r 0
     → counts' ≡ withdrawn_count r state counts

@@ -1,6 +1,6 @@
 -- The waiting relays by their count, as bits: relays have columns of words, one word for each count, and a relay's bit is set in
 -- the word of its count alone. The search for the greatest count begins one above the last. Assumes nothing.
-use Rattle.std.specs.Prelude.{ℕ, ◌+◌, ◌-◌, ◌*◌, ◌/◌, ◌%◌, ◌^◌, ◌≤◌, ◌<◌, min, true, false, List, ◌≡◌, eqb, ltb, length, get_or, set}
+use Rattle.std.specs.Prelude.{ℕ, ◌+◌, ◌-◌, ◌*◌, ◌/◌, ◌%◌, ◌^◌, ◌≤◌, ◌<◌, min, true, false, List, Option, Some, None, ◌≡◌, eqb, ltb, length, get_or, set}
 use Rattle.definitions.specs.Outcome.{pick}
 use Rattle.lists.specs.Bitmap.{bit_of, marked}
 
@@ -80,11 +80,20 @@ pub record Moved (r count : ℕ) (counts counts' bits' : List ℕ) : Type 0 wher
   pub stored : counts' ≡ set counts r count
   pub sorted : Buckets counts' bits'
 
--- Of so many columns the first with a bit in the word of this count; their number if there is none.
-pub record FirstColumn (columns count : ℕ) (bits : List ℕ) (g : ℕ) : Type 0 where
-  pub within : g ≤ columns
-  pub none : (h : ℕ) → h < g → get_or bits (word_in h count) 0 ≡ 0
-  pub some : g < columns → 0 < get_or bits (word_in g count) 0
+-- None of the columns below g has a bit in the word of this count.
+abbrev pub NoneBelow : (g count : ℕ) (bits : List ℕ) → Type 0
+NoneBelow g count bits = (h : ℕ) → h < g → get_or bits (word_in h count) 0 ≡ 0
+
+-- Column g is the first of so many with a bit in that word.
+pub record FirstBit (columns count : ℕ) (bits : List ℕ) (g : ℕ) : Type 0 where
+  pub within : g < columns
+  pub none : NoneBelow g count bits
+  pub some : 0 < get_or bits (word_in g count) 0
+
+-- Of so many columns the first with a bit in the word of this count, if there is one.
+abbrev pub FirstColumn : (columns count : ℕ) (bits : List ℕ) (found : Option ℕ) → Type 0
+FirstColumn columns count bits (Some g) = FirstBit columns count bits g
+FirstColumn columns count bits None = NoneBelow columns count bits
 
 -- Relay r of column g has the lowest bit of this word.
 pub record LowestBit (g word r : ℕ) : Type 0 where

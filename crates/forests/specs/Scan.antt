@@ -5,6 +5,7 @@ use Rattle.definitions.specs.Lists.{overwrite, has, position}
 use Rattle.definitions.specs.Network.{joins, linked, link_serves, Accepted}
 use Rattle.definitions.specs.Order.{weight, next_relay, placed_after, serving_relays, first_relay, order_of, places_of}
 use Rattle.definitions.specs.Forests.{forests_of}
+use Rattle.network.specs.declared.Table.{Table}
 use Rattle.forests.specs.Fronts.{SameBeyond}
 use Rattle.forests.specs.Chains.{NoChains, ChainedFrom}
 use Rattle.forests.specs.LinkCounts.{ServingCounted}
@@ -144,3 +145,11 @@ pub record Scanned (n : ℕ) (lows highs states relays relays' places places' fo
   pub the_order : relays' ≡ overwrite (order_of n lows highs states) relays
   pub the_places : places' ≡ overwrite (places_of n (order_of n lows highs states)) places
   pub the_forests : forests' ≡ overwrite (forests_of n lows highs states) forests
+
+-- Lists with room for what the scan of a table gives, and what it does there.
+abbrev pub ScanRoom : (table : Table) (relays places forests : List ℕ) → Type 0
+ScanRoom table relays places forests =
+    (table.n ≤ length relays) × (table.n ≤ length places) × (length table.lows.now ≤ length forests)
+
+abbrev pub TableScanned : (table : Table) (relays relays' places places' forests forests' : List ℕ) → Type 0
+TableScanned table = Scanned table.n table.lows.now table.highs.now table.states.now

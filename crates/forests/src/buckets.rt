@@ -31,33 +31,17 @@ use network::Relay;
 const WORD_BITS: usize = 64;
 
 // A column has a word for each count.
-const COLUMN_WORDS: usize = 80;
+pub(crate) const COLUMN_WORDS: usize = 80;
 
-// Columns for 1,000 relays, and for 128.
+// Columns for 1,000 relays, and for 128; 32 are in one column.
 const MOST_COLUMNS: usize = 16;
 
 const FEW_COLUMNS: usize = 2;
 
-// No relay waits.
-pub(crate) fn column_zeros() -> [u64; MOST_COLUMNS * COLUMN_WORDS]
-    ensures { result ≡ replicate (most_columns * column_words) 0 }
-{
-    [0; MOST_COLUMNS * COLUMN_WORDS]
-}
+// Their words.
+pub(crate) const MOST_WORDS: usize = MOST_COLUMNS * COLUMN_WORDS;
 
-// The same for 128 relays.
-pub(crate) fn few_column_zeros() -> [u64; FEW_COLUMNS * COLUMN_WORDS]
-    ensures { result ≡ replicate (few_columns * column_words) 0 }
-{
-    [0; FEW_COLUMNS * COLUMN_WORDS]
-}
-
-// The same for 32 relays, which are in one column.
-pub(crate) fn one_column_zeros() -> [u64; COLUMN_WORDS]
-    ensures { result ≡ replicate column_words 0 }
-{
-    [0; COLUMN_WORDS]
-}
+pub(crate) const FEW_WORDS: usize = FEW_COLUMNS * COLUMN_WORDS;
 
 // The word of a count in the column of a relay.
 fn word_of(count: u16, r: Relay) -> usize
@@ -106,12 +90,7 @@ fn wait_all(n: u16, counts: &mut [u16])
     requires { (n ≤ length counts.old) × NoneBeyond n counts.old }
     ensures { AllWait n counts.new }
 {
-    let size = n as usize;
-    let mut r = 0;
-    while r < size {
-        counts[r] = 1;
-        r += 1;
-    }
+    counts[..n as usize].fill(1);
 }
 
 // The word of count 1 in a column, by how many relays there are from its first on: a bit for each of its relays.
@@ -121,7 +100,7 @@ fn full_word(left: usize) -> u64
     if left < WORD_BITS {
         (1u64 << left) - 1
     } else {
-        18446744073709551615
+        u64::MAX
     }
 }
 
@@ -131,11 +110,8 @@ fn fill_words(n: u16, bits: &mut [u64])
     ensures { Filled n bits.new }
 {
     let size = n as usize;
-    let columns = columns_of(n);
-    let mut column = 0;
-    while column < columns {
+    for column in 0..columns_of(n) {
         bits[column * COLUMN_WORDS + 1] = full_word(size - column * WORD_BITS);
-        column += 1;
     }
 }
 
@@ -168,11 +144,8 @@ fn withdraw_each(n: u16, states: &[u16], counts: &mut [u16], bits: &mut [u64])
     requires { ProperStates n states.now × AllWait n counts.old × Buckets counts.old bits.old }
     ensures { StartCounts n states.now counts.new × Buckets counts.new bits.new }
 {
-    let mut r = 0;
-    while r < n {
-        let at = r as usize;
-        withdraw_one(Relay(r), states[at], counts, bits);
-        r += 1;
+    for r in 0..n {
+        withdraw_one(Relay(r), states[r as usize], counts, bits);
     }
 }
 
@@ -215,19 +188,17 @@ pub(crate) fn raise(r: Relay, counts: &mut [u16], bits: &mut [u64]) -> u16
     count
 }
 
-// Of so many columns the first with a bit in the word of this count; their number if there is none.
-fn first_column(columns: usize, count: usize, bits: &[u64]) -> usize
+// Of so many columns the first with a bit in the word of this count.
+fn first_column(columns: usize, count: usize, bits: &[u64]) -> Option<usize>
     requires { (count < column_words) × (columns ≤ most_columns) × (columns * column_words ≤ length bits.now) }
     ensures { FirstColumn columns count bits.now result }
 {
-    let mut g = 0;
-    while g < columns {
+    for g in 0..columns {
         if bits[g * COLUMN_WORDS + count] != 0 {
-            return g;
+            return Some(g);
         }
-        g += 1;
     }
-    columns
+    None
 }
 
 // The relay of the lowest bit of a word in column g.
@@ -235,7 +206,7 @@ fn lowest_of(g: usize, word: u64) -> Relay
     requires { (g < most_columns) × (0 < word) }
     ensures { LowestBit g word result.0 }
 {
-    let low = u64::trailing_zeros(word) as usize;
+    let low = word.trailing_zeros() as usize;
     Relay((g * WORD_BITS + low) as u16)
 }
 
@@ -243,23 +214,19 @@ fn lowest_of(g: usize, word: u64) -> Relay
 pub(crate) fn columns_of(n: u16) -> usize
     ensures { result ≡ columns_for n }
 {
-    let size = n as usize;
-    (size + WORD_BITS - 1) / WORD_BITS
+    (n as usize).div_ceil(WORD_BITS)
 }
 
-// The lowest of the waiting relays with the greatest count, where all counts are at most `most`.
+// The lowest of the waiting relays with the greatest count, where all counts are at most `most`; relay 0, which means nothing, where
+// none waits: the scan asks only while one does.
 pub(crate) fn leading(columns: usize, most: u16, bits: &[u64]) -> Relay
     requires { (most < column_words) × (columns ≤ most_columns) × (columns * column_words ≤ length bits.now) }
     ensures { Leads columns most bits.now result.0 }
 {
-    let mut count = most as usize;
-    while 0 < count {
-        let g = first_column(columns, count, bits);
-        if g < columns {
-            let word = bits[g * COLUMN_WORDS + count];
-            return lowest_of(g, word);
+    for count in (1..=most as usize).rev() {
+        if let Some(g) = first_column(columns, count, bits) {
+            return lowest_of(g, bits[g * COLUMN_WORDS + count]);
         }
-        count -= 1;
     }
     Relay(0)
 }

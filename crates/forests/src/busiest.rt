@@ -1,5 +1,5 @@
 // The relay that comes first: of those in service with the most links the lowest.
-ghost use Rattle.std.specs.Prelude.{max, ◌<◌, ◌≤◌, ◌≡◌, length};
+ghost use Rattle.std.specs.Prelude.{◌<◌, ◌≤◌, ◌≡◌, length};
 ghost use Rattle.forests.specs.Busiest.{key_of, serving_key, Busiest};
 
 use network::Relay;
@@ -21,25 +21,15 @@ fn serving_key(r: Relay, state: u16, count: u16) -> u32
     if state == 1 { k } else { 0 }
 }
 
-fn greater(a: u32, b: u32) -> u32
-    ensures { result ≡ max a b }
-{
-    if a < b { b } else { a }
-}
-
 // The lowest of those of the first n relays that are in service and have the greatest count; any number where none is.
 pub(crate) fn busiest(n: u16, states: &[u16], counts: &[u16]) -> Relay
     requires { (n ≤ 1000) × (n ≤ length counts.now) × (n ≤ length states.now) }
     ensures { Busiest n states.now counts.now result.0 }
 {
-    let mut best = 0;
-    let mut r = 0;
-    while r < n {
+    let mut best = 0u32;
+    for r in 0..n {
         let at = r as usize;
-        best = greater(best, serving_key(Relay(r), states[at], counts[at]));
-        r += 1;
+        best = best.max(serving_key(Relay(r), states[at], counts[at]));
     }
-    let left = 1023 - best % 1024;
-    let number = left as u16;
-    Relay(number)
+    Relay((1023 - best % 1024) as u16)
 }

@@ -1,5 +1,6 @@
 // The links at each relay as chains of half-links: half 2 i of link i is at its low end, half 2 i + 1 at its high end. A relay
-// has its first half-link, and each half-link the next one at its relay; twice the number of links stands for none.
+// has its first half-link, and each half-link the next one at its relay; twice the number of links stands for none, as an
+// `Option<u16>` would take twice the room.
 ghost use Rattle.std.specs.Prelude.{◌+◌, ◌≤◌, ◌<◌, ◌≡◌, length, get_or};
 ghost use Rattle.forests.specs.Chains.{Chainable, ChainedFrom};
 ghost use Rattle.forests.specs.LinkCounts.{more_links, run_on, list_on, CountedFrom};
@@ -24,14 +25,15 @@ fn count_on(r: Relay, last: Relay, run: u16, counts: &mut [u16]) -> u16
     ensures value { result ≡ run_on r.0 last.0 run }
     ensures counts_left { counts.new ≡ list_on r.0 last.0 run counts.old }
 {
-    if r.0 == last.0 {
+    if r == last {
         return run + 1;
     }
     count_links(last, run, counts);
     1
 }
 
-// From the last link down, so that what stands in `first` is the next half-link; the links at each relay are counted with it.
+// From the last link down, so that what stands in `first` is the next half-link; the links at each relay are counted with it. It runs
+// once for each link, and so it takes slices and no struct.
 pub(crate) fn link_up(
     lows: &[u16],
     highs: &[u16],
@@ -44,26 +46,22 @@ pub(crate) fn link_up(
     ensures chained_from { ChainedFrom lows.now highs.now 0 first.new nexts.new }
     ensures counted_from { CountedFrom lows.now highs.now 0 counts.new }
 {
-    let mut i = lows.len();
-    let mut last = 0;
+    let mut last = Relay(0);
     let mut run = 0;
-    while i > 0 {
-        i -= 1;
-        let from = lows[i];
-        let to = highs[i];
-        let a = from as usize;
-        let b = to as usize;
+    for i in (0..lows.len()).rev() {
+        let from = Relay(lows[i]);
+        let to = Relay(highs[i]);
+        count_links(from, 1, counts);
+        run = count_on(to, last, run, counts);
+        last = to;
         let low = 2 * i;
         let high = low + 1;
-        let here = low as u16;
-        let there = high as u16;
-        count_links(Relay(from), 1, counts);
-        run = count_on(Relay(to), Relay(last), run, counts);
-        last = to;
+        let a = from.0 as usize;
+        let b = to.0 as usize;
         nexts[low] = first[a];
         nexts[high] = first[b];
-        first[a] = here;
-        first[b] = there;
+        first[a] = low as u16;
+        first[b] = high as u16;
     }
-    count_links(Relay(last), run, counts);
+    count_links(last, run, counts);
 }

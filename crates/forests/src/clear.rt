@@ -6,9 +6,5 @@ pub fn clear(list: &mut [u16], count: usize)
     requires { count ≤ length list.old }
     ensures { list.new ≡ replicate count 0 ++ drop count list.old }
 {
-    let mut i = 0;
-    while i < count {
-        list[i] = 0;
-        i += 1;
-    }
+    list[..count].fill(0);
 }

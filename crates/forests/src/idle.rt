@@ -10,12 +10,9 @@ pub fn serving(n: u16, states: &[u16]) -> u16
     requires { (n ≤ 1000) × ProperStates n states.now }
     ensures { result ≡ turns_of n states.now }
 {
-    let size = n as usize;
     let mut turns = 0;
-    let mut r = 0;
-    while r < size {
-        turns += states[r];
-        r += 1;
+    for state in states {
+        turns += state;
     }
     turns
 }
@@ -45,12 +42,10 @@ fn discount(lows: &[u16], highs: &[u16], states: &[u16], counts: &mut [u16])
     requires { Discountable (length states.now) lows.now highs.now states.now counts.old }
     ensures { ServingCounted lows.now highs.now states.now counts.new }
 {
-    let mut i = 0;
-    while i < lows.len() {
+    for i in 0..lows.len() {
         let a = lows[i] as usize;
         let b = highs[i] as usize;
         discount_link(a, b, states[a] + states[b], counts);
-        i += 1;
     }
 }
 

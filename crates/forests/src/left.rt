@@ -1,22 +1,11 @@
 // The left table: entry (i − 1) × n + (v − 1) is one more than the index of v's link to left(i, v), 0 for none, for the forests
-// 1 to k and the places 1 to n. Beside it the earlier end of each of these links: left(i, v) itself.
-ghost use Rattle.std.specs.Prelude.{suc, min, max, ◌<◌, ◌≡◌, length, set};
+// 1 to k and the places 1 to n. Beside it the earlier end of each of these links: left(i, v) itself. An entry is a number and no
+// `Option<u16>`, since it stands in a list of numbers that the caller lends.
+ghost use Rattle.std.specs.Prelude.{suc, ◌<◌, ◌≡◌, length, set};
 ghost use Rattle.forests.specs.Left.{left_index, Enterable, entered, end_entered, LeftOfSome, LeftOfEach};
 
 use crate::scan::place_of;
-use network::{Place, Relay};
-
-fn earlier(p: Place, q: Place) -> Place
-    ensures { result.0 ≡ min p.0 q.0 }
-{
-    if p.0 < q.0 { p } else { q }
-}
-
-fn later(p: Place, q: Place) -> Place
-    ensures { result.0 ≡ max p.0 q.0 }
-{
-    if p.0 < q.0 { q } else { p }
-}
+use network::{Network, Place, Relay, Table};
 
 // Link `link` leads from v to left(forest, v): the one place that writes entries.
 fn put_left(table: &mut [u16], n: u16, forest: u16, v: Place, link: usize)
@@ -29,7 +18,7 @@ fn put_left(table: &mut [u16], n: u16, forest: u16, v: Place, link: usize)
 }
 
 // Link i is entered if its forest is one of the first k; its forest number then gives way to the place of its earlier end. A link
-// with a withdrawn end is in no forest: its number is 0 and stays.
+// with a withdrawn end is in no forest: its number is 0 and stays. It runs once for each link, and so it takes slices and no struct.
 fn enter_link(
     table: &mut [u16],
     n: u16,
@@ -49,33 +38,21 @@ fn enter_link(
     let p = place_of(places, Relay(lows[i]));
     let q = place_of(places, Relay(highs[i]));
     let forest = forests[i];
-    if forest < 1 {
-        return;
-    }
-    if forest <= k {
-        let near = earlier(p, q);
-        forests[i] = near.0;
-        put_left(table, n, forest, later(p, q), i);
+    if 1 <= forest && forest <= k {
+        forests[i] = p.0.min(q.0);
+        put_left(table, n, forest, Place(p.0.max(q.0)), i);
     }
 }
 
 // The left table of an accepted network, from the places and the forest numbers that the scan gives, into zeros.
-pub fn left_table(
-    table: &mut [u16],
-    n: u16,
-    k: u16,
-    lows: &[u16],
-    highs: &[u16],
-    places: &[u16],
-    forests: &mut [u16],
-)
-    requires { LeftOfSome n k lows.now highs.now places.now forests.old table.old }
-    ensures { LeftOfEach n k lows.now highs.now places.now forests.old
-        table.old table.new forests.new }
+pub fn left_table(table: &mut [u16], network: Network, k: u16, places: &[u16], forests: &mut [u16])
+    requires { LeftOfSome network.table.n k network.table.lows.now network.table.highs.now
+        places.now forests.old table.old }
+    ensures { LeftOfEach network.entry.table.n k network.entry.table.lows.now network.entry.table.highs.now
+        places.now forests.old table.old table.new forests.new }
 {
-    let mut i = 0;
-    while i < lows.len() {
+    let Table { n, lows, highs, .. } = network.table;
+    for i in 0..lows.len() {
         enter_link(table, n, k, i, lows, highs, places, forests);
-        i += 1;
     }
 }

@@ -1,178 +1,64 @@
 // The scan of an accepted table, in the smallest arrays that it fits.
-ghost use Rattle.std.specs.Prelude.{◌<◌, ◌≤◌, true, ◌≡◌, length, get_or};
-ghost use Rattle.forests.specs.Scan.{Scannable, is_small, Scanned};
+ghost use Rattle.std.specs.Prelude.{◌*◌, ◌<◌, ◌≤◌, ◌≡◌, length, get_or};
+ghost use Rattle.forests.specs.Buckets.{columns_for, column_words};
+ghost use Rattle.forests.specs.Scan.{is_small, ScanRoom, TableScanned};
 
-use crate::arrays::{
-    few_half_link_zeros, few_relay_copies, half_link_zeros, relay_copies, tiny_half_link_zeros,
-    tiny_relay_copies,
+use crate::buckets::{COLUMN_WORDS, FEW_WORDS, MOST_WORDS};
+use crate::placing::{Chains, prepare, scan_in};
+use network::limits::{
+    FEW_LINKS, FEW_RELAY_ROOM, FEW_RELAYS, FEWEST_LINKS, FEWEST_RELAY_ROOM, FEWEST_RELAYS,
+    LINK_ROOM, RELAY_ROOM,
 };
-use crate::buckets::{column_zeros, few_column_zeros, one_column_zeros};
-use crate::idle::serving;
-use crate::placing::{prepare, scan_in};
-use network::limits::{FEW_LINKS, FEW_RELAYS, FEWEST_LINKS, FEWEST_RELAYS};
-use network::{Place, Relay};
+use network::{Network, Place, Relay, Table};
+
+// The two halves of each link.
+const HALVES: usize = 2 * LINK_ROOM;
+
+const FEW_HALVES: usize = 2 * FEW_LINKS;
+
+const FEWEST_HALVES: usize = 2 * FEWEST_LINKS;
 
 // The place of a relay, from the list of places.
 pub fn place_of(places: &[u16], r: Relay) -> Place
     requires { r.0 < length places.now }
     ensures { result.0 ≡ get_or places.now r.0 0 }
 {
-    let at = r.0 as usize;
-    Place(places[at])
+    Place(places[usize::from(r.0)])
 }
 
 // A small network is worked on in small arrays, so that little is cleared.
-pub fn is_small(n: u16, m: usize) -> bool
-    ensures { result ≡ is_small n m }
+pub fn is_small(table: Table) -> bool
+    ensures { result ≡ is_small table.entry.n (length table.entry.lows.now) }
 {
-    if n <= FEW_RELAYS {
-        m <= FEW_LINKS
-    } else {
-        false
-    }
+    table.n <= FEW_RELAYS && table.lows.len() <= FEW_LINKS
 }
 
-// The same for 32 relays and 96 links.
-fn is_tiny(n: u16, m: usize) -> bool
-    ensures { result ≡ true → (n ≤ 32) × (m ≤ 96) }
-{
-    if n <= FEWEST_RELAYS {
-        m <= FEWEST_LINKS
-    } else {
-        false
-    }
-}
-
-fn scan_tiny(
-    n: u16,
-    lows: &[u16],
-    highs: &[u16],
-    states: &[u16],
+// The scan in arrays for so many relays, halves of links and words of bits.
+fn scan_sized<const RELAYS: usize, const HALVES: usize, const WORDS: usize>(
+    network: Network,
     relays: &mut [u16],
     places: &mut [u16],
     forests: &mut [u16],
 )
-    requires { Scannable n lows.now highs.now states.now relays.old places.old forests.old × (n ≤ 32) × (length lows.now ≤ 96) }
-    ensures { Scanned n lows.now highs.now states.now relays.old
-        relays.new places.old places.new forests.old forests.new }
+    requires sizes { (RELAYS ≤ 1000) × (HALVES ≤ 6000) × (WORDS ≤ 1280) × (columns_for RELAYS * column_words ≤ WORDS) }
+    requires fits { (network.table.n ≤ RELAYS) × (2 * length network.table.lows.now ≤ HALVES) }
+    requires room { ScanRoom network.table relays.old places.old forests.old }
+    ensures { TableScanned network.entry.table relays.old relays.new places.old places.new forests.old forests.new }
 {
-    let none = 2 * lows.len() as u16;
-    let mut first = tiny_relay_copies(none);
-    let mut nexts = tiny_half_link_zeros();
-    let mut counts = tiny_relay_copies(0);
-    let mut bits = one_column_zeros();
-    let turns = serving(n, states);
-    let start = prepare(
-        n,
-        turns,
-        lows,
-        highs,
-        states,
-        &mut first,
-        &mut nexts,
-        &mut counts,
-    );
+    let none = 2 * network.table.lows.len() as u16;
+    let mut first = [none; RELAYS];
+    let mut nexts = [0u16; HALVES];
+    let mut counts = [0u16; RELAYS];
+    let mut bits = [0u64; WORDS];
+    let start = prepare(network, &mut first, &mut nexts, &mut counts);
+    let chains = Chains {
+        first: &first,
+        nexts: &nexts,
+    };
     scan_in(
-        n,
-        turns,
+        network,
         start,
-        lows,
-        highs,
-        states,
-        &first,
-        &nexts,
-        &mut counts,
-        &mut bits,
-        relays,
-        places,
-        forests,
-    );
-}
-
-fn scan_small(
-    n: u16,
-    lows: &[u16],
-    highs: &[u16],
-    states: &[u16],
-    relays: &mut [u16],
-    places: &mut [u16],
-    forests: &mut [u16],
-)
-    requires { Scannable n lows.now highs.now states.now relays.old places.old forests.old × (n ≤ 128) × (length lows.now ≤ 384) }
-    ensures { Scanned n lows.now highs.now states.now relays.old
-        relays.new places.old places.new forests.old forests.new }
-{
-    let none = 2 * lows.len() as u16;
-    let mut first = few_relay_copies(none);
-    let mut nexts = few_half_link_zeros();
-    let mut counts = few_relay_copies(0);
-    let mut bits = few_column_zeros();
-    let turns = serving(n, states);
-    let start = prepare(
-        n,
-        turns,
-        lows,
-        highs,
-        states,
-        &mut first,
-        &mut nexts,
-        &mut counts,
-    );
-    scan_in(
-        n,
-        turns,
-        start,
-        lows,
-        highs,
-        states,
-        &first,
-        &nexts,
-        &mut counts,
-        &mut bits,
-        relays,
-        places,
-        forests,
-    );
-}
-
-fn scan_large(
-    n: u16,
-    lows: &[u16],
-    highs: &[u16],
-    states: &[u16],
-    relays: &mut [u16],
-    places: &mut [u16],
-    forests: &mut [u16],
-)
-    requires { Scannable n lows.now highs.now states.now relays.old places.old forests.old }
-    ensures { Scanned n lows.now highs.now states.now relays.old
-        relays.new places.old places.new forests.old forests.new }
-{
-    let none = 2 * lows.len() as u16;
-    let mut first = relay_copies(none);
-    let mut nexts = half_link_zeros();
-    let mut counts = relay_copies(0);
-    let mut bits = column_zeros();
-    let turns = serving(n, states);
-    let start = prepare(
-        n,
-        turns,
-        lows,
-        highs,
-        states,
-        &mut first,
-        &mut nexts,
-        &mut counts,
-    );
-    scan_in(
-        n,
-        turns,
-        start,
-        lows,
-        highs,
-        states,
-        &first,
-        &nexts,
+        chains,
         &mut counts,
         &mut bits,
         relays,
@@ -182,24 +68,18 @@ fn scan_large(
 }
 
 // The order, the places and the forest numbers of an accepted table.
-pub fn scan(
-    n: u16,
-    lows: &[u16],
-    highs: &[u16],
-    states: &[u16],
-    relays: &mut [u16],
-    places: &mut [u16],
-    forests: &mut [u16],
-)
-    requires { Scannable n lows.now highs.now states.now relays.old places.old forests.old }
-    ensures { Scanned n lows.now highs.now states.now relays.old
-        relays.new places.old places.new forests.old forests.new }
+pub fn scan(network: Network, relays: &mut [u16], places: &mut [u16], forests: &mut [u16])
+    requires { ScanRoom network.table relays.old places.old forests.old }
+    ensures { TableScanned network.entry.table relays.old relays.new places.old places.new forests.old forests.new }
 {
-    if is_tiny(n, lows.len()) {
-        scan_tiny(n, lows, highs, states, relays, places, forests);
-    } else if is_small(n, lows.len()) {
-        scan_small(n, lows, highs, states, relays, places, forests);
+    let table = network.table;
+    if table.n <= FEWEST_RELAYS && table.lows.len() <= FEWEST_LINKS {
+        scan_sized::<FEWEST_RELAY_ROOM, FEWEST_HALVES, COLUMN_WORDS>(
+            network, relays, places, forests,
+        );
+    } else if is_small(table) {
+        scan_sized::<FEW_RELAY_ROOM, FEW_HALVES, FEW_WORDS>(network, relays, places, forests);
     } else {
-        scan_large(n, lows, highs, states, relays, places, forests);
+        scan_sized::<RELAY_ROOM, HALVES, MOST_WORDS>(network, relays, places, forests);
     }
 }

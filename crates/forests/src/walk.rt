@@ -8,12 +8,6 @@ use crate::buckets::{leave, raise};
 use crate::counts::number;
 use network::Relay;
 
-fn wide(h: u16) -> usize
-    ensures { result ≡ h }
-{
-    h as usize
-}
-
 // The end of a link that its half h is not at.
 fn far_end(h: usize, low: Relay, high: Relay) -> Relay
     ensures { result.0 ≡ across_of h low.0 high.0 }
@@ -40,7 +34,7 @@ fn visit(
     let high = Relay(highs[i]);
     let count = raise(far_end(h, low, high), counts, bits);
     forests[i] = number(count, forests[i]);
-    wide(nexts[h])
+    usize::from(nexts[h])
 }
 
 // x gets its place: it waits no more, and its links are walked. Gives its count before.
@@ -61,9 +55,9 @@ pub(crate) fn walk(
     ensures buckets { Buckets counts.new bits.new }
 {
     let count = leave(x, counts, bits);
-    let at = x.0 as usize;
     let end = 2 * lows.len();
-    let mut h = wide(first[at]);
+    let mut h = usize::from(first[usize::from(x.0)]);
+    // A walk along a chain, no range.
     while h < end {
         h = visit(h, lows, highs, nexts, counts, bits, forests);
     }

@@ -3,20 +3,20 @@ ghost use Rattle.std.specs.Prelude.{◌≡◌, ◌≤◌, length};
 ghost use Rattle.definitions.specs.Lists.{overwrite};
 ghost use Rattle.definitions.specs.Dimacs.{import_network};
 ghost use Rattle.definitions.specs.Import.{import_text};
-ghost use Rattle.program.specs.ReadStage.{Loads};
+ghost use Rattle.program.specs.ReadStage.{network_outcome};
 ghost use Rattle.program.specs.Made.{Printed};
 
 use import::import;
+use network::{Network, Refusal};
 use program::made::{TEXT_ROOM, put_made};
-use program::rooms;
-use text::ReadAnswer;
+use program::rooms::Rooms;
 
 // Import, with room for every network.
-fn load_drawing(input: &[u8], lows: &mut [u16], highs: &mut [u16], states: &mut [u16]) -> ReadAnswer
-    requires { (length lows.old ≡ 3000) × (length highs.old ≡ 3000) × (length states.old ≡ 1000) }
-    ensures { Loads (import_network input.now 3000 3000 1000) result lows.new highs.new states.new }
+fn load_drawing<'a>(input: &[u8], rooms: &'a mut Rooms) -> Result<Network<'a>, Refusal>
+    ensures { network_outcome result ≡ import_network input.now 3000 3000 1000 }
 {
-    import(input, lows, highs, states)
+    let size = import(input, &mut rooms.lows, &mut rooms.highs, &mut rooms.states)?;
+    Ok(rooms.network(size))
 }
 
 // The drawing is imported, and what it is goes out.
@@ -24,11 +24,8 @@ fn put_imported(output: &mut [u8], input: &[u8]) -> usize
     requires { 54929 ≤ length output.old }
     ensures { Printed output.old (import_text input.now) output.new result }
 {
-    let mut lows = rooms::links();
-    let mut highs = rooms::links();
-    let mut states = rooms::states();
-    let answer = load_drawing(input, &mut lows, &mut highs, &mut states);
-    put_made(output, answer, &lows, &highs, &states)
+    let mut rooms = Rooms::new();
+    put_made(output, load_drawing(input, &mut rooms))
 }
 
 // Prints the text for an input, from the output's first byte on, and gives its length.

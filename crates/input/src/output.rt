@@ -6,7 +6,7 @@ use crate::arrived::Arrived;
 use std::io::{Stderr, Stdout, Write};
 
 // What is asked for: each program has one, and says with it whose text is due.
-#[derive(Clone, Copy)]
+#[derive(Clone, Copy, PartialEq, Eq)]
 pub enum Feature {
     Plan,
     Keep,
@@ -19,7 +19,7 @@ pub enum Feature {
 
 // Hands a text to the write call: it is due for an input of which so many bytes have arrived, and which ended with them if that was told.
 pub fn hand_over(stdout: &mut Stdout, feature: Feature, arrived: Arrived, printed: &[u8])
-    requires { Due (text_of feature) arrived.count arrived.ended printed.now }
+    requires { Due (text_of feature) arrived.count arrived.end printed.now }
 {
     match stdout.write_all(printed) {
         Ok(()) => {}

@@ -46,7 +46,7 @@ unfolding cut_stage passing lease_answers
 cut-refused n lows highs states k refusal e = stage-refused _ _ refusal e
 
 -- Both ends of every link of an accepted network have a state.
-ends-within : (n : ℕ) (lows highs states : List ℕ) → Accepted n lows highs states → EndsWithin lows highs states
+pub ends-within : (n : ℕ) (lows highs states : List ℕ) → Accepted n lows highs states → EndsWithin lows highs states
 ends-within n lows highs states good i h =
     let table = accepted n lows highs states good in
     let long = (accepted-states n lows highs states good).long in

@@ -9,10 +9,9 @@ ghost use Rattle.program.specs.Into.{print_outcome};
 
 use front::keep_line;
 use network::Refusal;
-use program::into::{PrintAnswer, print_into};
+use program::into::print_into;
 use program::refusal::put_refusal;
 use stages::keep_network;
-use text::scan::NumberScan;
 
 mod front;
 mod idle;
@@ -26,17 +25,18 @@ pub fn keep(input: &[u8], output: &mut [u8; rooms::OUTPUT]) -> usize
     ensures bytes { output.new ≡ overwrite (keep_text input.now) output.old }
 {
     match keep_line(input) {
-        NumberScan::Departs(p) => put_refusal(output, Refusal::Wish(p)),
-        NumberScan::Reads(k, p) => keep_network(output, &input[p..], k),
+        Ok((k, p)) => keep_network(output, &input[p..], k),
+        Err(departure) => put_refusal(output, Refusal::Wish(departure.0)),
     }
 }
 
-// The same into a list of any length: refused where it is shorter than what is to be printed, and then left as it was.
-pub fn keep_into(input: &[u8], output: &mut [u8]) -> PrintAnswer
+// The same into a list of any length: refused where it is shorter than what is to be printed, and then left as it was. The planner has
+// the like, with a room of another size: one function of both would take the room too, and say no less.
+pub fn keep_into(input: &[u8], output: &mut [u8]) -> Result<usize, Refusal>
     ensures answer { print_outcome result ≡ print_answer (keep_text input.now) output.old }
     ensures bytes { output.new ≡ output_after (keep_text input.now) output.old }
 {
-    let mut room = rooms::output();
+    let mut room = [0; rooms::OUTPUT];
     let size = keep(input, &mut room);
     print_into(&room[..size], output)
 }

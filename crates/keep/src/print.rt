@@ -5,10 +5,10 @@ ghost use Rattle.definitions.specs.Network.{serves};
 ghost use Rattle.definitions.specs.Form.{write_form};
 ghost use Rattle.definitions.specs.Keep.{idle_count, lease_line, lease_lines};
 ghost use Rattle.text.specs.Put.{Put};
-ghost use Rattle.keep.specs.Lines.{triple_form, EndsWithin, count_lines, list_lines};
+ghost use Rattle.keep.specs.Lines.{triple_form, count_lines, list_lines};
 
 use crate::idle::{both_serve, idle_links};
-use network::Relay;
+use network::{Network, Relay};
 use program::line;
 use program::line::{put_kept, put_single};
 use text::put;
@@ -18,8 +18,8 @@ fn put_triple(output: &mut [u8], at: usize, front: &[u8], i: usize, a: Relay, b:
     requires { at + length (write_form (triple_form front.now) (i ∷ a.0 ∷ b.0 ∷ [])) ≤ length output.old }
     ensures { Put output.old at (write_form (triple_form front.now) (i ∷ a.0 ∷ b.0 ∷ [])) output.new result }
 {
-    let low = a.0 as usize;
-    let high = b.0 as usize;
+    let low = usize::from(a.0);
+    let high = usize::from(b.0);
     line::put_triple(output, at, front, i, b" ", low, b" ", high, b")\n")
 }
 
@@ -48,29 +48,17 @@ fn put_link(
 }
 
 // A line for each link, in the order of the table.
-fn put_links(
-    output: &mut [u8],
-    at: usize,
-    lows: &[u16],
-    highs: &[u16],
-    states: &[u16],
-    marks: &[u16],
-) -> usize
-    requires lows_in_bounds { (length lows.now ≤ length highs.now) × (length lows.now ≤ length marks.now)
-        × EndsWithin lows.now highs.now states.now }
-    requires lows_in_bounds_2 { at + length (lease_lines lows.now highs.now states.now marks.now 0 (length lows.now)) ≤ length output.old }
-    ensures { Put output.old at
-        (lease_lines lows.now highs.now states.now marks.now 0 (length lows.now))
-        output.new result }
+fn put_links(output: &mut [u8], at: usize, network: Network, marks: &[u16]) -> usize
+    requires marks_in_bounds { length network.table.lows.now ≤ length marks.now }
+    requires output_in_bounds { let t = network.table in at + length (lease_lines t.lows.now t.highs.now t.states.now marks.now 0 (length t.lows.now)) ≤ length output.old }
+    ensures { let t = network.entry.table in Put output.old at (lease_lines t.lows.now t.highs.now t.states.now marks.now 0 (length t.lows.now)) output.new result }
 {
-    let mut i: usize = 0;
+    let table = network.table;
     let mut p = at;
-    while i < lows.len() {
-        let mark = marks[i];
-        let low = lows[i];
-        let high = highs[i];
-        p = put_link(output, p, states, mark, i, Relay(low), Relay(high));
-        i += 1;
+    for i in 0..table.lows.len() {
+        let low = Relay(table.lows[i]);
+        let high = Relay(table.highs[i]);
+        p = put_link(output, p, table.states, marks[i], i, low, high);
     }
     p
 }
@@ -90,22 +78,18 @@ fn put_counts(output: &mut [u8], at: usize, kept: usize, dropped: usize, idle: u
 pub(crate) fn put_list(
     output: &mut [u8],
     k: usize,
-    lows: &[u16],
-    highs: &[u16],
-    states: &[u16],
+    network: Network,
     marks: &[u16],
     kept: usize,
 ) -> usize
-    requires lows_in_bounds { (length lows.now ≤ length highs.now) × (length lows.now ≤ length marks.now)
-        × EndsWithin lows.now highs.now states.now }
-    requires states_in_bounds { kept + idle_count lows.now highs.now states.now ≤ length lows.now }
-    requires kept_in_bounds { length (list_lines k lows.now highs.now states.now marks.now kept) ≤ length output.old }
-    ensures { Put output.old 0
-        (list_lines k lows.now highs.now states.now marks.now kept) output.new result }
+    requires marks_in_bounds { length network.table.lows.now ≤ length marks.now }
+    requires kept_in_bounds { let t = network.table in kept + idle_count t.lows.now t.highs.now t.states.now ≤ length t.lows.now }
+    requires output_in_bounds { let t = network.table in length (list_lines k t.lows.now t.highs.now t.states.now marks.now kept) ≤ length output.old }
+    ensures { let t = network.entry.table in Put output.old 0 (list_lines k t.lows.now t.highs.now t.states.now marks.now kept) output.new result }
 {
-    let idle = idle_links(lows, highs, states);
-    let dropped = lows.len() - kept - idle;
+    let idle = idle_links(network);
+    let dropped = network.table.lows.len() - kept - idle;
     let p = put_single(output, 0, b"(lease (k ", k, b"))\n");
-    let q = put_links(output, p, lows, highs, states, marks);
+    let q = put_links(output, p, network, marks);
     put_counts(output, q, kept, dropped, idle)
 }

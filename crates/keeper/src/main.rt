@@ -1,17 +1,27 @@
 // The keeper: reads a line `(keep K)` and a network text from standard input and prints the list of links, or the refusal.
 #![tactic(auto)]
 
-use input::Feature;
+ghost use Rattle.std.specs.Prelude.{◌≡◌};
+ghost use Rattle.definitions.specs.Keep.{keep_text};
+
+use input::{Complaints, Feature};
 
 fn main(rt: HostRuntime) {
-    let mut buffer = input::room();
-    let arrived = input::read_all(&mut rt.stdin(), &mut buffer);
-    if arrived.is_failure() {
-        input::complain(&mut rt.stderr(), b"keeper: standard input cannot be read\n");
-        return;
-    }
-    let count = arrived.size();
-    let mut output = keep::rooms::output();
-    let size = keep::keep(&buffer[..count], &mut output);
-    input::hand_over(&mut rt.stdout(), Feature::Keep, arrived, &output[..size]);
+    let mut output = [0; keep::rooms::OUTPUT];
+    let complaints = Complaints {
+        unreadable: b"keeper: standard input cannot be read\n",
+        too_long: None,
+    };
+    input::answer(
+        rt,
+        Feature::Keep,
+        &mut input::room(),
+        complaints,
+        |text|
+            ensures { result.now ≡ keep_text text.now }
+        {
+            let size = keep::keep(text, &mut output);
+            &output[..size]
+        },
+    );
 }

@@ -2,12 +2,9 @@
 -- Assumes nothing.
 use Prim.Native.Nat.{ℕ, zero, suc, ◌*◌, ◌/◌, ◌%◌, ◌^◌, ◌<◌}
 use mathlib.Core.Bool.{Bool, true, false, ◌||◌}
-use mathlib.Core.List.{List, [], ◌∷◌}
-use mathlib.Core.Logic.{⊎_elim}
+use mathlib.Core.List.{List}
 use mathlib.Core.Path.{◌≡◌, refl, sym, ◌∙◌, ap}
 use native.Mathlib.Omega.{arith}
-use denote.Enum.Declared.{tag_of}
-use types.Run.{OneOf}
 use borrow.Author.Tests.{lt-leb, eq-eqb, ne_eqb}
 use lib.Bits.{bit_or}
 use lib.Dec.{eqb, leb}
@@ -15,20 +12,13 @@ use lib.ListN.{get_or, set}
 use Rattle.definitions.specs.Outcome.{pick}
 use Rattle.definitions.specs.Network.{pair_number}
 use Rattle.lists.specs.Bitmap.{bit_of, marked, mark, one_bit}
-use Rattle.network.specs.declared.LinkCheck.{LinkCheck}
-use Rattle.network.specs.declared.LinkCheck.TheVariants.{Fine, RelayRange, NotBelow, Repeated}
-use Rattle.network.specs.contracts.LinkCheck.{the_type}
+use Rattle.std.specs.Prelude.{⊤, Result, Ok, Err}
+use Rattle.network.specs.declared.LinkFault.{LinkFault}
+use Rattle.network.specs.declared.LinkFault.TheVariants.{Repeated}
 use Rattle.network.specs.Seen.{fault_of, fault_at, fault-none, bits_after, LinkChecked}
 
--- Any answer but the first of the four is a fault.
-pub some-fault : (r : LinkCheck) → OneOf (1 ∷ 2 ∷ 3 ∷ []) (tag_of the_type r) → 0 < fault_of r
-some-fault Fine keys = absurd (⊎_elim (λ e. omega arith) (⊎_elim (λ e. omega arith) (λ e. omega arith)) keys)
-some-fault RelayRange keys = omega arith
-some-fault NotBelow keys = omega arith
-some-fault Repeated keys = omega arith
-
 -- A link with a fault leaves the bits.
-refuses : (n a b : ℕ) (bits : List ℕ) (r : LinkCheck) (f : ℕ) → fault_of r ≡ suc f → fault_at n (marked bits) a b ≡ suc f
+refuses : (n a b : ℕ) (bits : List ℕ) (r : Result ⊤ LinkFault) (f : ℕ) → fault_of r ≡ suc f → fault_at n (marked bits) a b ≡ suc f
     → LinkChecked n a b bits bits r
 unfolding bits_after
 refuses n a b bits r f answer fault =
@@ -53,18 +43,8 @@ fault-sooner n a b at f = go (leb n a || leb n b) (leb b a)
     go false true e = e
     go false false e = absurd (omega arith)
 
-first_of : (out : Bool) (next : ℕ) → pick (eqb (pick out 5 0) 0) next (pick out 5 0) ≡ pick out 5 next
-first_of true next = refl
-first_of false next = refl
-
--- The first fault of the numbers, 5 before 6.
-pub numbers-first : (n a b : ℕ) (range rise r : LinkCheck) → fault_of range ≡ pick (leb n a || leb n b) 5 0 → fault_of rise ≡ pick (leb b a) 6 0
-    → fault_of r ≡ pick (eqb (fault_of range) 0) (fault_of rise) (fault_of range) → fault_of r ≡ pick (leb n a || leb n b) 5 (pick (leb b a) 6 0)
-numbers-first n a b range rise r ranged risen first =
-    first ∙ rw (ranged, risen) (first_of (leb n a || leb n b) (pick (leb b a) 6 0))
-
 -- A link whose numbers do not fit has their fault.
-pub unfit : (n a b : ℕ) (bits : List ℕ) (r : LinkCheck) → fault_of r ≡ pick (leb n a || leb n b) 5 (pick (leb b a) 6 0)
+pub unfit : (n a b : ℕ) (bits : List ℕ) (r : Result ⊤ LinkFault) → fault_of r ≡ pick (leb n a || leb n b) 5 (pick (leb b a) 6 0)
     → (a < b → b < n → ⊥) → LinkChecked n a b bits bits r
 unfolding fault_at none
 unfit n a b bits r fault never = go (fault_of r) refl
@@ -80,15 +60,15 @@ module _ (n a b : ℕ) (bits : List ℕ) where
   fault-fit h k l t e = simp (lt-leb n a h, lt-leb n b k, lt-leb b a l, e)
 
   pub repeated : a < n → b < n → a < b → (p : ℕ) → p ≡ pair_number a b → get_or bits (p / 64) 0 / 2 ^ (p % 64) % 2 ≡ 1
-      → LinkChecked n a b bits bits Repeated
+      → LinkChecked n a b bits bits (Err Repeated)
   unfolding marked bit_of
   repeated h k l p e bit =
-      refuses n a b bits Repeated 6 refl
+      refuses n a b bits (Err Repeated) 6 refl
       (fault-fit h k l true (ap (marked bits) (sym e) ∙ eq-eqb (get_or bits (p / 64) 0 / 2 ^ (p % 64) % 2) 1 bit))
 
   pub fine : a < n → b < n → a < b → (p : ℕ) → p ≡ pair_number a b
       → (get_or bits (p / 64) 0 / 2 ^ (p % 64) % 2 ≡ 1 → ⊥)
-      → LinkChecked n a b bits (set bits (p / 64) (bit_or (get_or bits (p / 64) 0) (1 * 2 ^ (p % 64) % 2 ^ 64))) Fine
+      → LinkChecked n a b bits (set bits (p / 64) (bit_or (get_or bits (p / 64) 0) (1 * 2 ^ (p % 64) % 2 ^ 64))) (Ok tt)
   unfolding marked bit_of mark bits_after
   fine h k l p e bit =
       let none : fault_at n (marked bits) a b ≡ 0 =

@@ -9,7 +9,8 @@ use lib.Dec.{ltb}
 use lib.ListN.{length, get_or}
 use Rattle.definitions.specs.Outcome.{refused, done, refuse_if}
 use Rattle.definitions.specs.Network.{link_fault, links_check}
-use Rattle.network.specs.declared.LinkCheck.{LinkCheck}
+use Rattle.std.specs.Prelude.{⊤, Result}
+use Rattle.network.specs.declared.LinkFault.{LinkFault}
 use Rattle.network.specs.Seen.{fault_of, LinkChecked, Seen, seen-fault}
 
 -- The links from i on, of which there is one at least.
@@ -24,7 +25,7 @@ links-step n lows highs i f h e =
     more : length lows - i ≡ suc (length lows - (i + 1))
     more = omega arith
 
-module _ (n : ℕ) (lows highs : List ℕ) (i : ℕ) (bits after : List ℕ) (r : LinkCheck)
+module _ (n : ℕ) (lows highs : List ℕ) (i : ℕ) (bits after : List ℕ) (r : Result ⊤ LinkFault)
     (within : i < length lows) (seen : Seen n bits lows highs i)
     (checked : LinkChecked n (get_or lows i 0) (get_or highs i 0) bits after r)
     (so_far : links_check n lows highs 0 (length lows) ≡ links_check n lows highs i (length lows - i)) where

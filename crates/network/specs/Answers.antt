@@ -1,6 +1,6 @@
 -- What each answer of the operations stands for in documents 01 and 02: the number and place of a refusal, or the values.
 -- Assumes nothing.
-use Rattle.std.specs.Prelude.{ℕ, [], ◌∷◌}
+use Rattle.std.specs.Prelude.{ℕ, [], ◌∷◌, Result, Ok, Err}
 use Rattle.definitions.specs.Outcome.{Outcome, refused, done, Answer}
 use Rattle.network.specs.declared.refusal.Refusal.{Refusal}
 use Rattle.network.specs.declared.refusal.Refusal.TheVariants.{
@@ -26,10 +26,6 @@ use Rattle.network.specs.declared.refusal.Refusal.TheVariants.{
   ReportRelays,
   ReportSerials,
 }
-use Rattle.network.specs.declared.pairs.Pair.{Pair}
-use Rattle.network.specs.declared.pairs.Pair.TheVariants.{Number}
-use Rattle.network.specs.declared.Check.{Check}
-use Rattle.network.specs.declared.Check.TheVariants.{Accepted}
 
 -- The number of a refusal, as the documents count them.
 abbrev pub refusal_number : Refusal → ℕ
@@ -84,11 +80,11 @@ abbrev pub refusal_of : {A : Type 0} → Refusal → Outcome A
 refusal_of refusal = refused (refusal_number refusal) (refusal_place refusal)
 
 -- The pair number, or a refusal.
-abbrev pub pair_outcome : Pair → Answer
-pair_outcome (Number number) = done (number ∷ [])
-pair_outcome (Pair.Refused refusal) = refusal_of refusal
+abbrev pub pair_outcome : Result ℕ Refusal → Answer
+pair_outcome (Ok number) = done (number ∷ [])
+pair_outcome (Err refusal) = refusal_of refusal
 
 -- Success alone, or a refusal.
-abbrev pub check_outcome : Check → Answer
-check_outcome Accepted = done []
-check_outcome (Check.Refused refusal) = refusal_of refusal
+abbrev pub outcome : {A : Type 0} → Result A Refusal → Answer
+outcome (Ok _) = done []
+outcome (Err refusal) = refusal_of refusal

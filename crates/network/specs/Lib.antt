@@ -5,3 +5,4 @@ pub mod Marks
 pub mod Seen
 pub mod Answers
 pub mod Refusals
+pub mod Tables

@@ -1,25 +1,27 @@
 -- One link checked against the marks of the links before it, and the marks afterwards: what `check_link` promises, and
 -- what that is for a table. The marks are bits by pair number. Assumes nothing.
-use Rattle.std.specs.Prelude.{ℕ, ◌+◌, ◌*◌, ◌≤◌, ◌<◌, Bool, true, false, ◌||◌, List, [], ◌∷◌, ◌++◌, ◌≡◌, refl, eqb, leb, length, get_or, replicate}
+use Rattle.std.specs.Prelude.{ℕ, ⊤, Result, Ok, Err, ◌+◌, ◌*◌, ◌≤◌, ◌<◌, Bool, true, false, ◌||◌, List, [], ◌∷◌, ◌++◌, ◌≡◌, refl, eqb, leb, ltb, length, get_or, replicate}
 use Rattle.std.proofs.Common.{sym, ◌∙◌, ap, arith, leb-false, length-append}
 use Rattle.std.proofs.lemmas.List.{length-replicate}
 use Rattle.std.proofs.Math.ListN.{get_or-append}
 use Rattle.std.proofs.Math.Seq.{get_or-append_seam}
-use Rattle.definitions.specs.Outcome.{pick}
+use Rattle.definitions.specs.Outcome.{pick, refused}
+use Rattle.network.specs.Answers.{refusal_of}
 use Rattle.definitions.specs.Lists.{some_below}
 use Rattle.definitions.specs.Network.{row_start, pair_number, is_pair, link_fault}
 use Rattle.lists.specs.Bitmap.{marked, mark, marked-mark, marked-none, length-mark}
 use Rattle.network.specs.Pairs.{pair-below, rows-of-32, rows-of-128, rows-of-512, rows-of-1000}
 use Rattle.network.specs.Marks.{Marks, marks-none, marks-next, marks-front}
-use Rattle.network.specs.declared.LinkCheck.{LinkCheck}
-use Rattle.network.specs.declared.LinkCheck.TheVariants.{Fine, RelayRange, NotBelow, Repeated}
+use Rattle.network.specs.declared.LinkFault.{LinkFault}
+use Rattle.network.specs.declared.LinkFault.TheVariants.{RelayRange, NotBelow, Repeated}
+use Rattle.network.specs.declared.refusal.Refusal.{Refusal}
 
 -- The refusal's number, 0 for none.
-abbrev pub fault_of : LinkCheck → ℕ
-fault_of Fine = 0
-fault_of RelayRange = 5
-fault_of NotBelow = 6
-fault_of Repeated = 7
+abbrev pub fault_of : Result ⊤ LinkFault → ℕ
+fault_of (Ok _) = 0
+fault_of (Err RelayRange) = 5
+fault_of (Err NotBelow) = 6
+fault_of (Err Repeated) = 7
 
 -- What is wrong with the link a b where `at` tells which pairs were seen before, or 0.
 unfoldable pub fault_at : (n : ℕ) (at : ℕ → Bool) (a b : ℕ) → ℕ
@@ -29,8 +31,17 @@ fault_at n at a b = pick (leb n a || leb n b) 5 (pick (leb b a) 6 (pick (at (pai
 unfoldable pub bits_after : (n a b : ℕ) (bits : List ℕ) → List ℕ
 bits_after n a b bits = pick (eqb (fault_at n (marked bits) a b) 0) (mark bits (pair_number a b)) bits
 
+pub some-fault : (fault : LinkFault) → ltb 0 (fault_of (Err fault)) ≡ true
+some-fault RelayRange = refl
+some-fault NotBelow = refl
+some-fault Repeated = refl
+
+-- The refusal for a fault of a link has the fault's number and the link as its place.
+abbrev pub fault_refusal : LinkFault → ℕ → Refusal → Type 0
+fault_refusal fault link r = refusal_of {A = List ℕ} r ≡ refused (fault_of (Err fault)) link
+
 -- What `check_link` promises: its answer and the bits afterwards.
-pub record LinkChecked (n a b : ℕ) (bits after : List ℕ) (r : LinkCheck) : Type 0 where
+pub record LinkChecked (n a b : ℕ) (bits after : List ℕ) (r : Result ⊤ LinkFault) : Type 0 where
   pub fault : fault_of r ≡ fault_at n (marked bits) a b
   pub bits_then : after ≡ bits_after n a b bits
 
@@ -46,7 +57,7 @@ pub record Seen (n : ℕ) (bits lows highs : List ℕ) (i : ℕ) : Type 0 where
 -- No pair is marked yet: in as many words as have room for the pairs of n relays, and so in those for up to 32, up to 128,
 -- up to 512 and up to 1,000 relays.
 module _ (n : ℕ) (bits lows highs : List ℕ) where
-  seen_none : (words : ℕ) → row_start n ≤ 64 * words → bits ≡ replicate words 0 → Seen n bits lows highs 0
+  pub seen_none : (words : ℕ) → row_start n ≤ 64 * words → bits ≡ replicate words 0 → Seen n bits lows highs 0
   seen_none words room e =
       record {
         room = omega (arith, ap length e ∙ length-replicate {A = ℕ} words 0);
@@ -110,7 +121,7 @@ seen-mark n a b lows highs i bits seen up within low high =
 
 -- For a table: the answer of `check_link` is the fault of the link after the first i, and after a fine link i the bits
 -- hold one link more.
-module _ (n a b : ℕ) (lows highs : List ℕ) (i : ℕ) (bits after : List ℕ) (r : LinkCheck)
+module _ (n a b : ℕ) (lows highs : List ℕ) (i : ℕ) (bits after : List ℕ) (r : Result ⊤ LinkFault)
     (seen : Seen n bits lows highs i) (checked : LinkChecked n a b bits after r) where
   pub seen-fault : fault_of r ≡ link_fault n lows highs i a b
   seen-fault = checked.fault ∙ fault-same n a b (marked bits) lows highs i seen.marks
@@ -129,7 +140,7 @@ last_of : (xs : List ℕ) (x : ℕ) → get_or (xs ++ (x ∷ [])) (length xs) 0 
 last_of xs x = get_or-append_seam xs x [] 0
 
 -- The same for a table that grows by the link: the bits hold all of it.
-pub seen-snoc : (n a b : ℕ) (lows highs bits after : List ℕ) (r : LinkCheck) → length lows ≡ length highs
+pub seen-snoc : (n a b : ℕ) (lows highs bits after : List ℕ) (r : Result ⊤ LinkFault) → length lows ≡ length highs
     → Seen n bits lows highs (length lows) → LinkChecked n a b bits after r → fault_of r ≡ 0
     → Seen n after (lows ++ (a ∷ [])) (highs ++ (b ∷ [])) (length (lows ++ (a ∷ [])))
 seen-snoc n a b lows highs bits after r even seen checked fine =

@@ -2,17 +2,18 @@
 // specs/Answers.antt.
 #![tactic(auto)]
 
-ghost use Rattle.std.specs.Prelude.{◌||◌, ◌≡◌, ◌≤◌, eqb, leb, length};
+ghost use Rattle.std.specs.Prelude.{◌||◌, ◌*◌, ◌≡◌, ◌≤◌, leb, length, IfOk};
 ghost use Rattle.definitions.specs.Outcome.{pick};
-ghost use Rattle.definitions.specs.Network.{links_check, table_check};
-ghost use Rattle.network.specs.Answers.{check_outcome};
-ghost use Rattle.network.specs.RowStarts.{RowsFor};
-ghost use Rattle.network.specs.Seen.{fault_of, RoomFor, LinkChecked, Seen};
+ghost use Rattle.definitions.specs.Network.{Accepted, row_start, links_check, table_check};
+ghost use Rattle.network.specs.Answers.{outcome};
+ghost use Rattle.network.specs.Tables.{of_table, OfTable};
+ghost use Rattle.network.specs.Seen.{fault_of, fault_refusal, Seen};
 
-use limits::{FEW_RELAYS, FEWEST_RELAYS, LINK_ROOM, RELAYS};
-use pairs::mark_pair;
-pub use pairs::{Pair, pair_number};
-pub use refusal::{Refusal, refusal_number, refusal_place};
+use limits::{
+    FEW_RELAY_ROOM, FEW_RELAYS, FEWEST_RELAY_ROOM, FEWEST_RELAYS, LINK_ROOM, RELAY_ROOM, RELAYS,
+};
+pub use pairs::{PairMarks, pair_number};
+pub use refusal::Refusal;
 pub use states::in_service;
 
 pub mod limits;
@@ -22,150 +23,142 @@ pub mod row_starts;
 mod states;
 
 // A relay number, never a place in the order.
-#[derive(Clone, Copy)]
+#[derive(Clone, Copy, PartialEq, Eq)]
 pub struct Relay(pub u16);
 
 // A place in the order, 1 to n; 0 for none. Never a relay number.
-#[derive(Clone, Copy)]
+#[derive(Clone, Copy, PartialEq, Eq)]
 pub struct Place(pub u16);
 
-// The answer of the table check.
+// The table of a network: the number of relays, the two ends of each link, and the state of each relay, 1 in service or 0
+// withdrawn.
 #[derive(Clone, Copy)]
-pub enum Check {
-    Accepted,
-    Refused(Refusal),
+pub struct Table<'a> {
+    pub n: u16,
+    pub lows: &'a [u16],
+    pub highs: &'a [u16],
+    pub states: &'a [u16],
+}
+
+// An accepted network: a table that passes the table check.
+#[derive(Clone, Copy)]
+pub struct Network<'a> {
+    pub table: Table<'a>,
+    ghost accepted: { OfTable Accepted table },
 }
 
 // What is wrong with one link after those before it.
-#[derive(Clone, Copy)]
-pub enum LinkCheck {
-    Fine,
+#[derive(Clone, Copy, PartialEq, Eq)]
+pub enum LinkFault {
     RelayRange,
     NotBelow,
     Repeated,
 }
 
-// The fault of a link with a relay number not below n.
-fn range_fault(n: u16, a: Relay, b: Relay) -> LinkCheck
-    ensures { fault_of result ≡ pick (leb n a.0 || leb n b.0) 5 0 }
-{
-    if n <= a.0 {
-        return LinkCheck::RelayRange;
+impl LinkFault {
+    // The refusal for this fault of a link.
+    pub fn of_link(self, link: usize) -> Refusal
+        ensures { fault_refusal self link result }
+    {
+        match self {
+            LinkFault::RelayRange => Refusal::RelayRange(link),
+            LinkFault::NotBelow => Refusal::NotBelow(link),
+            LinkFault::Repeated => Refusal::Repeated(link),
+        }
     }
-    if n <= b.0 {
-        return LinkCheck::RelayRange;
-    }
-    LinkCheck::Fine
 }
 
-// The fault of a link whose low number is not below its high one.
-fn rise_fault(a: Relay, b: Relay) -> LinkCheck
+// The numbers of a link are below n.
+fn range_check(n: u16, a: Relay, b: Relay) -> Result<(), LinkFault>
+    ensures { fault_of result ≡ pick (leb n a.0 || leb n b.0) 5 0 }
+{
+    if n <= a.0 || n <= b.0 {
+        return Err(LinkFault::RelayRange);
+    }
+    Ok(())
+}
+
+// The low number of a link is below its high one.
+fn rise_check(a: Relay, b: Relay) -> Result<(), LinkFault>
     ensures { fault_of result ≡ pick (leb b.0 a.0) 6 0 }
 {
     if b.0 <= a.0 {
-        return LinkCheck::NotBelow;
+        return Err(LinkFault::NotBelow);
     }
-    LinkCheck::Fine
+    Ok(())
 }
 
-// The first of two faults: the second stands only where the first is none.
-fn first_fault(first: LinkCheck, second: LinkCheck) -> LinkCheck
-    ensures { fault_of result ≡ pick (eqb (fault_of first) 0) (fault_of second) (fault_of first) }
-{
-    match first {
-        LinkCheck::Fine => second,
-        _ => first,
-    }
-}
-
-// The fault of a link's numbers alone: 5 comes before 6.
-fn number_fault(n: u16, a: Relay, b: Relay) -> LinkCheck
+// A link's numbers alone: 5 comes before 6.
+fn number_check(n: u16, a: Relay, b: Relay) -> Result<(), LinkFault>
     ensures { fault_of result ≡ pick (leb n a.0 || leb n b.0) 5 (pick (leb b.0 a.0) 6 0) }
 {
-    let range = range_fault(n, a, b);
-    let rise = rise_fault(a, b);
-    first_fault(range, rise)
+    range_check(n, a, b)?;
+    rise_check(a, b)
 }
 
-// Checks the link a b after those whose pairs are marked, and marks its pair if it is fine.
-pub fn check_link(n: u16, a: Relay, b: Relay, rows: &[u32], seen: &mut [u64]) -> LinkCheck
-    requires { (n ≤ 1000) × RowsFor n rows.now × RoomFor n seen.old }
-    ensures { LinkChecked n a.0 b.0 seen.old seen.new result }
+// Checks link by link, where no pair is marked yet. The two lists are lent side by side, so the links go by their index.
+fn links_check(lows: &[u16], highs: &[u16], marks: &mut PairMarks) -> Result<(), Refusal>
+    requires { (length lows.now ≡ length highs.now) × Seen marks.old.n marks.old.seen.now lows.now highs.now 0 }
+    ensures { outcome result ≡ links_check marks.old.n lows.now highs.now 0 (length lows.now) }
 {
-    if a.0 < b.0 {
-        if b.0 < n {
-            return mark_pair(n, a, b, rows, seen);
+    for i in 0..lows.len() {
+        if let Err(fault) = marks.check_link(Relay(lows[i]), Relay(highs[i])) {
+            return Err(fault.of_link(i));
         }
     }
-    number_fault(n, a, b)
+    Ok(())
 }
 
-// Checks link by link, where no pair is marked yet.
-fn links_check(n: u16, lows: &[u16], highs: &[u16], rows: &[u32], seen: &mut [u64]) -> Check
-    requires n_bound { (n ≤ 1000) × RowsFor n rows.now }
-    requires lows_len { (length lows.now ≡ length highs.now) × Seen n seen.old lows.now highs.now 0 }
-    ensures { check_outcome result ≡ links_check n lows.now highs.now 0 (length lows.now) }
+// Checks link by link, with row starts for so many relays and so many words of marks.
+fn links_check_in<const RELAYS: usize, const WORDS: usize>(
+    n: u16,
+    lows: &[u16],
+    highs: &[u16],
+) -> Result<(), Refusal>
+    requires sizes { (n ≤ RELAYS) × (RELAYS ≤ 1000) × (row_start n ≤ 64 * WORDS) × (WORDS ≤ 7805) }
+    requires even { length lows.now ≡ length highs.now }
+    ensures { outcome result ≡ links_check n lows.now highs.now 0 (length lows.now) }
 {
-    let mut i = 0;
-    while i < lows.len() {
-        let a = lows[i];
-        let b = highs[i];
-        match check_link(n, Relay(a), Relay(b), rows, seen) {
-            LinkCheck::Fine => {}
-            LinkCheck::RelayRange => {
-                return Check::Refused(Refusal::RelayRange(i));
-            }
-            LinkCheck::NotBelow => {
-                return Check::Refused(Refusal::NotBelow(i));
-            }
-            LinkCheck::Repeated => {
-                return Check::Refused(Refusal::Repeated(i));
-            }
-        }
-        i += 1;
-    }
-    Check::Accepted
+    let rows = row_starts::front::<RELAYS>();
+    let mut seen = [0u64; WORDS];
+    let mut marks = PairMarks {
+        n,
+        rows: &rows,
+        seen: &mut seen,
+    };
+    links_check(lows, highs, &mut marks)
 }
 
-// Checks link by link, with row starts and marks for as many relays as it takes.
-fn all_links_check(n: u16, lows: &[u16], highs: &[u16]) -> Check
+// Checks link by link, with row starts and marks for as many relays as it takes, so that little is cleared for a small network.
+fn all_links_check(n: u16, lows: &[u16], highs: &[u16]) -> Result<(), Refusal>
     requires { (n ≤ 1000) × (length lows.now ≡ length highs.now) }
-    ensures { check_outcome result ≡ links_check n lows.now highs.now 0 (length lows.now) }
+    ensures { outcome result ≡ links_check n lows.now highs.now 0 (length lows.now) }
 {
     if n <= FEWEST_RELAYS {
-        let front = row_starts::row_starts_of_32();
-        let mut fewest = pairs::no_pairs_of_32();
-        return links_check(n, lows, highs, &front, &mut fewest);
+        links_check_in::<FEWEST_RELAY_ROOM, 8>(n, lows, highs)
+    } else if n <= FEW_RELAYS {
+        links_check_in::<FEW_RELAY_ROOM, 127>(n, lows, highs)
+    } else if n <= 512 {
+        links_check_in::<RELAY_ROOM, 2044>(n, lows, highs)
+    } else {
+        links_check_in::<RELAY_ROOM, 7805>(n, lows, highs)
     }
-    if n <= FEW_RELAYS {
-        let first = row_starts::first_row_starts();
-        let mut few = pairs::no_pairs_of_128();
-        return links_check(n, lows, highs, &first, &mut few);
-    }
-    let rows = row_starts::row_starts();
-    if n <= 512 {
-        let mut more = pairs::no_pairs_of_512();
-        return links_check(n, lows, highs, &rows, &mut more);
-    }
-    let mut seen = pairs::no_pairs_of_1000();
-    links_check(n, lows, highs, &rows, &mut seen)
 }
 
-// The table check, which every operation on a table makes first.
-pub fn table_check(n: u16, lows: &[u16], highs: &[u16], states: &[u16]) -> Check
-    ensures { check_outcome result ≡ table_check n lows.now highs.now states.now }
-{
-    if n < 1 {
-        return Check::Refused(Refusal::RelayCount);
+impl<'a> Table<'a> {
+    // The table check, which every operation on a table makes first.
+    pub fn check(self) -> Result<Network<'a>, Refusal>
+        ensures answer { outcome result ≡ of_table table_check self.entry }
+        ensures same { IfOk result (λ network. network.table ≡ self.entry) }
+    {
+        if self.n < 1 || RELAYS < self.n {
+            return Err(Refusal::RelayCount);
+        }
+        if self.lows.len() != self.highs.len() || LINK_ROOM < self.lows.len() {
+            return Err(Refusal::LinkCount);
+        }
+        all_links_check(self.n, self.lows, self.highs)?;
+        states::states_check(self.n, self.states)?;
+        Ok(Network { table: self })
     }
-    if RELAYS < n {
-        return Check::Refused(Refusal::RelayCount);
-    }
-    if lows.len() != highs.len() {
-        return Check::Refused(Refusal::LinkCount);
-    }
-    if LINK_ROOM < lows.len() {
-        return Check::Refused(Refusal::LinkCount);
-    }
-    states::states_check(all_links_check(n, lows, highs), n, states)
 }

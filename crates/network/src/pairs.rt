@@ -1,21 +1,14 @@
 // Pair numbers, and the marks of the pairs seen so far, a bit for each pair number. What they hold is said in specs/Seen.antt.
-ghost use Rattle.std.specs.Prelude.{◌≡◌, ◌+◌, ◌<◌, ◌≤◌, replicate};
+ghost use Rattle.std.specs.Prelude.{◌≡◌, ◌+◌, ◌<◌, ◌≤◌};
 ghost use Rattle.definitions.specs.Network.{pair_number, pair_answer};
 ghost use Rattle.network.specs.Answers.{pair_outcome};
-ghost use Rattle.network.specs.RowStarts.{RowsFor};
+ghost use Rattle.network.specs.RowStarts.{RowsFor, RowsFor-prop};
 ghost use Rattle.network.specs.Seen.{RoomFor, LinkChecked};
 
 use crate::limits::RELAYS;
 use crate::refusal::Refusal;
 use crate::row_starts::row_start;
-use crate::{LinkCheck, Relay, row_starts};
-
-// The answer of the pair number.
-#[derive(Clone, Copy)]
-pub enum Pair {
-    Number(u32),
-    Refused(Refusal),
-}
+use crate::{LinkFault, Relay, number_check, row_starts};
 
 // The pair number, from row starts for both relays.
 fn pair_index(a: Relay, b: Relay, rows: &[u32]) -> u32
@@ -25,66 +18,59 @@ fn pair_index(a: Relay, b: Relay, rows: &[u32]) -> u32
     row_start(b, rows) + a.0 as u32
 }
 
-// No pair of up to 32 relays is marked yet: one bit for each of the 496 pair numbers.
-pub fn no_pairs_of_32() -> [u64; 8]
-    ensures { result ≡ replicate 8 0 }
-{
-    [0u64; 8]
+// The pairs of n relays that were seen so far: the row starts, and a bit for each pair number. Both are lent: arrays that it owned
+// would be copied, up to 66 KB, where it is made.
+#[derive(Drop)]
+pub struct PairMarks<'a> {
+    pub n: u16,
+    pub rows: &'a [u32],
+    pub seen: &'a mut [u64],
+    ghost few: { n ≤ 1000 },
+    ghost rows_for: { RowsFor n rows.now } by { RowsFor-prop n rows.now },
 }
 
-// No pair of up to 128 relays is marked yet: one bit for each of the 8,128 pair numbers.
-pub fn no_pairs_of_128() -> [u64; 127]
-    ensures { result ≡ replicate 127 0 }
-{
-    [0u64; 127]
-}
-
-// No pair of up to 512 relays is marked yet: one bit for each of the 130,816 pair numbers.
-pub fn no_pairs_of_512() -> [u64; 2044]
-    ensures { result ≡ replicate 2044 0 }
-{
-    [0u64; 2044]
-}
-
-// No pair of up to 1,000 relays is marked yet: one bit for each of the 499,500 pair numbers.
-pub fn no_pairs_of_1000() -> [u64; 7805]
-    ensures { result ≡ replicate 7805 0 }
-{
-    [0u64; 7805]
-}
-
-// Looks for the pair a b among those that are marked, and marks it if it is not there.
-pub(crate) fn mark_pair(n: u16, a: Relay, b: Relay, rows: &[u32], seen: &mut [u64]) -> LinkCheck
-    requires { (n ≤ 1000) × RowsFor n rows.now × RoomFor n seen.old × (a.0 < b.0) × (b.0 < n) }
-    ensures { LinkChecked n a.0 b.0 seen.old seen.new result }
-{
-    let pair = pair_index(a, b, rows) as usize;
-    let word = pair / 64;
-    let bit = pair % 64;
-    let bits = seen[word];
-    let marked = bits | (1u64 << bit);
-    if (bits >> bit) % 2 == 1 {
-        return LinkCheck::Repeated;
+impl<'a> PairMarks<'a> {
+    // Looks for the pair a b among those that are marked, and marks it if it is not there.
+    fn mark_pair(&mut self, a: Relay, b: Relay) -> Result<(), LinkFault>
+        requires { RoomFor self.old.n self.old.seen.now × (a.0 < b.0) × (b.0 < self.old.n) }
+        ensures checked { LinkChecked self.old.n a.0 b.0 self.old.seen.now self.new.seen.now result }
+        ensures same { self.new.n ≡ self.old.n }
+    {
+        let pair = pair_index(a, b, self.rows) as usize;
+        let word = pair / 64;
+        let bit = pair % 64;
+        let bits = self.seen[word];
+        let marked = bits | (1u64 << bit);
+        if (bits >> bit) % 2 == 1 {
+            return Err(LinkFault::Repeated);
+        }
+        self.seen[word] = marked;
+        Ok(())
     }
-    seen[word] = marked;
-    LinkCheck::Fine
+
+    // Checks the link a b after those whose pairs are marked, and marks its pair if it is fine.
+    pub fn check_link(&mut self, a: Relay, b: Relay) -> Result<(), LinkFault>
+        requires { RoomFor self.old.n self.old.seen.now }
+        ensures checked { LinkChecked self.old.n a.0 b.0 self.old.seen.now self.new.seen.now result }
+        ensures same { self.new.n ≡ self.old.n }
+    {
+        if a.0 < b.0 && b.0 < self.n {
+            return self.mark_pair(a, b);
+        }
+        number_check(self.n, a, b)
+    }
 }
 
 // The pair number of the link a b.
-pub fn pair_number(a: Relay, b: Relay) -> Pair
+pub fn pair_number(a: Relay, b: Relay) -> Result<u32, Refusal>
     ensures { pair_outcome result ≡ pair_answer a.0 b.0 }
 {
-    let low = a.0;
-    let high = b.0;
-    if RELAYS <= low {
-        return Pair::Refused(Refusal::RelayRange(0));
+    if RELAYS <= a.0 || RELAYS <= b.0 {
+        return Err(Refusal::RelayRange(0));
     }
-    if RELAYS <= high {
-        return Pair::Refused(Refusal::RelayRange(0));
-    }
-    if high <= low {
-        return Pair::Refused(Refusal::NotBelow(0));
+    if b.0 <= a.0 {
+        return Err(Refusal::NotBelow(0));
     }
     let rows = row_starts::row_starts();
-    Pair::Number(pair_index(a, b, &rows))
+    Ok(pair_index(a, b, &rows))
 }

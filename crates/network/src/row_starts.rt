@@ -1,11 +1,11 @@
 // The row starts as a table of constants, from which every pair number is worked out.
 // The rule of its entries, and the test that shows it, are in specs/RowStarts.antt.
-ghost use Rattle.std.specs.Prelude.{◌≡◌, ◌+◌};
+ghost use Rattle.std.specs.Prelude.{◌≡◌, ◌+◌, ◌≤◌};
 ghost use Rattle.definitions.specs.Network.{row_start};
 ghost use Rattle.network.specs.RowStarts.{RowsFor};
 
 use crate::Relay;
-use crate::limits::{FEW_RELAY_ROOM, FEWEST_RELAY_ROOM, RELAY_ROOM};
+use crate::limits::RELAY_ROOM;
 
 // Entry b is b × (b − 1) / 2: document 02, #102, "a constant table of 1,000 row starts".
 // Printed by: for ((b = 0; b < 1000; b++)); do echo "    $((b * (b - 1) / 2)),"; done
@@ -97,31 +97,14 @@ pub fn row_starts() -> [u32; RELAY_ROOM]
     ROW_STARTS
 }
 
-// The front of the table, for up to 128 relays; the compiler lays out no more than these 512 bytes.
-pub fn first_row_starts() -> [u32; FEW_RELAY_ROOM]
-    ensures { RowsFor 128 result }
+// The front of the table, for up to so many relays; the compiler lays out no more than these entries.
+pub fn front<const RELAYS: usize>() -> [u32; RELAYS]
+    requires { RELAYS ≤ 1000 }
+    ensures { RowsFor RELAYS result }
 {
     let rows = row_starts();
-    let mut first = [0u32; FEW_RELAY_ROOM];
-    let mut b = 0;
-    while b < FEW_RELAY_ROOM {
-        first[b] = rows[b];
-        b += 1;
-    }
-    first
-}
-
-// The front of the table, for up to 32 relays: 128 bytes.
-pub fn row_starts_of_32() -> [u32; FEWEST_RELAY_ROOM]
-    ensures { RowsFor 32 result }
-{
-    let rows = row_starts();
-    let mut front = [0u32; FEWEST_RELAY_ROOM];
-    let mut b = 0;
-    while b < FEWEST_RELAY_ROOM {
-        front[b] = rows[b];
-        b += 1;
-    }
+    let mut front = [0u32; RELAYS];
+    front.copy_from_slice(&rows[..RELAYS]);
     front
 }
 

@@ -2,12 +2,12 @@
 ghost use Rattle.std.specs.Prelude.{[], ◌≡◌, ◌<◌, length};
 ghost use Rattle.definitions.specs.Outcome.{done, refuse_if, and_then};
 ghost use Rattle.definitions.specs.Network.{serves, states_fault};
-ghost use Rattle.network.specs.Answers.{check_outcome};
+ghost use Rattle.network.specs.Answers.{outcome};
 
+use crate::Relay;
 use crate::refusal::Refusal;
-use crate::{Check, Relay};
 
-// Whether a relay is in service.
+// Whether a relay is in service. A state is a number and no enum: the list of states is lent by C.
 pub fn in_service(states: &[u16], relay: Relay) -> bool
     requires { relay.0 < length states.now }
     ensures { result ≡ serves states.now relay.0 }
@@ -25,26 +25,18 @@ fn states_fault(n: u16, states: &[u16]) -> bool
         return true;
     }
     let mut all = 0;
-    let mut i = 0;
-    while i < states.len() {
-        all = all | states[i];
-        i += 1;
+    for state in states {
+        all |= *state;
     }
     1 < all
 }
 
-// What the links were refused for stands; after good links the states decide.
-pub(crate) fn states_check(links: Check, n: u16, states: &[u16]) -> Check
-    ensures { check_outcome result
-        ≡ and_then (check_outcome links) (λ _. refuse_if (states_fault n states.now) 16 0 (done [])) }
+// The states of n relays.
+pub(crate) fn states_check(n: u16, states: &[u16]) -> Result<(), Refusal>
+    ensures { outcome result ≡ refuse_if (states_fault n states.now) 16 0 (done []) }
 {
-    match links {
-        Check::Refused(refusal) => Check::Refused(refusal),
-        Check::Accepted => {
-            if states_fault(n, states) {
-                return Check::Refused(Refusal::States);
-            }
-            Check::Accepted
-        }
+    if states_fault(n, states) {
+        return Err(Refusal::States);
     }
+    Ok(())
 }

@@ -17,11 +17,8 @@ mod link_reports;
 mod printed;
 mod report;
 
-use forests::{CutAnswer, OrderAnswer, SplitAnswer};
-use network::Relay;
-use routes::RouteAnswer;
-use text::WriteAnswer;
-use verify::SheetAnswer;
+use network::{Relay, Table};
+use routes::Wish;
 
 // The table check.
 #[unsafe(no_mangle)]
@@ -34,9 +31,15 @@ pub extern "C" fn nolkisei_check(
 ) -> u32
     ensures { reported (table_check n lows.now highs.now states.now) ≡ (result, answer.new) }
 {
-    match network::table_check(n, lows, highs, states) {
-        network::Check::Accepted => report::give(0, 0, answer),
-        network::Check::Refused(refusal) => report::refuse(refusal, answer),
+    let table = Table {
+        n,
+        lows,
+        highs,
+        states,
+    };
+    match table.check() {
+        Ok(_) => report::give(0, 0, answer),
+        Err(refusal) => report::refuse(refusal, answer),
     }
 }
 
@@ -46,8 +49,8 @@ pub extern "C" fn nolkisei_pair(a: u16, b: u16, answer: &mut [u64; 2]) -> u32
     ensures { reported (pair_answer a b) ≡ (result, answer.new) }
 {
     match network::pair_number(Relay(a), Relay(b)) {
-        network::Pair::Number(number) => report::give(number as u64, 0, answer),
-        network::Pair::Refused(refusal) => report::refuse(refusal, answer),
+        Ok(number) => report::give(u64::from(number), 0, answer),
+        Err(refusal) => report::refuse(refusal, answer),
     }
 }
 
@@ -99,9 +102,15 @@ pub extern "C" fn nolkisei_write(
         ≡ (result, answer.new) }
     ensures bytes { buffer.new ≡ buffer_after n lows.now highs.now states.now buffer.old }
 {
-    match text::write(n, lows, highs, states, buffer) {
-        WriteAnswer::Length(size) => report::give(size as u64, 0, answer),
-        WriteAnswer::Refused(refusal) => report::refuse(refusal, answer),
+    let table = Table {
+        n,
+        lows,
+        highs,
+        states,
+    };
+    match text::write(table, buffer) {
+        Ok(size) => report::give(size as u64, 0, answer),
+        Err(refusal) => report::refuse(refusal, answer),
     }
 }
 
@@ -123,9 +132,15 @@ pub extern "C" fn nolkisei_order(
     ensures places { places.new
         ≡ places_after n lows.now highs.now states.now relays.old places.old }
 {
-    match forests::order(n, lows, highs, states, relays, places) {
-        OrderAnswer::Done => report::give(0, 0, answer),
-        OrderAnswer::Refused(refusal) => report::refuse(refusal, answer),
+    let table = Table {
+        n,
+        lows,
+        highs,
+        states,
+    };
+    match forests::order(table, relays, places) {
+        Ok(()) => report::give(0, 0, answer),
+        Err(refusal) => report::refuse(refusal, answer),
     }
 }
 
@@ -143,9 +158,15 @@ pub extern "C" fn nolkisei_split(
         ≡ (result, answer.new) }
     ensures forests { forests.new ≡ forests_after n lows.now highs.now states.now forests.old }
 {
-    match forests::split(n, lows, highs, states, forests) {
-        SplitAnswer::Highest(forest) => report::give(forest as u64, 0, answer),
-        SplitAnswer::Refused(refusal) => report::refuse(refusal, answer),
+    let table = Table {
+        n,
+        lows,
+        highs,
+        states,
+    };
+    match forests::split(table, forests) {
+        Ok(forest) => report::give(u64::from(forest), 0, answer),
+        Err(refusal) => report::refuse(refusal, answer),
     }
 }
 
@@ -164,9 +185,15 @@ pub extern "C" fn nolkisei_cut(
         ≡ (result, answer.new) }
     ensures marks { marks.new ≡ marks_after n lows.now highs.now states.now k marks.old }
 {
-    match forests::cut(n, lows, highs, states, k, marks) {
-        CutAnswer::Kept(count) => report::give(count as u64, 0, answer),
-        CutAnswer::Refused(refusal) => report::refuse(refusal, answer),
+    let table = Table {
+        n,
+        lows,
+        highs,
+        states,
+    };
+    match forests::cut(table, k, marks) {
+        Ok(count) => report::give(u64::from(count), 0, answer),
+        Err(refusal) => report::refuse(refusal, answer),
     }
 }
 
@@ -198,20 +225,20 @@ pub extern "C" fn nolkisei_route(
         ≡ scratch_after n lows.now highs.now states.now k from to counts.old relays.old
         scratch.old }
 {
-    match routes::route(
+    let table = Table {
         n,
         lows,
         highs,
         states,
+    };
+    let wish = Wish {
+        from: Relay(from),
+        to: Relay(to),
         k,
-        Relay(from),
-        Relay(to),
-        counts,
-        relays,
-        scratch,
-    ) {
-        RouteAnswer::Written(total) => report::give(total as u64, 0, answer),
-        RouteAnswer::Refused(refusal) => report::refuse(refusal, answer),
+    };
+    match routes::route(table, wish, counts, relays, scratch) {
+        Ok(total) => report::give(total as u64, 0, answer),
+        Err(refusal) => report::refuse(refusal, answer),
     }
 }
 
@@ -248,21 +275,20 @@ pub extern "C" fn nolkisei_route_links(
         ≡ route_links_scratch n lows.now highs.now states.now k from to counts.old relays.old
         links.old scratch.old }
 {
-    match routes::route_links(
+    let table = Table {
         n,
         lows,
         highs,
         states,
+    };
+    let wish = Wish {
+        from: Relay(from),
+        to: Relay(to),
         k,
-        Relay(from),
-        Relay(to),
-        counts,
-        relays,
-        links,
-        scratch,
-    ) {
-        RouteAnswer::Written(total) => report::give(total as u64, 0, answer),
-        RouteAnswer::Refused(refusal) => report::refuse(refusal, answer),
+    };
+    match routes::route_links(table, wish, counts, relays, links, scratch) {
+        Ok(total) => report::give(total as u64, 0, answer),
+        Err(refusal) => report::refuse(refusal, answer),
     }
 }
 
@@ -278,9 +304,15 @@ pub extern "C" fn nolkisei_verify(
 ) -> u32
     ensures { reported (sheet_answer n lows.now highs.now states.now text.now) ≡ (result, answer.new) }
 {
-    match verify::check_sheet(n, lows, highs, states, text) {
-        SheetAnswer::Holds => report::give(1, 0, answer),
-        SheetAnswer::Fails => report::give(0, 0, answer),
-        SheetAnswer::Refused(refusal) => report::refuse(refusal, answer),
+    let table = Table {
+        n,
+        lows,
+        highs,
+        states,
+    };
+    match verify::check_sheet(table, text) {
+        Ok(true) => report::give(1, 0, answer),
+        Ok(false) => report::give(0, 0, answer),
+        Err(refusal) => report::refuse(refusal, answer),
     }
 }

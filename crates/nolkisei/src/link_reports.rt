@@ -13,9 +13,9 @@ pub extern "C" fn nolkisei_stands(first: &[u8], second: &[u8], answer: &mut [u64
     ensures { reported (stands_answer first.now second.now) ≡ (result, answer.new) }
 {
     match stands::which_stands(first, second) {
-        Which::First => report::give(0, first.len() as u64, answer),
-        Which::Second => report::give(1, second.len() as u64, answer),
-        Which::Refused(refusal) => report::refuse(refusal, answer),
+        Ok(Which::First) => report::give(0, first.len() as u64, answer),
+        Ok(Which::Second) => report::give(1, second.len() as u64, answer),
+        Err(refusal) => report::refuse(refusal, answer),
     }
 }
 

@@ -6,7 +6,6 @@ ghost use Rattle.definitions.specs.Keep.{keep_text};
 ghost use Rattle.nolkisei.specs.Reported.{reported};
 
 use crate::report;
-use program::into::PrintAnswer;
 
 // The planner: the sheet or the refused line for an input.
 #[unsafe(no_mangle)]
@@ -15,8 +14,8 @@ pub extern "C" fn nolkisei_plan(input: &[u8], output: &mut [u8], answer: &mut [u
     ensures bytes { output.new ≡ output_after (plan_text input.now) output.old }
 {
     match plan::plan_into(input, output) {
-        PrintAnswer::Printed(size) => report::give(size as u64, 0, answer),
-        PrintAnswer::Refused(refusal) => report::refuse(refusal, answer),
+        Ok(size) => report::give(size as u64, 0, answer),
+        Err(refusal) => report::refuse(refusal, answer),
     }
 }
 
@@ -27,7 +26,7 @@ pub extern "C" fn nolkisei_keep(input: &[u8], output: &mut [u8], answer: &mut [u
     ensures bytes { output.new ≡ output_after (keep_text input.now) output.old }
 {
     match keep::keep_into(input, output) {
-        PrintAnswer::Printed(size) => report::give(size as u64, 0, answer),
-        PrintAnswer::Refused(refusal) => report::refuse(refusal, answer),
+        Ok(size) => report::give(size as u64, 0, answer),
+        Err(refusal) => report::refuse(refusal, answer),
     }
 }

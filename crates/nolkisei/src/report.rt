@@ -6,7 +6,7 @@ ghost use Rattle.text.specs.Answers.{read_outcome};
 ghost use Rattle.nolkisei.specs.Reported.{reported};
 
 use network::Refusal;
-use text::ReadAnswer;
+use text::TableSize;
 
 // Reports success with two values, 0 for none.
 pub fn give(first: u64, second: u64, answer: &mut [u64; 2]) -> u32
@@ -20,16 +20,16 @@ pub fn give(first: u64, second: u64, answer: &mut [u64; 2]) -> u32
 pub fn refuse(refusal: Refusal, answer: &mut [u64; 2]) -> u32
     ensures { reported (refusal_of refusal) ≡ (result, answer.new) }
 {
-    *answer = [network::refusal_place(refusal) as u64, 0];
-    network::refusal_number(refusal) as u32
+    *answer = [refusal.place() as u64, 0];
+    u32::from(refusal.number())
 }
 
 // Done with the number of relays and of links of a table that was read, or refused.
-pub(crate) fn table(read: ReadAnswer, answer: &mut [u64; 2]) -> u32
+pub(crate) fn table(read: Result<TableSize, Refusal>, answer: &mut [u64; 2]) -> u32
     ensures { reported (read_outcome read) ≡ (result, answer.new) }
 {
     match read {
-        ReadAnswer::Table(n, m) => give(n as u64, m as u64, answer),
-        ReadAnswer::Refused(refusal) => refuse(refusal, answer),
+        Ok(size) => give(u64::from(size.relays), u64::from(size.links), answer),
+        Err(refusal) => refuse(refusal, answer),
     }
 }

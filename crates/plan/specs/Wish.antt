@@ -1,16 +1,16 @@
 -- The answer of the wish line's reading as the definitions' `Scan`, and its parts. Assumes nothing.
-use Rattle.std.specs.Prelude.{ℕ, List, [], ◌∷◌, ◌≡◌}
+use Rattle.std.specs.Prelude.{ℕ, Result, Ok, Err, List, [], ◌∷◌, ◌≡◌}
 use Rattle.std.proofs.Common.{◌∙◌}
 use Rattle.definitions.specs.Form.{bytes, word, numeral, Scan, departs, reads, with_front, following, scan_form}
 use Rattle.definitions.specs.Plan.{wish_form}
 use Rattle.text.specs.Scans.{pair_form}
 use Rattle.program.specs.Parts.{form-append}
-use Rattle.plan.specs.declared.wish.WishScan.{WishScan}
-use Rattle.plan.specs.declared.wish.WishScan.TheVariants as wishes
+use Rattle.text.specs.declared.scan.Departure.{Departure}
+use Rattle.routes.specs.declared.Wish.{Wish}
 
-abbrev pub wish_gives : WishScan → Scan
-wish_gives (wishes.Departs p) = departs p
-wish_gives (wishes.Reads from to k p) = reads (from ∷ to ∷ k ∷ []) p
+abbrev pub wish_gives : Result (Wish × ℕ) Departure → Scan
+wish_gives (Ok (wish, p)) = reads (wish.from.0 ∷ wish.to.0 ∷ wish.k ∷ []) p
+wish_gives (Err departure) = departs departure.0
 
 -- The wish line: a line of two numbers, and a third with the line end.
 wish-parts : (text : List ℕ)

@@ -8,10 +8,10 @@ ghost use Rattle.definitions.specs.Plan.{plan_text};
 ghost use Rattle.program.specs.Into.{print_outcome};
 
 use network::Refusal;
-use program::into::{PrintAnswer, print_into};
+use program::into::print_into;
 use program::refusal::put_refusal;
 use stages::plan_network;
-use wish::{WishScan, wish_line};
+use wish::wish_line;
 
 pub mod print;
 pub mod rooms;
@@ -24,17 +24,18 @@ pub fn plan(input: &[u8], output: &mut [u8; rooms::OUTPUT]) -> usize
     ensures bytes { output.new ≡ overwrite (plan_text input.now) output.old }
 {
     match wish_line(input) {
-        WishScan::Departs(p) => put_refusal(output, Refusal::Wish(p)),
-        WishScan::Reads(from, to, k, p) => plan_network(output, &input[p..], from, to, k),
+        Ok((wish, p)) => plan_network(output, &input[p..], wish),
+        Err(departure) => put_refusal(output, Refusal::Wish(departure.0)),
     }
 }
 
-// The same into a list of any length: refused where it is shorter than what is to be printed, and then left as it was.
-pub fn plan_into(input: &[u8], output: &mut [u8]) -> PrintAnswer
+// The same into a list of any length: refused where it is shorter than what is to be printed, and then left as it was. The list of links
+// has the like (`keep::keep_into`), with a room of another size.
+pub fn plan_into(input: &[u8], output: &mut [u8]) -> Result<usize, Refusal>
     ensures answer { print_outcome result ≡ print_answer (plan_text input.now) output.old }
     ensures bytes { output.new ≡ output_after (plan_text input.now) output.old }
 {
-    let mut room = rooms::output();
+    let mut room = [0; rooms::OUTPUT];
     let size = plan(input, &mut room);
     print_into(&room[..size], output)
 }

@@ -4,25 +4,22 @@ ghost use Rattle.definitions.specs.Form.{scan_form};
 ghost use Rattle.definitions.specs.Plan.{wish_form};
 ghost use Rattle.plan.specs.Wish.{wish_gives};
 
+use network::Relay;
 use program::line::number_word;
+use routes::Wish;
 use text::scan;
-use text::scan::{NumberScan, PairScan};
+use text::scan::Departure;
 
-// The offset of the first byte that departs, or the wish's three numbers and the offset behind the line.
-#[derive(Clone, Copy)]
-pub enum WishScan {
-    Departs(usize),
-    Reads(u16, u16, u16, usize),
-}
-
-pub fn wish_line(input: &[u8]) -> WishScan
+// The wish and the offset after its line.
+pub fn wish_line(input: &[u8]) -> Result<(Wish, usize), Departure>
     ensures { wish_gives result ≡ scan_form input.now wish_form 0 }
 {
-    match scan::pair_line(input, b"(want ", b" ", b" ", 0) {
-        PairScan::Departs(p) => WishScan::Departs(p),
-        PairScan::Reads(from, to, p) => match number_word(input, b")\n", p) {
-            NumberScan::Departs(q) => WishScan::Departs(q),
-            NumberScan::Reads(k, q) => WishScan::Reads(from, to, k, q),
-        },
-    }
+    let (from, to, p) = scan::pair_line(input, b"(want ", b" ", b" ", 0)?;
+    let (k, next) = number_word(input, b")\n", p)?;
+    let wish = Wish {
+        from: Relay(from),
+        to: Relay(to),
+        k,
+    };
+    Ok((wish, next))
 }

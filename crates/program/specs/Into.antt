@@ -1,5 +1,5 @@
 -- What the answer of printing into a lent list stands for, and the list afterwards. Assumes nothing.
-use Rattle.std.specs.Prelude.{ℕ, ◌≤◌, ◌<◌, List, [], ◌∷◌, ◌≡◌, refl}
+use Rattle.std.specs.Prelude.{ℕ, Result, Ok, Err, ◌≤◌, ◌<◌, List, [], ◌∷◌, ◌≡◌, refl}
 use Rattle.std.proofs.Common.{◌∙◌, arith, lt-ltb, le-ltb}
 use Rattle.std.proofs.Math.Path.{ap}
 use Rattle.std.proofs.Math.ListN.{length}
@@ -9,12 +9,11 @@ use Rattle.network.specs.Answers.{refusal_of}
 use Rattle.network.specs.declared.refusal.Refusal.TheVariants.{Room}
 use Rattle.text.specs.Put.{Put}
 use Rattle.lists.specs.Stores.{sets-overwrite}
-use Rattle.program.specs.declared.into.PrintAnswer.{PrintAnswer}
-use Rattle.program.specs.declared.into.PrintAnswer.TheVariants as printing
+use Rattle.network.specs.declared.refusal.Refusal.{Refusal}
 
-abbrev pub print_outcome : PrintAnswer → Answer
-print_outcome (printing.Printed size) = done (size ∷ [])
-print_outcome (printing.Refused refusal) = refusal_of refusal
+abbrev pub print_outcome : Result ℕ Refusal → Answer
+print_outcome (Ok size) = done (size ∷ [])
+print_outcome (Err refusal) = refusal_of refusal
 
 module _ (text output : List ℕ) where
   pub print-short : length output < length text → (refusal_of Room ≡ print_answer text output) × (output ≡ output_after text output)

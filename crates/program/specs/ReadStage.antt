@@ -1,6 +1,6 @@
 -- What the stages of every program share: what is printed of equal outcomes, a refusal that stands, the line in front, and the network
 -- that a reading leaves in the front of three lists. Assumes nothing.
-use Rattle.std.specs.Prelude.{ℕ, ◌-◌, ◌≤◌, List, [], ◌∷◌, ◌≡◌, length}
+use Rattle.std.specs.Prelude.{ℕ, Result, Ok, Err, ◌-◌, ◌≤◌, List, [], ◌∷◌, ◌≡◌, refl, length, replicate}
 use Rattle.std.proofs.Common.{sym, ◌∙◌, ap, subst, arith, length-append}
 use Rattle.std.proofs.Math.ListN.{take, drop, length-drop}
 use Rattle.std.proofs.lemmas.List.{length-replicate}
@@ -25,9 +25,8 @@ use Rattle.network.specs.Answers.{refusal_of, refusal_number, refusal_place}
 use Rattle.network.specs.Refusals.{refusal-then}
 use Rattle.network.specs.declared.refusal.Refusal.{Refusal}
 use Rattle.network.specs.declared.refusal.Refusal.TheVariants.{Wish}
-use Rattle.text.specs.Answers.{read_outcome}
-use Rattle.text.specs.declared.ReadAnswer.{ReadAnswer}
-use Rattle.text.specs.declared.ReadAnswer.TheVariants as reading
+use Rattle.network.specs.Tables.{of_table}
+use Rattle.network.specs.declared.Network.{Network as Lent}
 
 -- Two outcomes that are the same are printed alike.
 pub fits-as : {A : Type 0} (text_of : A → List ℕ) (one other : Outcome A) (size : ℕ) → one ≡ other
@@ -72,6 +71,11 @@ answer-refused {A} {B} (done x) f refusal e =
     let same : ◌≡◌ {A = Outcome B} (done (f x)) (refused (refusal_number refusal) (refusal_place refusal)) = e in
     let z : ◌≡◌ {A = ℕ} 0 1 = cc in
     absurd (omega arith)
+
+-- A list of zeros is a program's own list.
+pub zeros-room : (size : ℕ) → replicate size 0 ≡ room size
+unfolding room
+zeros-room size = refl
 
 pub length-room : (size : ℕ) → length (room size) ≡ size
 unfolding room
@@ -141,54 +145,54 @@ reading-done reading lows highs states n m rooms accepts e =
       read = same-rooms reading lows highs states rooms ∙ read ∙ ap done same;
     }
 
--- What a program has once its lists are read into, by what the reading answered: its refusal, or the table in their front.
-pub record Loads (outcome : Outcome Network) (answer : ReadAnswer) (lows highs states : List ℕ) : Type 0 where
-  pub refuses : (refusal : Refusal) → answer ≡ reading.Refused refusal → outcome ≡ refusal_of refusal
-  pub gives : (n m : ℕ) → answer ≡ reading.Table n m → FrontTable outcome n m lows highs states
+-- What a reading into a program's own lists answers: the network in their front, or the refusal.
+abbrev pub network_in : Lent → Network
+network_in network = of_table network_of network.table
 
--- That table, named by what the reading ensures and by its answer, so that a proof can say it once of a place.
-abbrev pub LoadedTable : {outcome : Outcome Network} {answer : ReadAnswer} {lows highs states : List ℕ} {n m : ℕ}
-    → Loads outcome answer lows highs states → answer ≡ reading.Table n m → Type 0
-LoadedTable {outcome} {answer} {lows} {highs} {states} {n} {m} loaded told = FrontTable outcome n m lows highs states
+abbrev pub network_outcome : Result Lent Refusal → Outcome Network
+network_outcome (Ok network) = done (network_in network)
+network_outcome (Err refusal) = refusal_of refusal
 
-pub reading-loads : (read : ℕ → ℕ → ℕ → Outcome Network) (lows highs states : List ℕ) (answer : ReadAnswer) (lows_now highs_now states_now : List ℕ)
-    → length lows ≡ 3000 → length highs ≡ 3000 → length states ≡ 1000
-    → let whole = read (length lows) (length highs) (length states) in
-    ((network : Network) → whole ≡ done network → Accepted network.relays network.lows network.highs network.states)
-    → (read_outcome answer ≡ counts_of whole) × ((lows_now ≡ filled (λ network. network.lows) whole lows)
-    × ((highs_now ≡ filled (λ network. network.highs) whole highs) × (states_now ≡ filled (λ network. network.states) whole states)))
-    → Loads (read 3000 3000 1000) answer lows_now highs_now states_now
-reading-loads read lows highs states answer lows_now highs_now states_now low high state accepts (told, (lows_are, (highs_are, states_are))) =
-    let rooms : Rooms lows highs states = record { in_lows = low; in_highs = high; in_states = state } in
-    record {
-      refuses = λ refusal e. reading-refused read lows highs states refusal rooms (sym told ∙ ap read_outcome e);
-      gives =
-          λ n m e.
-          rw (lows_are, highs_are, states_are)
-          (reading-done read lows highs states n m rooms accepts (sym told ∙ ap read_outcome e));
-    }
+-- An accepted network stands in the front of the lists.
+pub record Front (n m : ℕ) (lows highs states : List ℕ) : Type 0 where
+  pub in_lows : m ≤ length lows
+  pub in_highs : m ≤ length highs
+  pub in_states : n ≤ length states
+  pub accepted : Accepted n (take m lows) (take m highs) (take n states)
 
--- What follows a reading: its refusal, or the work with the table.
-pub loaded-refused : {A : Type 0} (work : Network → Outcome A) (outcome : Outcome Network) (answer : ReadAnswer) (lows highs states : List ℕ)
-    (refusal : Refusal) → Loads outcome answer lows highs states → answer ≡ reading.Refused refusal → and_then outcome work ≡ refusal_of refusal
-loaded-refused work outcome answer lows highs states refusal loaded e = stage-refused outcome work refusal (loaded.refuses refusal e)
+abbrev pub front_network : (n m : ℕ) (lows highs states : List ℕ) → Network
+front_network n m lows highs states = network_of n (take m lows) (take m highs) (take n states)
 
-pub loaded-table : {A : Type 0} (work : Network → Outcome A) (outcome : Outcome Network) (n m : ℕ) (lows highs states : List ℕ)
-    → FrontTable outcome n m lows highs states
-    → and_then outcome work ≡ work (network_of n (take m lows) (take m highs) (take n states))
-loaded-table work outcome n m lows highs states table =
-    then-done outcome work (network_of n (take m lows) (take m highs) (take n states)) table.read
+pub table-front : (outcome : Outcome Network) (n m : ℕ) (lows highs states : List ℕ) → FrontTable outcome n m lows highs states
+    → Front n m lows highs states
+table-front outcome n m lows highs states table =
+    record { in_lows = table.in_lows; in_highs = table.in_highs; in_states = table.in_states; accepted = table.accepted }
+
+-- What follows a reading: its refusal, or the work with the network.
+pub loaded-refused : {A : Type 0} (work : Network → Outcome A) (outcome : Outcome Network) (refusal : Refusal)
+    → refusal_of refusal ≡ outcome → and_then outcome work ≡ refusal_of refusal
+loaded-refused work outcome refusal e = stage-refused outcome work refusal (sym e)
+
+pub loaded-network : {A : Type 0} (work : Network → Outcome A) (outcome : Outcome Network) (network : Network)
+    → done network ≡ outcome → and_then outcome work ≡ work network
+loaded-network work outcome network e = then-done outcome work network (sym e)
 
 -- Read's own.
-pub read-loads : (text lows highs states : List ℕ) (answer : ReadAnswer) (lows_now highs_now states_now : List ℕ)
-    → length lows ≡ 3000 → length highs ≡ 3000 → length states ≡ 1000
-    → (read_outcome answer ≡ read_answer text lows highs states) × ((lows_now ≡ lows_after text lows highs states)
-    × ((highs_now ≡ highs_after text lows highs states) × (states_now ≡ states_after text lows highs states)))
-    → Loads (read_network text 3000 3000 1000) answer lows_now highs_now states_now
+pub read-refused : (text lows highs states : List ℕ) (refusal : Refusal) → Rooms lows highs states
+    → refusal_of refusal ≡ read_answer text lows highs states → refusal_of refusal ≡ read_network text 3000 3000 1000
+unfolding read_answer
+read-refused text lows highs states refusal rooms told =
+    sym (reading-refused (read_network text) lows highs states refusal rooms (sym told))
+
+pub read-table : (text lows highs states : List ℕ) (n m : ℕ) (lows_now highs_now states_now : List ℕ) → Rooms lows highs states
+    → done (n ∷ m ∷ []) ≡ read_answer text lows highs states → lows_now ≡ lows_after text lows highs states
+    → highs_now ≡ highs_after text lows highs states → states_now ≡ states_after text lows highs states
+    → FrontTable (read_network text 3000 3000 1000) n m lows_now highs_now states_now
 unfolding read_answer lows_after highs_after states_after
-read-loads text lows highs states answer lows_now highs_now states_now low high state told =
-    reading-loads (read_network text) lows highs states answer lows_now highs_now states_now low high state
-    (λ network e. (written_read text (length lows) (length highs) (length states) network e).1) told
+read-table text lows highs states n m lows_now highs_now states_now rooms told low high state =
+    rw (low, high, state)
+    (reading-done (read_network text) lows highs states n m rooms
+    (λ network e. (written_read text (length lows) (length highs) (length states) network e).1) (sym told))
 
 -- The network that was asked about is an accepted one.
 pub asked-accepted : (form : List Item) (answers : List ℕ → Network → List Answer) (input numbers : List ℕ) (network : Network)

@@ -5,7 +5,6 @@
 pub mod border;
 pub mod into;
 pub mod line;
-pub mod load;
 pub mod made;
 pub mod refusal;
 pub mod rooms;

@@ -7,35 +7,32 @@ ghost use Rattle.text.specs.Put.{Put};
 ghost use Rattle.text.specs.Scans.{number_gives};
 ghost use Rattle.program.specs.Single.{single_form, triple_form};
 
-use text::scan::{NumberScan, WordScan};
+use text::scan::Departure;
 use text::{put, scan};
 
 // A number and the word behind it.
-pub fn number_word(text: &[u8], letters: &[u8], at: usize) -> NumberScan
+pub fn number_word(text: &[u8], letters: &[u8], at: usize) -> Result<(u16, usize), Departure>
     requires { no_zero letters.now ≡ true }
     ensures { number_gives result ≡ scan_form text.now (numeral ∷ word letters.now ∷ []) at }
 {
-    match scan::number(text, at) {
-        NumberScan::Departs(p) => NumberScan::Departs(p),
-        NumberScan::Reads(x, p) => match scan::word(text, letters, p) {
-            WordScan::Departs(q) => NumberScan::Departs(q),
-            WordScan::Reads(q) => NumberScan::Reads(x, q),
-        },
-    }
+    let (x, p) = scan::number(text, at)?;
+    let q = scan::word(text, letters, p)?;
+    Ok((x, q))
 }
 
 // A line of one number: two words with the number between them.
-pub fn single_line(text: &[u8], front: &[u8], back: &[u8], at: usize) -> NumberScan
+pub fn single_line(
+    text: &[u8],
+    front: &[u8],
+    back: &[u8],
+    at: usize,
+) -> Result<(u16, usize), Departure>
     requires { (no_zero front.now ≡ true) × (no_zero back.now ≡ true) }
     ensures { number_gives result ≡ scan_form text.now (single_form front.now back.now) at }
 {
-    match scan::word_number(text, front, at) {
-        NumberScan::Departs(p) => NumberScan::Departs(p),
-        NumberScan::Reads(x, p) => match scan::word(text, back, p) {
-            WordScan::Departs(q) => NumberScan::Departs(q),
-            WordScan::Reads(q) => NumberScan::Reads(x, q),
-        },
-    }
+    let (x, p) = scan::word_number(text, front, at)?;
+    let q = scan::word(text, back, p)?;
+    Ok((x, q))
 }
 
 // The same, printed.

@@ -6,7 +6,7 @@ ghost use Rattle.network.specs.Answers.{refusal_number, refusal_place};
 ghost use Rattle.text.specs.Put.{Put};
 ghost use Rattle.program.specs.RefusedLine.{line_room, LinePut};
 
-use network::{Refusal, refusal_number, refusal_place};
+use network::Refusal;
 use text::put;
 
 // The bytes that every refused line fits: with two numbers of twenty digits it has as many.
@@ -26,18 +26,14 @@ pub fn put_refusal(output: &mut [u8], refusal: Refusal) -> usize
     ensures { Put output.old 0 (write_form refused_form (refusal_number refusal ∷ refusal_place refusal ∷ []))
         output.new result }
 {
-    let number = refusal_number(refusal) as usize;
-    let place = refusal_place(refusal);
-    put_refused(output, number, place)
+    put_refused(output, refusal.number() as usize, refusal.place())
 }
 
-// The same in a room that every number and place fits.
+// The same in a room that every number and place fits: its callers know no bound on the line, and it tells them one.
 pub fn put_any(output: &mut [u8], refusal: Refusal) -> usize
     requires { line_room ≤ length output.old }
     ensures { LinePut output.old (write_form refused_form (refusal_number refusal ∷ refusal_place refusal ∷ []))
         output.new result }
 {
-    let number = refusal_number(refusal) as usize;
-    let place = refusal_place(refusal);
-    put_refused(output, number, place)
+    put_refused(output, refusal.number() as usize, refusal.place())
 }

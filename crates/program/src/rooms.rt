@@ -1,19 +1,54 @@
-// A program's own lists: zeros, and long enough for every network.
+// A program's own lists for a network, long enough for every one, and the network that a reading leaves in their front.
 ghost use Rattle.std.specs.Prelude.{◌≡◌};
 ghost use Rattle.definitions.specs.Program.{room};
+ghost use Rattle.definitions.specs.Text.{read_network};
+ghost use Rattle.program.specs.ReadStage.{Front, front_network, network_in, network_outcome};
 
 use network::limits::{LINK_ROOM, RELAY_ROOM};
+use network::{Network, Refusal, Table};
+use text::{TableSize, read};
 
-// A column of a table, or the marks of its links.
-pub fn links() -> [u16; LINK_ROOM]
-    ensures { result ≡ room 3000 }
-{
-    [0u16; LINK_ROOM]
+#[derive(Drop)]
+pub struct Rooms {
+    pub lows: [u16; LINK_ROOM],
+    pub highs: [u16; LINK_ROOM],
+    pub states: [u16; RELAY_ROOM],
 }
 
-// The state of each relay.
-pub fn states() -> [u16; RELAY_ROOM]
-    ensures { result ≡ room 1000 }
-{
-    [0u16; RELAY_ROOM]
+impl Rooms {
+    // Zeros.
+    pub fn new() -> Rooms
+        ensures { (result.lows ≡ room 3000) × (result.highs ≡ room 3000) × (result.states ≡ room 1000) }
+    {
+        Rooms {
+            lows: [0; LINK_ROOM],
+            highs: [0; LINK_ROOM],
+            states: [0; RELAY_ROOM],
+        }
+    }
+
+    // The network of this size in the front of the lists.
+    pub fn network(&self, size: TableSize) -> Network<'_>
+        requires { Front size.relays size.links self.now.lows self.now.highs self.now.states }
+        ensures { network_in result ≡ front_network size.relays size.links self.now.lows self.now.highs self.now.states }
+    {
+        let links = size.links as usize;
+        let relays = size.relays as usize;
+        Network {
+            table: Table {
+                n: size.relays,
+                lows: &self.lows[..links],
+                highs: &self.highs[..links],
+                states: &self.states[..relays],
+            },
+        }
+    }
+
+    // Read, with room for every network.
+    pub fn load<'a>(&'a mut self, text: &[u8]) -> Result<Network<'a>, Refusal>
+        ensures { network_outcome result ≡ read_network text.now 3000 3000 1000 }
+    {
+        let size = read(text, &mut self.lows, &mut self.highs, &mut self.states)?;
+        Ok(self.network(size))
+    }
 }

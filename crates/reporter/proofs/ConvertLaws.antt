@@ -1,7 +1,7 @@
 -- What a set of reports leaves in the front of the lists, and what is printed of it by the line in front. Assumes nothing.
 use Prim.Native.Nat.{ℕ, ◌-◌, ◌≤◌}
 use mathlib.Core.List.{List, [], ◌∷◌}
-use mathlib.Core.Path.{◌≡◌, ◌∙◌, ap, subst}
+use mathlib.Core.Path.{◌≡◌, sym, ◌∙◌, ap}
 use native.Mathlib.Omega.{arith}
 use lib.ListN.{length, take, drop}
 use Rattle.definitions.specs.Lists.{overwrite}
@@ -21,34 +21,31 @@ use Rattle.definitions.specs.ReportSets.{
 use Rattle.text_theory.specs.Programs.{read-alone}
 use Rattle.text_theory.specs.ReportProof.{report-promise}
 use Rattle.text_theory.specs.ReportsPrinted.{reports-line}
-use Rattle.network.specs.Answers.{refusal_number, refusal_place}
+use Rattle.network.specs.Answers.{refusal_of, refusal_number, refusal_place}
 use Rattle.network.specs.declared.refusal.Refusal.TheVariants.{Wish}
-use Rattle.text.specs.Answers.{read_outcome}
-use Rattle.text.specs.declared.ReadAnswer.{ReadAnswer}
-use Rattle.program.specs.Made.{Printed, made_text, loads-text}
-use Rattle.program.specs.ReadStage.{Loads, reading-loads, whole-put, line-departed, line_taken}
+use Rattle.definitions.specs.Outcome.{done}
+use Rattle.network.specs.declared.refusal.Refusal.{Refusal}
+use Rattle.program.specs.Made.{Printed}
+use Rattle.program.specs.ReadStage.{Rooms, FrontTable, reading-refused, reading-done, whole-put, line-departed, line_taken}
 use Rattle.program.specs.RefusedLine.{LinePut}
 
--- What the set leaves in the program's own lists: a refusal, or an accepted network in their front.
-pub reports-loads : (n : ℕ) (text lows highs states : List ℕ) (answer : ReadAnswer) (lows_now highs_now states_now : List ℕ)
-    → length lows ≡ 3000 → length highs ≡ 3000 → length states ≡ 1000
-    → (read_outcome answer ≡ reports_answer n text lows highs states) × ((lows_now ≡ reports_lows n text lows highs states)
-    × ((highs_now ≡ reports_highs n text lows highs states) × (states_now ≡ reports_states n text lows highs states)))
-    → Loads (reports_network n text 3000 3000 1000) answer lows_now highs_now states_now
+pub reports-refused : (n : ℕ) (text lows highs states : List ℕ) (refusal : Refusal) → Rooms lows highs states
+    → refusal_of refusal ≡ reports_answer n text lows highs states → refusal_of refusal ≡ reports_network n text 3000 3000 1000
+unfolding reports_answer
+reports-refused n text lows highs states refusal rooms told =
+    sym (reading-refused (reports_network n text) lows highs states refusal rooms (sym told))
+
+pub reports-table : (n : ℕ) (text lows highs states : List ℕ) (relays m : ℕ) (lows_now highs_now states_now : List ℕ) → Rooms lows highs states
+    → done (relays ∷ m ∷ []) ≡ reports_answer n text lows highs states → lows_now ≡ reports_lows n text lows highs states
+    → highs_now ≡ reports_highs n text lows highs states → states_now ≡ reports_states n text lows highs states
+    → FrontTable (reports_network n text 3000 3000 1000) relays m lows_now highs_now states_now
 unfolding reports_answer reports_lows reports_highs reports_states
-reports-loads n text lows highs states answer lows_now highs_now states_now low high state told =
-    reading-loads (reports_network n text) lows highs states answer lows_now highs_now states_now low high state
+reports-table n text lows highs states relays m lows_now highs_now states_now rooms told low high state =
+    rw (low, high, state)
+    (reading-done (reports_network n text) lows highs states relays m rooms
     (λ network e.
     let taken = (report-promise n (length lows) (length highs) (length states)).taken text network e in
-    rw (← taken.size) at taken.accepted) told
-
--- What is printed of a set.
-pub reported-printed : (n : ℕ) (text before after : List ℕ) (next : ℕ) (answer : ReadAnswer) (lows highs states : List ℕ)
-    → Loads (reports_network n text 3000 3000 1000) answer lows highs states → Printed before (made_text answer lows highs states) after next
-    → Printed before (printed network_text (reports_network n text 3000 3000 1000)) after next
-reported-printed n text before after next answer lows highs states loaded put =
-    subst (λ (printed : List ℕ). Printed before printed after next)
-    (loads-text (reports_network n text 3000 3000 1000) answer lows highs states loaded) put
+    rw (← taken.size) at taken.accepted) (sym told))
 
 -- The line in front departs: the refused line is the whole output.
 pub line_refused : (input before after : List ℕ) (next p : ℕ) → scan_form input reports_form 0 ≡ departs p → 54929 ≤ length before

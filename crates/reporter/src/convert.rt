@@ -4,29 +4,27 @@ ghost use Rattle.definitions.specs.Lists.{overwrite};
 ghost use Rattle.definitions.specs.Program.{printed, network_text};
 ghost use Rattle.definitions.specs.ReportSets.{reports_network, reports_text};
 ghost use Rattle.program.specs.Made.{Printed};
-ghost use Rattle.program.specs.ReadStage.{Loads};
+ghost use Rattle.program.specs.ReadStage.{network_outcome};
 
-use network::Refusal;
+use network::{Network, Refusal};
 use program::line::single_line;
 use program::made::{TEXT_ROOM, put_made};
 use program::refusal::put_any;
-use program::rooms;
+use program::rooms::Rooms;
 use reports::reports;
-use text::ReadAnswer;
-use text::scan::NumberScan;
 
 // The set as a table, with room for every network.
-fn load_reports(
-    n: u16,
-    text: &[u8],
-    lows: &mut [u16],
-    highs: &mut [u16],
-    states: &mut [u16],
-) -> ReadAnswer
-    requires { (length lows.old ≡ 3000) × (length highs.old ≡ 3000) × (length states.old ≡ 1000) }
-    ensures { Loads (reports_network n text.now 3000 3000 1000) result lows.new highs.new states.new }
+fn load_reports<'a>(n: u16, text: &[u8], rooms: &'a mut Rooms) -> Result<Network<'a>, Refusal>
+    ensures { network_outcome result ≡ reports_network n text.now 3000 3000 1000 }
 {
-    reports(n, text, lows, highs, states)
+    let size = reports(
+        n,
+        text,
+        &mut rooms.lows,
+        &mut rooms.highs,
+        &mut rooms.states,
+    )?;
+    Ok(rooms.network(size))
 }
 
 // The set is taken, and what it is goes out.
@@ -35,11 +33,8 @@ fn put_reported(output: &mut [u8], n: u16, text: &[u8]) -> usize
     ensures { Printed output.old (printed network_text (reports_network n text.now 3000 3000 1000))
         output.new result }
 {
-    let mut lows = rooms::links();
-    let mut highs = rooms::links();
-    let mut states = rooms::states();
-    let answer = load_reports(n, text, &mut lows, &mut highs, &mut states);
-    put_made(output, answer, &lows, &highs, &states)
+    let mut rooms = Rooms::new();
+    put_made(output, load_reports(n, text, &mut rooms))
 }
 
 // Prints the text for an input, from the output's first byte on, and gives its length.
@@ -48,7 +43,7 @@ pub fn convert(input: &[u8], output: &mut [u8; TEXT_ROOM]) -> usize
     ensures bytes { output.new ≡ overwrite (reports_text input.now) output.old }
 {
     match single_line(input, b"(reports ", b")\n", 0) {
-        NumberScan::Departs(p) => put_any(output, Refusal::Wish(p)),
-        NumberScan::Reads(n, p) => put_reported(output, n, &input[p..]),
+        Ok((n, p)) => put_reported(output, n, &input[p..]),
+        Err(departure) => put_any(output, Refusal::Wish(departure.0)),
     }
 }

@@ -1,4 +1,5 @@
 -- The first pass over a set, a line at a time, and the states that it leaves. Assumes nothing.
+use Rattle.std.specs.Prelude.{Ok, Err, None}
 use Prim.Native.Nat.{ℕ, zero, suc, ◌+◌, ◌≤◌, ◌<◌}
 use mathlib.Core.Bool.{Bool, true, false, ◌||◌}
 use mathlib.Core.List.{List, [], ◌∷◌, ◌++◌}
@@ -8,9 +9,10 @@ use native.Mathlib.Nat.{zero-add}
 use native.Mathlib.Numerals.{add-one}
 use native.Mathlib.Omega.{arith}
 use lib.Dec.{ltb, leb}
+use mir.Val.{bool_byte}
 use lib.ListN.{length, get_or, set, take, replicate, length-set, length-replicate}
 use lib.Seq.{get_or-set_same, get_or-set_other, take-suc-set}
-use Rattle.definitions.specs.Outcome.{refused}
+use Rattle.definitions.specs.Outcome.{pick, refused}
 use Rattle.definitions.specs.Lists.{table, has}
 use Rattle.definitions.specs.Form.{Scan, departs, reads}
 use Rattle.definitions.specs.Reports.{Report, report_of, scan_report, top_of}
@@ -21,11 +23,11 @@ use Rattle.lists.specs.Tests.{or_right, or-false, or-none, or_turn}
 use Rattle.theory.specs.ReportPlaces.{Placed, repeats-more, beyond-more, placed-start, placed-step}
 use Rattle.text_theory.specs.ReportFitting.{not-bad}
 use Rattle.text_theory.specs.ReportTurns.{line-behind, reports-stop, reports-depart, reports-bad, reports-next, start-no-number}
+use Rattle.network.specs.declared.refusal.Refusal.TheVariants.{ReportForm, ReportRelays, RelayRange}
+use Rattle.reports.proofs.SetLaws.{set-bad, set_twice, set-far}
 use Rattle.reports.specs.Lines.{LineTold, LineRead}
 use Rattle.reports.specs.Offsets.{numbers_from, offset_of, Started}
 use Rattle.reports.specs.Places.{AllTold, PlacedAll}
-use Rattle.reports.specs.declared.line.ReportScan.TheVariants as lines
-use Rattle.reports.specs.declared.places.Told.TheVariants as told
 
 -- Up to offset p: the reports read so far, and what is told and kept of them. That no number stands at offset 0 is known at the end.
 pub record Placing (text : List ℕ) (n : ℕ) (offsets starts : List ℕ) (p : ℕ) (twice far : Bool) : Type 0 where
@@ -121,29 +123,47 @@ module _ (text : List ℕ) (p relay serial at top next above : ℕ) (told : Line
         within = facts.2;
       }
 
--- A line that is out of form or bad, and the end of the text.
+-- A line that is out of form or bad, and the end of the text: 20 and 5, or no fault.
 module _ (text : List ℕ) (n : ℕ) (offsets starts : List ℕ) (p : ℕ) (twice far : Bool) (inv : Placing text n offsets starts p twice far) where
-  pub placing-bad : p < length text → LineRead text p lines.Bad → PlacedAll text n offsets starts told.Bad
-  placing-bad some bad = inv.read ∙ go (scan_report text p) refl
+  pub placing-bad : p < length text → LineRead text p None → PlacedAll text n offsets starts (Err ReportForm)
+  placing-bad some bad room_lows room_highs room_states least most =
+      set-bad n text room_lows room_highs room_states least most (inv.read ∙ go (scan_report text p) refl)
     where
       go : (scan : Scan) → scan_report text p ≡ scan → read_reports text inv.reports p (length text) ≡ refused 19 0
       go (departs w) e = reports-depart text inv.reports p some w e
       go (reads values q) e = reports-bad text inv.reports p some values q e (bad values q e)
 
-  pub placing-end : length text ≤ p → AllTold text n offsets starts twice far
-  placing-end over =
-      let whole = inv.read ∙ reports-stop text inv.reports p over in
-      let none = start-no-number text inv.reports whole in
-      record {
-        reports = inv.reports;
-        read = whole;
-        twice_is = inv.twice_is none;
-        far_is = inv.far_is;
-        placed = inv.placed none;
-        room = inv.room;
-        started = inv.started none;
-        starts_room = inv.starts_room;
-      }
+  module _ (over : length text ≤ p) where
+    told : AllTold text n offsets starts twice far
+    told =
+        let whole = inv.read ∙ reports-stop text inv.reports p over in
+        let none = start-no-number text inv.reports whole in
+        record {
+          reports = inv.reports;
+          read = whole;
+          twice_is = inv.twice_is none;
+          far_is = inv.far_is;
+          placed = inv.placed none;
+          room = inv.room;
+          started = inv.started none;
+          starts_room = inv.starts_room;
+        }
+
+    pub placing-twice : twice ≡ true → PlacedAll text n offsets starts (Err ReportRelays)
+    placing-twice e room_lows room_highs room_states some few =
+        set_twice n text room_lows room_highs room_states some few offsets starts twice far told e
+
+    pub placing-far : twice ≡ false → far ≡ true → PlacedAll text n offsets starts (Err (RelayRange 0))
+    placing-far once e room_lows room_highs room_states some few =
+        set-far n text room_lows room_highs room_states some few offsets starts twice far told once e
+
+    pub placing-end : twice ≡ false → far ≡ false → PlacedAll text n offsets starts (Ok tt)
+    placing-end once near = rw (once, near) at told
+
+-- The state of a relay, from whether an offset is kept for it.
+pub state-picked : (kept : Bool) → bool_byte kept ≡ pick {A = ℕ} kept 1 0
+state-picked true = refl
+state-picked false = refl
 
 -- One state more.
 table_more : (f : ℕ → ℕ) (i count : ℕ) → table f i count ++ (f (i + count) ∷ []) ≡ table f i (suc count)

@@ -1,4 +1,5 @@
 -- What the lines of a set tell decides what it is refused for; a set with no fault is joined. Assumes nothing.
+use Rattle.std.specs.Prelude.{⊤, Result, Ok, Err}
 use Prim.Native.Nat.{ℕ, ◌≤◌}
 use mathlib.Core.Bool.{Bool, true, false}
 use mathlib.Core.List.{List, []}
@@ -29,13 +30,11 @@ use Rattle.lists.specs.Ranges.{inside}
 use Rattle.theory.specs.ReportPlaces.{seen-ascends, seen-within}
 use Rattle.theory.specs.ReportedTable.{not_beyond}
 use Rattle.text_theory.specs.ReportRoundTrip.{reports-written}
-use Rattle.network.specs.declared.Check.{Check}
-use Rattle.network.specs.declared.Check.TheVariants as check
+use Rattle.network.specs.declared.refusal.Refusal.{Refusal}
 use Rattle.text.specs.Answers.{read_outcome}
 use Rattle.text.specs.Sizes.{SizeChecked}
 use Rattle.text.specs.Tables.{TableRead, ReadWhole}
-use Rattle.text.specs.declared.ReadAnswer.{ReadAnswer}
-use Rattle.text.specs.declared.ReadAnswer.TheVariants.{Table, Refused}
+use Rattle.text.specs.declared.TableSize.{TableSize}
 use Rattle.reports.specs.Offsets.{offset_of, seen_from}
 use Rattle.reports.specs.Places.{AllTold, StatesPut}
 use Rattle.reports.specs.Merges.{Mergeable, LinksMerged}
@@ -71,9 +70,9 @@ module _ (n : ℕ) (text : List ℕ) (room_lows room_highs room_states : ℕ) wh
       set-far once e = set-read ∙ rw (once, e)
 
 -- What is answered once the size is checked.
-abbrev pub table_of : (n m : ℕ) → Check → ReadAnswer
-table_of n m check.Accepted = Table n m
-table_of n m (check.Refused refusal) = Refused refusal
+abbrev pub table_of : (n m : ℕ) → Result ⊤ Refusal → Result TableSize Refusal
+table_of n m (Ok _) = Ok (record { relays = n; links = m })
+table_of n m (Err refusal) = Err refusal
 
 module _ (text : List ℕ) (n : ℕ) (offsets starts : List ℕ) (some : 1 ≤ n) (few : n ≤ 1000) (told : AllTold text n offsets starts false false) where
   pub set-merges : Mergeable text n offsets starts
@@ -115,11 +114,11 @@ module _ (text : List ℕ) (n : ℕ) (offsets starts : List ℕ) (some : 1 ≤ n
         go true e = rw (e, lt-ltb 3000 (length (reported_network n told.reports).lows) (merged.many (ltb-true 3000 m e)))
         go false e = rw (merged.counted (ltb-false 3000 m e))
 
-    pub set-joined : (r : Check) → SizeChecked n m (length lows_then) (length highs_then) (length states_then) r
+    pub set-joined : (r : Result ⊤ Refusal) → SizeChecked n m (length lows_then) (length highs_then) (length states_then) r
         → TableRead (reports_network n text (length lows) (length highs) (length states)) lows highs states lows_then highs_then states_then
         (table_of n m r)
     unfolding reported_network reported_link see_each_other
-    set-joined (check.Refused refusal) checked =
+    set-joined (Err refusal) checked =
         record {
           network = set-sized ∙ checked.decides (done (reported_network n told.reports));
           low_room = omega arith;
@@ -129,7 +128,7 @@ module _ (text : List ℕ) (n : ℕ) (offsets starts : List ℕ) (some : 1 ≤ n
           same_highs = links.same_highs;
           same_states = put.size;
         }
-    set-joined check.Accepted checked =
+    set-joined (Ok _) checked =
         let room = checked.room in
         record {
           network =
@@ -149,7 +148,7 @@ module _ (text : List ℕ) (n : ℕ) (offsets starts : List ℕ) (some : 1 ≤ n
         }
 
 -- The promises of a set.
-pub reports-promises : (n : ℕ) (text lows highs states lows_end highs_end states_end : List ℕ) (r : ReadAnswer)
+pub reports-promises : (n : ℕ) (text lows highs states lows_end highs_end states_end : List ℕ) (r : Result TableSize Refusal)
     → ReadWhole (reports_network n text (length lows) (length highs) (length states)) lows highs states lows_end highs_end states_end r
     → (read_outcome r ≡ reports_answer n text lows highs states) × ((lows_end ≡ reports_lows n text lows highs states)
     × ((highs_end ≡ reports_highs n text lows highs states) × (states_end ≡ reports_states n text lows highs states)))

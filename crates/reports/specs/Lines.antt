@@ -1,21 +1,12 @@
 -- What reading a report line answers: it is out of form or bad, or what stands in it and where. Assumes nothing.
-use Rattle.std.specs.Prelude.{ℕ, ◌-◌, ◌≤◌, ◌<◌, true, false, List, [], ◌∷◌, ◌≡◌, length}
+use Rattle.std.specs.Prelude.{ℕ, Option, None, Some, ◌-◌, ◌≤◌, ◌<◌, true, false, List, [], ◌∷◌, ◌≡◌, length}
 use Rattle.definitions.specs.Lists.{greatest}
-use Rattle.definitions.specs.Form.{Scan, departs, reads, scan_more, scan_form}
+use Rattle.definitions.specs.Form.{reads, scan_more, scan_form}
 use Rattle.definitions.specs.Reports.{Report, report_of, report_front, scan_serial, scan_report, top_of, bad_report}
 use Rattle.lists.specs.Cursors.{drop_below}
 use Rattle.text_theory.specs.SpacedNumbers.{numbers_at}
-use Rattle.reports.specs.declared.serial.SerialScan.{SerialScan}
-use Rattle.reports.specs.declared.serial.SerialScan.TheVariants as serials
 use Rattle.reports.specs.declared.line.Seen.{Seen}
-use Rattle.reports.specs.declared.line.Seen.TheVariants as seen
-use Rattle.reports.specs.declared.line.ReportScan.{ReportScan}
-use Rattle.reports.specs.declared.line.ReportScan.TheVariants as lines
-
--- A serial as the definitions' `Scan`.
-abbrev pub serial_gives : SerialScan → Scan
-serial_gives (serials.Departs p) = departs p
-serial_gives (serials.Reads x p) = reads (x ∷ []) p
+use Rattle.reports.specs.declared.line.Report as line
 
 -- The report of a relay with this serial that sees these.
 abbrev pub reporting : (relay serial : ℕ) (sees : List ℕ) → Report
@@ -35,9 +26,9 @@ abbrev pub SeenBad : (text : List ℕ) (relay t : ℕ) → Type 0
 SeenBad text relay t =
     (serial : ℕ) (sees : List ℕ) (p : ℕ) → scan_more text t (length text) ≡ reads sees p → bad_report (reporting relay serial sees) ≡ true
 
-abbrev pub SeenRead : (text : List ℕ) (relay t : ℕ) → Seen → Type 0
-SeenRead text relay t seen.Bad = SeenBad text relay t
-SeenRead text relay t (seen.Ends least p above) = SeenEnds text relay t least p above
+abbrev pub SeenRead : (text : List ℕ) (relay t : ℕ) → Option Seen → Type 0
+SeenRead text relay t None = SeenBad text relay t
+SeenRead text relay t (Some seen) = SeenEnds text relay t seen.least seen.next seen.above
 
 -- A report line from offset p on that was read: its report is good, what it sees stands from offset `at` on, and what is not below its
 -- relay from offset `above` on.
@@ -53,11 +44,11 @@ pub record LineTold (text : List ℕ) (p relay serial at top next above : ℕ) :
   pub some : 0 < at
 
 -- A line that is out of form or bad: whatever is read, the report is bad.
-abbrev pub LineRead : (text : List ℕ) (p : ℕ) → ReportScan → Type 0
-LineRead text p lines.Bad = (values : List ℕ) (next : ℕ) → scan_report text p ≡ reads values next → bad_report (report_of values) ≡ true
-LineRead text p (lines.Reads relay serial at top next above) = LineTold text p relay.0 serial at top.0 next above
+abbrev pub LineRead : (text : List ℕ) (p : ℕ) → Option line.Report → Type 0
+LineRead text p None = (values : List ℕ) (next : ℕ) → scan_report text p ≡ reads values next → bad_report (report_of values) ≡ true
+LineRead text p (Some read) = LineTold text p read.relay.0 read.serial read.seen read.top.0 read.next read.above
 
 -- The rest of a line from offset s on: what is read of each line that has this relay and this serial in front of it.
-abbrev pub TailRead : (text : List ℕ) (relay serial s : ℕ) → ReportScan → Type 0
+abbrev pub TailRead : (text : List ℕ) (relay serial s : ℕ) → Option line.Report → Type 0
 TailRead text relay serial s r =
     (p u : ℕ) → scan_form text report_front p ≡ reads (relay ∷ []) u → scan_serial text u ≡ reads (serial ∷ []) s → LineRead text p r

@@ -1,13 +1,13 @@
 -- What the first pass over a set leaves: where those that each relay sees begin, and what the lines tell of 19, 20 and 5. Assumes nothing.
-use Rattle.std.specs.Prelude.{ℕ, ◌≤◌, Bool, false, List, [], ◌≡◌, ltb, length, take}
-use Rattle.definitions.specs.Outcome.{pick, refused, done}
+use Rattle.std.specs.Prelude.{ℕ, ⊤, Result, Ok, Err, ◌≤◌, Bool, false, List, [], ◌≡◌, ltb, length, take}
+use Rattle.definitions.specs.Outcome.{pick, done}
 use Rattle.definitions.specs.Lists.{table}
 use Rattle.definitions.specs.Reports.{Report}
-use Rattle.definitions.specs.ReportSets.{read_reports, repeats, reporters, beyond}
+use Rattle.definitions.specs.ReportSets.{read_reports, repeats, reporters, beyond, reports_network}
 use Rattle.theory.specs.ReportPlaces.{Placed}
 use Rattle.reports.specs.Offsets.{numbers_from, offset_of, Started}
-use Rattle.reports.specs.declared.places.Told.{Told}
-use Rattle.reports.specs.declared.places.Told.TheVariants as told
+use Rattle.network.specs.Answers.{refusal_of}
+use Rattle.network.specs.declared.refusal.Refusal.{Refusal}
 
 -- All lines are reports, of which this is told; where no relay reports twice, those that each sees begin at its offset.
 pub record AllTold (text : List ℕ) (n : ℕ) (offsets starts : List ℕ) (twice far : Bool) : Type 0 where
@@ -20,9 +20,11 @@ pub record AllTold (text : List ℕ) (n : ℕ) (offsets starts : List ℕ) (twic
   pub started : Started text offsets starts
   pub starts_room : length starts ≡ 1000
 
-abbrev pub PlacedAll : (text : List ℕ) (n : ℕ) (offsets starts : List ℕ) → Told → Type 0
-PlacedAll text n offsets starts told.Bad = read_reports text [] 0 (length text) ≡ refused 19 0
-PlacedAll text n offsets starts (told.All twice far) = AllTold text n offsets starts twice far
+-- Or the refusal for the set, whose n is in its range.
+abbrev pub PlacedAll : (text : List ℕ) (n : ℕ) (offsets starts : List ℕ) → Result ⊤ Refusal → Type 0
+PlacedAll text n offsets starts (Ok _) = AllTold text n offsets starts false false
+PlacedAll text n offsets starts (Err refusal) =
+    (room_lows room_highs room_states : ℕ) → 1 ≤ n → n ≤ 1000 → reports_network n text room_lows room_highs room_states ≡ refusal_of refusal
 
 -- A list of states with room for n has them in its front: 1 exactly for the relays of which an offset is kept.
 pub record StatesPut (offsets : List ℕ) (n : ℕ) (before after : List ℕ) : Type 0 where

@@ -16,13 +16,12 @@ ghost use Rattle.reports.specs.Places.{AllTold};
 pub mod line;
 mod merge;
 mod places;
-mod serial;
 
 use merge::merge;
-use network::limits::RELAYS;
-use network::{Check, Refusal};
-use places::{Told, no_offsets, place_all, put_states};
-use text::{ReadAnswer, clear_behind, size_check};
+use network::Refusal;
+use network::limits::{RELAY_ROOM, RELAYS};
+use places::{place_all, put_states};
+use text::{TableSize, clear_behind, size_check};
 
 // The table of reports of different relays below n, whose places are kept. Past the room of a list its entries are only counted.
 fn join(
@@ -33,18 +32,17 @@ fn join(
     lows: &mut [u16],
     highs: &mut [u16],
     states: &mut [u16],
-) -> ReadAnswer
+) -> Result<TableSize, Refusal>
     requires { (1 ≤ n) × (n ≤ 1000) × AllTold text.now n offsets.old starts.now false false }
     ensures { TableRead (reports_network n text.now (length lows.old) (length highs.old)
         (length states.old)) lows.old highs.old states.old lows.new
         highs.new states.new result }
 {
     put_states(offsets, n, states);
-    let m = merge(text, n, offsets, starts, lows, highs);
-    match size_check(n, m, lows.len(), highs.len(), states.len()) {
-        Check::Refused(refusal) => ReadAnswer::Refused(refusal),
-        Check::Accepted => ReadAnswer::Table(n, m),
-    }
+    let links = merge(text, n, offsets, starts, lows, highs);
+    let size = TableSize { relays: n, links };
+    size_check(size, lows.len(), highs.len(), states.len())?;
+    Ok(size)
 }
 
 // A set into the front of the three lists; what is after the links and states is left as it falls.
@@ -54,31 +52,19 @@ fn reports_table(
     lows: &mut [u16],
     highs: &mut [u16],
     states: &mut [u16],
-) -> ReadAnswer
+) -> Result<TableSize, Refusal>
     ensures { TableRead (reports_network n text.now (length lows.old) (length highs.old)
         (length states.old)) lows.old highs.old states.old lows.new
         highs.new states.new result }
 {
-    if n < 1 {
-        return ReadAnswer::Refused(Refusal::RelayCount);
+    if n < 1 || RELAYS < n {
+        return Err(Refusal::RelayCount);
     }
-    if RELAYS < n {
-        return ReadAnswer::Refused(Refusal::RelayCount);
-    }
-    let mut offsets = no_offsets();
-    let mut starts = no_offsets();
-    match place_all(text, n, &mut offsets, &mut starts) {
-        Told::Bad => ReadAnswer::Refused(Refusal::ReportForm),
-        Told::All(twice, beyond) => {
-            if twice {
-                return ReadAnswer::Refused(Refusal::ReportRelays);
-            }
-            if beyond {
-                return ReadAnswer::Refused(Refusal::RelayRange(0));
-            }
-            join(text, n, &mut offsets, &starts, lows, highs, states)
-        }
-    }
+    // Nothing is kept of any relay yet: those seen never begin at offset 0.
+    let mut offsets = [0; RELAY_ROOM];
+    let mut starts = [0; RELAY_ROOM];
+    place_all(text, n, &mut offsets, &mut starts)?;
+    join(text, n, &mut offsets, &starts, lows, highs, states)
 }
 
 // Takes a set of reports as a table.
@@ -88,7 +74,7 @@ pub fn reports(
     lows: &mut [u16],
     highs: &mut [u16],
     states: &mut [u16],
-) -> ReadAnswer
+) -> Result<TableSize, Refusal>
     ensures answer { read_outcome result ≡ reports_answer n text.now lows.old highs.old
         states.old }
     ensures low_list { lows.new ≡ reports_lows n text.now lows.old highs.old
@@ -98,14 +84,17 @@ pub fn reports(
     ensures state_list { states.new ≡ reports_states n text.now lows.old highs.old
         states.old }
 {
-    match reports_table(n, text, lows, highs, states) {
-        ReadAnswer::Refused(refusal) => {
-            clear_behind(0, 0, lows, highs, states);
-            ReadAnswer::Refused(refusal)
-        }
-        ReadAnswer::Table(relays, m) => {
-            clear_behind(m as usize, relays as usize, lows, highs, states);
-            ReadAnswer::Table(relays, m)
-        }
-    }
+    let answer = reports_table(n, text, lows, highs, states);
+    let kept = answer.unwrap_or(TableSize {
+        relays: 0,
+        links: 0,
+    });
+    clear_behind(
+        kept.links as usize,
+        kept.relays as usize,
+        lows,
+        highs,
+        states,
+    );
+    answer
 }

@@ -8,38 +8,32 @@ ghost use Rattle.reports.specs.Offsets.{numbers_from, seen_from};
 use network::Relay;
 use network::limits::LINKS;
 use text::scan;
-use text::scan::NumberScan;
 
-// Where a relay's numbers stand once those below another are passed, and whether the next of them is that one.
+// Where a relay's numbers stand once those below another are passed, and whether the next of them is that one: the offset holds either
+// way, so the two are no `Option`.
 #[derive(Clone, Copy)]
 struct Cursor {
     at: usize,
     there: bool,
 }
 
-// Passes the numbers below a.
+// Passes the numbers below a: as many as there are, so there is no range.
 fn pass_below(text: &[u8], at: usize, a: u16) -> Cursor
     ensures { Passed text.now at a result.at result.there }
 {
     let mut p = at;
-    loop {
-        match scan::word_number(text, b" ", p) {
-            NumberScan::Departs(_) => {
-                return Cursor {
-                    at: p,
-                    there: false,
-                };
-            }
-            NumberScan::Reads(x, q) => {
-                if a <= x {
-                    return Cursor {
-                        at: p,
-                        there: x == a,
-                    };
-                }
-                p = q;
-            }
+    while let Ok((x, q)) = scan::word_number(text, b" ", p) {
+        if a <= x {
+            return Cursor {
+                at: p,
+                there: x == a,
+            };
         }
+        p = q;
+    }
+    Cursor {
+        at: p,
+        there: false,
     }
 }
 
@@ -54,7 +48,7 @@ fn sees_back(text: &[u8], offsets: &mut [usize], a: Relay, b: Relay) -> bool
     cursor.there
 }
 
-// Stores a number where there is room for it.
+// Stores a number where there is room for it. An index, as a proof knows nothing of an element that was lent by `get_mut`.
 fn put_at(list: &mut [u16], i: usize, x: u16)
     ensures { list.new ≡ set list.old i x }
 {
@@ -77,10 +71,7 @@ fn try_link(
     ensures { LinkTried text.now a.0 b.0 found offsets.old lows.old highs.old
         offsets.new lows.new highs.new result }
 {
-    if b.0 <= a.0 {
-        return found;
-    }
-    if !sees_back(text, offsets, a, b) {
+    if b.0 <= a.0 || !sees_back(text, offsets, a, b) {
         return found;
     }
     let i = found as usize;
@@ -93,7 +84,6 @@ fn try_link(
 // network may have.
 fn merge_row(
     text: &[u8],
-    n: u16,
     a: Relay,
     start: usize,
     offsets: &mut [usize],
@@ -101,23 +91,20 @@ fn merge_row(
     lows: &mut [u16],
     highs: &mut [u16],
 ) -> u16
-    requires n_in_bounds { (n ≤ length offsets.old) × (found ≤ 3000) }
-    requires all_below_in { AllBelowIn n (numbers_from text.now start) }
+    requires few { found ≤ 3000 }
+    requires all_below_in { AllBelowIn (length offsets.old) (numbers_from text.now start) }
     ensures { RowMerged text.now a.0 start found offsets.old lows.old highs.old
         offsets.new lows.new highs.new result }
 {
     let mut p = start;
     let mut count = found;
+    // Up to the end of the row, which no count tells.
     while count <= LINKS {
-        match scan::word_number(text, b" ", p) {
-            NumberScan::Departs(_) => {
-                return count;
-            }
-            NumberScan::Reads(b, next) => {
-                count = try_link(text, offsets, a, Relay(b), count, lows, highs);
-                p = next;
-            }
-        }
+        let Ok((b, next)) = scan::word_number(text, b" ", p) else {
+            return count;
+        };
+        count = try_link(text, offsets, a, Relay(b), count, lows, highs);
+        p = next;
     }
     count
 }
@@ -137,14 +124,12 @@ pub(crate) fn merge(
         lows.new highs.new result }
 {
     let mut count: u16 = 0;
-    let mut a: u16 = 0;
-    while a < n {
+    for a in 0..n {
         let start = starts[a as usize];
-        count = merge_row(text, n, Relay(a), start, offsets, count, lows, highs);
+        count = merge_row(text, Relay(a), start, offsets, count, lows, highs);
         if LINKS < count {
             return count;
         }
-        a += 1;
     }
     count
 }

@@ -1,66 +1,45 @@
 // The first pass over a set: each line is read, and for its relay is kept where those that it sees begin, and where those above it do.
-ghost use Rattle.std.specs.Prelude.{◌||◌, ◌≡◌, ◌≤◌, ltb, length, replicate};
-ghost use Rattle.definitions.specs.Outcome.{pick};
+ghost use Rattle.std.specs.Prelude.{◌≡◌, ◌≤◌, length, replicate};
 ghost use Rattle.reports.specs.Places.{PlacedAll, StatesPut};
 
-use crate::line::{ReportScan, report_line};
-use network::limits::RELAY_ROOM;
+use crate::line::report_line;
+use network::Refusal;
 
-// What the lines of a set tell: one is out of form or bad; or whether a relay reports twice, and whether a number is not below n.
-#[derive(Clone, Copy)]
-pub(crate) enum Told {
-    Bad,
-    All(bool, bool),
-}
-
-// Nothing is kept of any relay yet. Those seen never begin at offset 0.
-pub(crate) fn no_offsets() -> [usize; RELAY_ROOM]
-    ensures { result ≡ replicate 1000 0 }
-{
-    [0usize; RELAY_ROOM]
-}
-
-// One or the other.
-fn either(one: bool, other: bool) -> bool
-    ensures { result ≡ (one || other) }
-{
-    if one { true } else { other }
-}
-
-// All the lines of a set.
-pub(crate) fn place_all(text: &[u8], n: u16, offsets: &mut [usize], starts: &mut [usize]) -> Told
+// All the lines of a set: each is to be a report, no relay is to report twice, and no number is to be n or more, in this order.
+pub(crate) fn place_all(
+    text: &[u8],
+    n: u16,
+    offsets: &mut [usize],
+    starts: &mut [usize],
+) -> Result<(), Refusal>
     requires { (offsets.old ≡ replicate 1000 0) × (starts.old ≡ replicate 1000 0) }
     ensures { PlacedAll text.now n offsets.new starts.new result }
 {
     let mut p: usize = 0;
     let mut twice = false;
     let mut beyond = false;
+    // Line by line up to the text's end; a line tells where the next begins.
     while p < text.len() {
-        match report_line(text, p) {
-            ReportScan::Bad => {
-                return Told::Bad;
-            }
-            ReportScan::Reads(relay, _, sees, top, next, above) => {
-                let r = relay.0 as usize;
-                twice = either(twice, 0 < offsets[r]);
-                beyond = either(beyond, n <= top.0);
-                offsets[r] = sees;
-                starts[r] = above;
-                p = next;
-            }
-        }
+        let Some(report) = report_line(text, p) else {
+            return Err(Refusal::ReportForm);
+        };
+        let relay = report.relay.0 as usize;
+        twice |= 0 < offsets[relay];
+        beyond |= n <= report.top.0;
+        offsets[relay] = report.seen;
+        starts[relay] = report.above;
+        p = report.next;
     }
-    Told::All(twice, beyond)
+    if twice {
+        return Err(Refusal::ReportRelays);
+    }
+    if beyond {
+        return Err(Refusal::RelayRange(0));
+    }
+    Ok(())
 }
 
-// 1 for a relay of which an offset is kept, 0 for the others.
-fn state_of(offset: usize) -> u16
-    ensures { result ≡ pick (ltb 0 offset) 1 0 }
-{
-    if 0 < offset { 1 } else { 0 }
-}
-
-// The states of n relays, as far as the list goes: in service are those that report.
+// The states of n relays, as far as the list goes: in service, with 1, are those that report.
 pub(crate) fn put_states(offsets: &[usize], n: u16, states: &mut [u16])
     requires { (n ≤ 1000) × (length offsets.now ≡ 1000) }
     ensures { StatesPut offsets.now n states.old states.new }
@@ -69,9 +48,7 @@ pub(crate) fn put_states(offsets: &[usize], n: u16, states: &mut [u16])
     if states.len() < count {
         return;
     }
-    let mut r: usize = 0;
-    while r < count {
-        states[r] = state_of(offsets[r]);
-        r += 1;
+    for r in 0..count {
+        states[r] = u16::from(0 < offsets[r]);
     }
 }

@@ -1,38 +1,27 @@
 -- What the answer of Route stands for, what its inner functions answer, and how its refusals are split among them.
 -- Assumes nothing.
-use Rattle.std.specs.Prelude.{ℕ, ◌+◌, ◌-◌, ◌*◌, ◌≤◌, Bool, ◌&&◌, ◌||◌, not, List, [], ◌∷◌, map, ◌≢◌, ◌≡◌, eqb, ltb, leb, length, get_or}
+use Rattle.std.specs.Prelude.{ℕ, ◌+◌, ◌-◌, ◌*◌, ◌≤◌, Bool, ◌||◌, List, [], ◌∷◌, map, Option, Result, Ok, Err, ◌≢◌, ◌≡◌, length, get_or, replicate}
 use Rattle.std.proofs.lemmas.List.Edits.{sets}
-use Rattle.definitions.specs.Outcome.{pick, refused, done, Answer, refuse_if, and_then, if_done}
-use Rattle.definitions.specs.Lists.{overwrite, zeroed, outside, join_all, total}
-use Rattle.definitions.specs.Network.{serves, Accepted, Serving}
+use Rattle.definitions.specs.Outcome.{pick, refused, done, Answer, and_then, if_done}
+use Rattle.definitions.specs.Lists.{overwrite, zeroed, join_all, total}
+use Rattle.definitions.specs.Network.{Accepted, Serving}
 use Rattle.definitions.specs.Forests.{Entry, marks_of}
 use Rattle.definitions.specs.Route.{routes_of, one_tree_of, too_short, route_unless, scratch_used}
 use Rattle.definitions.specs.Over.{overs_of, route_links_answer}
 use Rattle.network.specs.Answers.{refusal_of}
+use Rattle.network.specs.declared.Table.{Table}
+use Rattle.network.specs.declared.refusal.Refusal.{Refusal}
 use Rattle.forests.specs.Scan.{Scanned}
 use Rattle.forests.specs.Left.{LeftTable}
 use Rattle.sweep.specs.Side.{NoPaths}
-use Rattle.routes.specs.declared.RouteAnswer.{RouteAnswer}
-use Rattle.routes.specs.declared.RouteAnswer.TheVariants.{Written}
+use Rattle.routes.specs.declared.wish.Wish.{Wish}
+use Rattle.routes.specs.Wishes.{links_short}
 use Rattle.routes.specs.Between.{one_tree_in, between_in, links_between}
 
 -- The count of relays written, or a refusal.
-abbrev pub route_outcome : RouteAnswer → Answer
-route_outcome (Written count) = done (count ∷ [])
-route_outcome (RouteAnswer.Refused refusal) = refusal_of refusal
-
--- 9 to 12 with 17 before 12, from the lengths of the lists; `asked` says whether a list of links is asked for.
-unfoldable pub wish_check : (n k from to : ℕ) (states : List ℕ) (asked : Bool) (counts_length relays_length links_length scratch_length : ℕ) → Answer
-wish_check n k from to states asked counts_length relays_length links_length scratch_length =
-    refuse_if (outside 1 32 k) 9 0
-    (refuse_if (leb n from || leb n to) 10 0
-    (refuse_if (eqb from to) 11 0
-    (refuse_if (not (serves states from && serves states to)) 17 0
-    (refuse_if
-    ((ltb counts_length k || (ltb relays_length (n - 2 + 2 * k) || ltb scratch_length (k * n)))
-    || (asked && ltb links_length (n - 2 + k)))
-    12 0
-    (done [])))))
+abbrev pub route_outcome : Result ℕ Refusal → Answer
+route_outcome (Ok count) = done (count ∷ [])
+route_outcome (Err refusal) = refusal_of refusal
 
 -- The three lists afterwards, and the answer.
 pub record Answered : Type 0 where
@@ -62,15 +51,14 @@ tree_answer n lows highs states k from to counts relays links =
     (done (length (join_all routes) ∷ [])))
     (answered counts relays links (refused 13 0))
 
--- Cause for 12.
-unfoldable pub short_for : (asked : Bool) (n k : ℕ) (counts relays links scratch : List ℕ) → Bool
-short_for asked n k counts relays links scratch =
-    too_short n k counts relays scratch || (asked && ltb (length links) (n - 2 + k))
+-- Cause for 12; `asked` is the length of the list of links, where one is asked for.
+unfoldable pub short_for : (asked : Option ℕ) (n k : ℕ) (counts relays scratch : List ℕ) → Bool
+short_for asked n k counts relays scratch = too_short n k counts relays scratch || links_short asked n k
 
--- Route's answer and its lists afterwards, where `asked` says whether a list of links is asked for.
-module _ (asked : Bool) (n : ℕ) (lows highs states : List ℕ) (k from to : ℕ) (counts relays links scratch : List ℕ) where
+-- Route's answer and its lists afterwards, where a list of links of the length `asked` is asked for or none is.
+module _ (asked : Option ℕ) (n : ℕ) (lows highs states : List ℕ) (k from to : ℕ) (counts relays links scratch : List ℕ) where
   unfoldable pub core_answer : Answer
-  core_answer = route_unless (short_for asked n k counts relays links scratch) n lows highs states k from to
+  core_answer = route_unless (short_for asked n k counts relays scratch) n lows highs states k from to
 
   unfoldable pub core_counts : List ℕ
   core_counts = if_done core_answer (overwrite (map length (routes_of n lows highs states k from to)) counts) counts
@@ -105,6 +93,11 @@ pub record RouteArrays (n : ℕ) (lows order places numbers a b : List ℕ) : Ty
   pub no_a : NoPaths n a
   pub no_b : NoPaths n b
 
+-- The same lists, all zeros, for so many relays and links and so many entries of a side.
+abbrev pub NoneGiven : (relays links side : ℕ) (order places numbers a b : List ℕ) → Type 0
+NoneGiven relays links side order places numbers a b =
+    (order ≡ replicate relays 0) × (places ≡ replicate relays 0) × (numbers ≡ replicate links 0) × (a ≡ replicate side 0) × (b ≡ replicate side 0)
+
 -- What the scan gives, with the forest numbers in `numbered`; the left table made from it, and the earlier end of each link.
 pub record Prepared (n k : ℕ) (lows highs states order order' places places' numbers ends table table' : List ℕ) : Type 0 where
   pub numbered : List ℕ
@@ -121,22 +114,24 @@ pub record ScanGave (n : ℕ) (lows highs states order places numbers a b : List
   pub place_room : n ≤ length places
   pub link_room : length lows ≤ length numbers
 
--- From there on the list of states is not read: what is asked holds with some list of states, and the answer is the definition's with
--- every such list.
-abbrev pub OverSome : (n : ℕ) (lows highs : List ℕ) (k from to : ℕ) (order places numbers a b counts relays scratch : List ℕ) → Type 0
-OverSome n lows highs k from to order places numbers a b counts relays scratch =
-    (states : List ℕ) × (Routable n lows highs states k from to counts relays scratch × ScanGave n lows highs states order places numbers a b)
+-- The same of an accepted network's table and a wish.
+abbrev pub Asked : (table : Table) (wish : Wish) (counts relays scratch : List ℕ) → Type 0
+Asked table wish counts relays scratch =
+    Routable table.n table.lows.now table.highs.now table.states.now wish.k wish.from.0 wish.to.0 counts relays scratch
 
-abbrev pub OverEach : (n : ℕ) (lows highs : List ℕ) (k from to : ℕ) (order places numbers a b counts relays links scratch : List ℕ) (result : Answered) → Type 0
-OverEach n lows highs k from to order places numbers a b counts relays links scratch result =
-    (states : List ℕ) → Routable n lows highs states k from to counts relays scratch → ScanGave n lows highs states order places numbers a b
-    → result ≡ tree_answer n lows highs states k from to counts relays links
+abbrev pub Given : (table : Table) (order places numbers a b : List ℕ) → Type 0
+Given table order places numbers a b = ScanGave table.n table.lows.now table.highs.now table.states.now order places numbers a b
 
 -- The routes with the count of the links that Cut keeps in place of the count of relays.
 pub record Counted (n : ℕ) (lows highs states : List ℕ) (k from to : ℕ) (counts relays links counts' relays' links' : List ℕ) (counted : Answer) : Type 0 where
   pub answer : Answer
   pub routed : answered counts' relays' links' answer ≡ tree_answer n lows highs states k from to counts relays links
   pub kept : counted ≡ and_then answer λ _. done (total (marks_of n lows highs states k) ∷ [])
+
+abbrev pub CountedFor : (table : Table) (wish : Wish) (counts relays links counts' relays' links' : List ℕ) (counted : Answer) → Type 0
+CountedFor table wish counts relays links counts' relays' links' counted =
+    Counted table.n table.lows.now table.highs.now table.states.now wish.k wish.from.0 wish.to.0 counts relays links counts' relays'
+    links' counted
 
 -- Route with links, answered with that count.
 unfoldable pub counted_answer : (n : ℕ) (lows highs states : List ℕ) (k from to : ℕ) (counts relays links scratch : List ℕ) → Answer

@@ -7,7 +7,8 @@ ghost use Rattle.routes.specs.WrittenLinks.{links_down, links_up, route_links, l
 use crate::write::count;
 use sweep::side::{link_of, prior_link_of, prior_of, put, second_of};
 
-// The `count` links of path i, written downwards to `from`.
+// The `count` links of path i, written downwards to `from`. The relays are written by a function of their own (`write_down`): each has
+// its definition, and here the link goes along from place to place.
 fn links_down(links: &mut [u16], side: &[u16], i: u16, count: usize, from: usize)
     requires { (count ≤ 1000) × (from ≤ last_start) }
     ensures { links.new ≡ links_down side.now from count (link_in side.now i)
@@ -15,9 +16,7 @@ fn links_down(links: &mut [u16], side: &[u16], i: u16, count: usize, from: usize
 {
     let mut link = link_of(side, i);
     let mut x = second_of(side, i);
-    let mut c = count;
-    while 0 < c {
-        c -= 1;
+    for c in (0..count).rev() {
         put(links, from + c, link);
         link = prior_link_of(side, x);
         x = prior_of(side, x);
@@ -32,14 +31,10 @@ fn links_up(links: &mut [u16], side: &[u16], i: u16, count: usize, at: usize)
 {
     let mut link = link_of(side, i);
     let mut x = second_of(side, i);
-    let mut c = count;
-    let mut p = at;
-    while 0 < c {
+    for p in at..at + count {
         put(links, p, link);
         link = prior_link_of(side, x);
         x = prior_of(side, x);
-        p += 1;
-        c -= 1;
     }
 }
 
@@ -47,6 +42,7 @@ fn links_up(links: &mut [u16], side: &[u16], i: u16, count: usize, at: usize)
 fn write_route_links(links: &mut [u16], front: &[u16], back: &[u16], i: u16, from: usize) -> usize
     requires { from ≤ last_start }
     ensures value { result ≡ count_in front.now i + count_in back.now i }
+    ensures bound { result ≤ 2000 }
     ensures links_left { links.new ≡ route_links front.now back.now i from links.old }
 {
     let low = count(front, i);
@@ -56,26 +52,16 @@ fn write_route_links(links: &mut [u16], front: &[u16], back: &[u16], i: u16, fro
     low + high
 }
 
-// The links of routes 1 to k one after another.
-fn all_links(links: &mut [u16], front: &[u16], back: &[u16], k: u16)
-    requires { k ≤ 32 }
-    ensures { links.new ≡ links_from front.now back.now k 0 0 links.old }
-{
-    let mut i = 0;
-    let mut from = 0;
-    while i < k {
-        from += write_route_links(links, front, back, i + 1, from);
-        i += 1;
-    }
-}
-
-// The same; where no list is lent there is nothing to do.
+// The links of routes 1 to k one after another. Where no list is lent there is nothing to do.
 pub(crate) fn write_links(links: &mut [u16], front: &[u16], back: &[u16], k: u16)
     requires { k ≤ 32 }
     ensures { links.new ≡ links_from front.now back.now k 0 0 links.old }
 {
-    if links.len() == 0 {
+    if links.is_empty() {
         return;
     }
-    all_links(links, front, back, k);
+    let mut from = 0;
+    for i in 0..k {
+        from += write_route_links(links, front, back, i + 1, from);
+    }
 }

@@ -12,28 +12,22 @@ use sweep::side::{end_of, get, prior_of, put, second_of};
 fn relay_at(order: &[u16], p: Place) -> Relay
     ensures { result.0 ≡ relay_at order.now p.0 }
 {
-    let at = p.0 as usize;
-    if at == 0 {
-        Relay(get(order, 0))
-    } else {
-        Relay(get(order, at - 1))
-    }
+    Relay(get(order, usize::from(p.0).saturating_sub(1)))
 }
 
 // How many relays path i has before its end, 1,000 at most.
 pub(crate) fn count(side: &[u16], i: u16) -> usize
-    ensures { result ≡ count_in side.now i }
+    ensures value { result ≡ count_in side.now i }
+    ensures bound { result ≤ 1000 }
 {
     let mut x = second_of(side, i);
-    let mut c = 0;
-    while c < RELAY_ROOM {
+    for c in 0..RELAY_ROOM {
         if x.0 == 0 {
             return c;
         }
         x = prior_of(side, x);
-        c += 1;
     }
-    c
+    RELAY_ROOM
 }
 
 // The `count` relays of path i before its end, written downwards to `from`.
@@ -43,9 +37,7 @@ fn write_down(relays: &mut [u16], side: &[u16], order: &[u16], i: u16, count: us
         (second_in side.now i) relays.old }
 {
     let mut x = second_of(side, i);
-    let mut c = count;
-    while 0 < c {
-        c -= 1;
+    for c in (0..count).rev() {
         put(relays, from + c, relay_at(order, x).0);
         x = prior_of(side, x);
     }
@@ -58,13 +50,9 @@ fn write_up(relays: &mut [u16], side: &[u16], order: &[u16], i: u16, count: usiz
         relays.old }
 {
     let mut x = second_of(side, i);
-    let mut c = count;
-    let mut p = at;
-    while 0 < c {
+    for p in at..at + count {
         put(relays, p, relay_at(order, x).0);
         x = prior_of(side, x);
-        p += 1;
-        c -= 1;
     }
 }
 
@@ -80,6 +68,7 @@ fn write_route(
 ) -> usize
     requires { from ≤ last_start }
     ensures value { result ≡ route_length front.now back.now i }
+    ensures bound { result ≤ 2001 }
     ensures relays_left { relays.new ≡ write_route front.now back.now order.now i from
         relays.old }
 {
@@ -105,13 +94,11 @@ pub(crate) fn write_routes(
     ensures { written counts.new relays.new result
         ≡ write_from front.now back.now order.now k 0 0 counts.old relays.old }
 {
-    let mut i = 0;
     let mut from = 0;
-    while i < k {
+    for i in 0..k {
         let length = write_route(relays, front, back, order, i + 1, from);
-        put(counts, i as usize, length as u16);
+        put(counts, usize::from(i), length as u16);
         from += length;
-        i += 1;
     }
     from
 }

@@ -2,29 +2,27 @@
 // stands, or the refusal. An input that is longer than the room gets no line: which report stands rests on its last byte too.
 #![tactic(auto)]
 
-use input::Feature;
+ghost use Rattle.std.specs.Prelude.{◌≡◌};
+ghost use Rattle.definitions.specs.Stands.{stands_text};
+
+use input::{Complaints, Feature};
 
 fn main(rt: HostRuntime) {
-    let mut buffer = input::long_room();
-    let arrived = input::read_all(&mut rt.stdin(), &mut buffer);
-    if arrived.is_failure() {
-        input::complain(
-            &mut rt.stderr(),
-            b"stander: standard input cannot be read\n",
-        );
-        return;
-    }
-    if !arrived.has_ended() {
-        input::complain_of_length(
-            &mut rt.stderr(),
-            Feature::Stands,
-            arrived,
-            b"stander: the input has more than 1000000 bytes\n",
-        );
-        return;
-    }
-    let count = arrived.size();
-    let mut output = stands::printed::output();
-    let size = stands::printed::stands(&buffer[..count], &mut output);
-    input::hand_over(&mut rt.stdout(), Feature::Stands, arrived, &output[..size]);
+    let mut output = [0; stands::printed::OUTPUT];
+    let complaints = Complaints {
+        unreadable: b"stander: standard input cannot be read\n",
+        too_long: Some(b"stander: the input has more than 1000000 bytes\n"),
+    };
+    input::answer(
+        rt,
+        Feature::Stands,
+        &mut input::long_room(),
+        complaints,
+        |text|
+            ensures { result.now ≡ stands_text text.now }
+        {
+            let size = stands::printed::stands(text, &mut output);
+            &output[..size]
+        },
+    );
 }

@@ -9,15 +9,10 @@ use crate::{Which, which_stands};
 use network::Refusal;
 use program::border::border;
 use program::refusal::put_any;
-use text::scan::PairScan;
 use text::{put, scan};
 
 // The bytes of the longest report; the refused line has fewer.
 pub const OUTPUT: usize = 3917;
-
-pub fn output() -> [u8; OUTPUT] {
-    [0u8; OUTPUT]
-}
 
 // The text for two reports.
 fn put_standing(output: &mut [u8], first: &[u8], second: &[u8]) -> usize
@@ -25,9 +20,9 @@ fn put_standing(output: &mut [u8], first: &[u8], second: &[u8]) -> usize
     ensures { StandsPut output.old (stands_of first.now second.now) output.new result }
 {
     match which_stands(first, second) {
-        Which::First => put::put_word(output, 0, first),
-        Which::Second => put::put_word(output, 0, second),
-        Which::Refused(refusal) => put_any(output, refusal),
+        Ok(Which::First) => put::put_word(output, 0, first),
+        Ok(Which::Second) => put::put_word(output, 0, second),
+        Err(refusal) => put_any(output, refusal),
     }
 }
 
@@ -46,7 +41,7 @@ pub fn stands(input: &[u8], output: &mut [u8; OUTPUT]) -> usize
     ensures bytes { output.new ≡ overwrite (stands_text input.now) output.old }
 {
     match scan::pair_line(input, b"(stands ", b" ", b")\n", 0) {
-        PairScan::Departs(p) => put_any(output, Refusal::Wish(p)),
-        PairScan::Reads(a, b, p) => put_both(output, &input[p..], a, b),
+        Err(departure) => put_any(output, Refusal::Wish(departure.0)),
+        Ok((a, b, p)) => put_both(output, &input[p..], a, b),
     }
 }

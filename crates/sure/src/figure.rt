@@ -1,56 +1,50 @@
 // What is printed for an accepted network, from the output's first byte on.
 ghost use Rattle.std.specs.Prelude.{◌≤◌, length};
-ghost use Rattle.definitions.specs.Network.{Accepted};
 ghost use Rattle.definitions.specs.Sure.{figure_text};
 ghost use Rattle.text.specs.Put.{Put};
-ghost use Rattle.program.specs.ReadStage.{network_of};
+ghost use Rattle.program.specs.ReadStage.{network_in};
 
 use forests::idle::serving;
 use forests::results::{links_of, place_relays};
-use network::Relay;
-use network::limits::ROUTES;
+use network::limits::{RELAY_ROOM, ROUTES};
+use network::{Network, Relay};
 use plan::stages::plan_accepted;
 use program::line::{put_single, put_triple};
-use program::rooms;
+use routes::Wish;
 
 // The sheet for the last two relays of the order; or a line where fewer than two are in service, and where the last has no link or
 // more than 32. Returns its length.
-pub(crate) fn put_figure(
-    output: &mut [u8],
-    n: u16,
-    lows: &[u16],
-    highs: &[u16],
-    states: &[u16],
-) -> usize
-    requires accepted { Accepted n lows.now highs.now states.now }
-    requires states_in_bounds { length (figure_text (network_of n lows.now highs.now states.now)) ≤ length output.old }
-    ensures { Put output.old 0 (figure_text (network_of n lows.now highs.now states.now))
-        output.new result }
+pub(crate) fn put_figure(output: &mut [u8], network: Network) -> usize
+    requires { length (figure_text (network_in network)) ≤ length output.old }
+    ensures { Put output.old 0 (figure_text (network_in network.entry)) output.new result }
 {
-    let count = serving(n, states) as usize;
+    let count = usize::from(serving(network.table.n, network.table.states));
     if count < 2 {
         return put_single(output, 0, b"(none (serving ", count, b"))\n");
     }
-    let mut relays = rooms::states();
-    let mut places = rooms::states();
-    place_relays(n, lows, highs, states, &mut relays, &mut places);
+    let mut relays = [0; RELAY_ROOM];
+    let mut places = [0; RELAY_ROOM];
+    place_relays(network, &mut relays, &mut places);
     let last = Relay(relays[count - 1]);
     let prior = Relay(relays[count - 2]);
-    let links = links_of(n, lows, highs, states, last);
-    if 1 <= links {
-        if links <= ROUTES {
-            return plan_accepted(output, n, lows, highs, states, last, prior, links);
-        }
+    let links = links_of(network, last);
+    if 1 <= links && links <= ROUTES {
+        let wish = Wish {
+            from: last,
+            to: prior,
+            k: links,
+        };
+        return plan_accepted(output, network, wish);
     }
     put_triple(
         output,
         0,
         b"(none (from ",
-        last.0 as usize,
+        usize::from(last.0),
         b") (to ",
-        prior.0 as usize,
+        usize::from(prior.0),
         b") (links ",
-        links as usize,
+        usize::from(links),
         b"))\n",
     )
 }

@@ -6,9 +6,8 @@ ghost use Rattle.definitions.specs.Lists.{overwrite};
 ghost use Rattle.definitions.specs.Sure.{sure_text};
 
 use figure::put_figure;
-use program::load::load;
 use program::refusal::put_refusal;
-use text::ReadAnswer;
+use program::rooms::Rooms;
 
 mod figure;
 
@@ -18,15 +17,9 @@ pub fn sure(input: &[u8], output: &mut [u8; plan::rooms::OUTPUT]) -> usize
     ensures length { result ≡ length (sure_text input.now) }
     ensures bytes { output.new ≡ overwrite (sure_text input.now) output.old }
 {
-    let mut lows = program::rooms::links();
-    let mut highs = program::rooms::links();
-    let mut states = program::rooms::states();
-    match load(input, &mut lows, &mut highs, &mut states) {
-        ReadAnswer::Refused(refusal) => put_refusal(output, refusal),
-        ReadAnswer::Table(n, m) => {
-            let size = m as usize;
-            let relays = n as usize;
-            put_figure(output, n, &lows[..size], &highs[..size], &states[..relays])
-        }
+    let mut rooms = Rooms::new();
+    match rooms.load(input) {
+        Ok(network) => put_figure(output, network),
+        Err(refusal) => put_refusal(output, refusal),
     }
 }

@@ -2,17 +2,27 @@
 // none, or the refusal.
 #![tactic(auto)]
 
-use input::Feature;
+ghost use Rattle.std.specs.Prelude.{◌≡◌};
+ghost use Rattle.definitions.specs.Sure.{sure_text};
+
+use input::{Complaints, Feature};
 
 fn main(rt: HostRuntime) {
-    let mut buffer = input::room();
-    let arrived = input::read_all(&mut rt.stdin(), &mut buffer);
-    if arrived.is_failure() {
-        input::complain(&mut rt.stderr(), b"surer: standard input cannot be read\n");
-        return;
-    }
-    let count = arrived.size();
-    let mut output = plan::rooms::output();
-    let size = sure::sure(&buffer[..count], &mut output);
-    input::hand_over(&mut rt.stdout(), Feature::Sure, arrived, &output[..size]);
+    let mut output = [0; plan::rooms::OUTPUT];
+    let complaints = Complaints {
+        unreadable: b"surer: standard input cannot be read\n",
+        too_long: None,
+    };
+    input::answer(
+        rt,
+        Feature::Sure,
+        &mut input::room(),
+        complaints,
+        |text|
+            ensures { result.now ≡ sure_text text.now }
+        {
+            let size = sure::sure(text, &mut output);
+            &output[..size]
+        },
+    );
 }

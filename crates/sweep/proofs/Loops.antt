@@ -1,18 +1,19 @@
 -- One turn of each loop that counts an index down, in the code's terms: what is left from i on is the turn at i and then
 -- what is left from i - 1 on. Assumes nothing.
 use Prim.Native.Nat.{ℕ, zero, suc, ◌-◌, ◌≤◌, ◌<◌, pred}
-use mathlib.Core.Bool.{Bool, true, false, ◌||◌}
+use mathlib.Core.Bool.{◌||◌, or-true}
 use mathlib.Core.List.{List}
-use mathlib.Core.Path.{◌≡◌, sym, ◌∙◌}
-use native.Mathlib.Numerals.{sub-one}
+use mathlib.Core.Path.{◌≡◌, refl}
+use Rattle.std.proofs.Common.{Some, None, inl, inr}
 use native.Mathlib.Omega.{arith}
 use borrow.Author.Tests.{eq-eqb, ne_eqb}
 use lib.Dec.{eqb}
+use mathlib.Core.Logic.{◌⊎◌}
 use Rattle.definitions.specs.Lists.{largest}
 use Rattle.definitions.specs.Forests.{Entry}
 use Rattle.lists.specs.Searches.{largest-bound}
 use Rattle.sweep.specs.Side.{end_in, set_path, extend_path, advance, trade_at, trade_from}
-use Rattle.sweep.specs.Sides.{sides, highest_in, start_a, start_b, leave_at, leave_from, pass_at, step_in, sweep_in, swept_in}
+use Rattle.sweep.specs.Sides.{sides, some_index, highest_in, start_a, start_b, leave_at, leave_from, pass_at, step_in, sweep_in}
 
 pub trade-turn : (look : ℕ → ℕ → Entry) (v j i : ℕ) (side : List ℕ) → 0 < i
     → trade_from look v j i side ≡ trade_from look v j (i - 1) (trade_at look v j i side)
@@ -63,23 +64,45 @@ pub sweep-end : (look : ℕ → ℕ → Entry) (k t v : ℕ) (a b : List ℕ) �
 unfolding sweep_in
 sweep-end look k t v a b e = rw e
 
-pub highest-found : (test : ℕ → Bool) (i : ℕ) → 0 < i → test i ≡ true → largest test i ≡ i
-unfolding largest
-highest-found test zero some e = absurd (omega arith)
-highest-found test (suc i) some e = rw e
+-- The largest index, counted down.
+pub highest-found : (k v i : ℕ) (a b : List ℕ) → 0 < i → end_in a i ≡ v ⊎ end_in b i ≡ v → highest_in k v a b ≡ highest_in i v a b
+    → Some i ≡ some_index (highest_in k v a b)
+unfolding highest_in some_index largest
+highest-found k v zero a b some at e = absurd (omega arith)
+highest-found k v (suc i) a b some at e = rw e (elim at [
+  | inl at_a ↦ rw (eq-eqb (end_in a (suc i)) v at_a)
+  | inr at_b ↦ rw (eq-eqb (end_in b (suc i)) v at_b, or-true)
+])
 
-pub highest-turn : (test : ℕ → Bool) (i : ℕ) → 0 < i → test i ≡ false → largest test i ≡ largest test (i - 1)
-unfolding largest
-highest-turn test zero some e = absurd (omega arith)
-highest-turn test (suc i) some e = let less : suc i - 1 ≡ i = omega arith in rw (e, less)
+pub highest-turn : (v i : ℕ) (a b : List ℕ) → 0 < i → (end_in a i ≡ v → ⊥) → (end_in b i ≡ v → ⊥)
+    → highest_in i v a b ≡ highest_in (i - 1) v a b
+unfolding highest_in largest
+highest-turn v zero a b some off_a off_b = absurd (omega arith)
+highest-turn v (suc i) a b some off_a off_b =
+    let less : suc i - 1 ≡ i = omega arith in
+    rw (ne_eqb (end_in a (suc i)) v off_a, ne_eqb (end_in b (suc i)) v off_b, less)
 
-pub highest-end : (test : ℕ → Bool) (i : ℕ) → i ≡ 0 → largest test i ≡ 0
-unfolding largest
-highest-end test i e = rw e
+pub highest-none : (k v i : ℕ) (a b : List ℕ) → i ≡ 0 → highest_in k v a b ≡ highest_in i v a b
+    → None ≡ some_index (highest_in k v a b)
+unfolding highest_in some_index largest
+highest-none k v i a b end e = rw (e, end)
 
-pub highest-bound : (k v : ℕ) (a b : List ℕ) → highest_in k v a b ≤ k
+-- What a largest index is, by what is given for it.
+pub index-given : (h j : ℕ) → Some j ≡ some_index h → (j ≡ h) × (0 < h)
+unfolding some_index
+index-given zero j e = absurd cc
+index-given (suc h) j e = (cc, omega arith)
+
+pub none-given : (h : ℕ) → None ≡ some_index h → h ≡ 0
+unfolding some_index
+none-given zero e = refl
+none-given (suc h) e = absurd cc
+
+pub highest-bound : (k v j : ℕ) (a b : List ℕ) → Some j ≡ some_index (highest_in k v a b) → j ≤ k
 unfolding highest_in
-highest-bound k v a b = largest-bound (λ i. eqb (end_in a i) v || eqb (end_in b i) v) k
+highest-bound k v j a b e =
+    let given = index-given _ j e in
+    omega (arith, largest-bound (λ i. eqb (end_in a i) v || eqb (end_in b i) v) k)
 
 -- The calls at a place other than t, one after another: the two paths of j meet there, one of them goes on, or both end elsewhere.
 module _ (look : ℕ → ℕ → Entry) (v j : ℕ) (a b a₁ b₁ : List ℕ) (end_a end_b : ℕ)
@@ -107,20 +130,14 @@ pub stepped-at : (look : ℕ → ℕ → Entry) (k t v : ℕ) (a b b₁ : List �
 unfolding step_in
 stepped-at look k t v a b b₁ at e = rw (eq-eqb v t at, e)
 
-pub stepped-none : (look : ℕ → ℕ → Entry) (k t v j : ℕ) (a b : List ℕ) → (v ≡ t → ⊥) → j ≡ highest_in k v a b → j ≡ 0
+pub stepped-none : (look : ℕ → ℕ → Entry) (k t v : ℕ) (a b : List ℕ) → (v ≡ t → ⊥) → None ≡ some_index (highest_in k v a b)
     → sides a b ≡ step_in look k t v a b
 unfolding step_in
-stepped-none look k t v j a b off e none = rw (ne_eqb v t off, eq-eqb (highest_in k v a b) 0 (sym e ∙ none))
+stepped-none look k t v a b off none = rw (ne_eqb v t off, eq-eqb (highest_in k v a b) 0 (none-given _ none))
 
-pub stepped-pass : (look : ℕ → ℕ → Entry) (k t v j : ℕ) (a b a₁ b₁ : List ℕ) → (v ≡ t → ⊥) → j ≡ highest_in k v a b
-    → (j ≡ 0 → ⊥) → sides a₁ b₁ ≡ pass_at look v j a b → sides a₁ b₁ ≡ step_in look k t v a b
+pub stepped-pass : (look : ℕ → ℕ → Entry) (k t v j : ℕ) (a b a₁ b₁ : List ℕ) → (v ≡ t → ⊥)
+    → Some j ≡ some_index (highest_in k v a b) → sides a₁ b₁ ≡ pass_at look v j a b → sides a₁ b₁ ≡ step_in look k t v a b
 unfolding step_in
-stepped-pass look k t v j a b a₁ b₁ off e some passes =
-    rw (ne_eqb v t off, ne_eqb (highest_in k v a b) 0 (λ z. some (e ∙ z)), ← e) passes
-
--- The calls of the sweep, one after another.
-pub swept : (look : ℕ → ℕ → Entry) (k s t last : ℕ) (a b a₁ b₁ a₂ b₂ : List ℕ)
-    → last ≡ s - 1 → a₁ ≡ start_a look s k a → b₁ ≡ start_b t k b → sides a₂ b₂ ≡ sweep_in look k t last a₁ b₁
-    → sides a₂ b₂ ≡ swept_in look k s t a b
-unfolding swept_in
-swept look k s t last a b a₁ b₁ a₂ b₂ el ea eb e = rw (← sub-one s, ← el, ← ea, ← eb) e
+stepped-pass look k t v j a b a₁ b₁ off e passes =
+    let given = index-given (highest_in k v a b) j e in
+    rw (ne_eqb v t off, ne_eqb (highest_in k v a b) 0 (λ z. absurd (omega arith)), ← given.0) passes

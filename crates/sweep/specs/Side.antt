@@ -6,6 +6,7 @@ use Rattle.definitions.specs.Outcome.{pick}
 use Rattle.definitions.specs.Forests.{Entry}
 use Rattle.forests.specs.Left.{left_index}
 use Rattle.sweep.specs.declared.side.Neighbour.{Neighbour}
+use Rattle.sweep.specs.declared.side.LeftTable.{LeftTable}
 
 -- What the look-up gives, as the definitions have it.
 abbrev pub entry_of : Neighbour → Entry
@@ -25,6 +26,10 @@ link_entry ends (suc link) = record { place = get_or ends link 0; link = link }
 unfoldable pub table_entry : (table ends : List ℕ) (n i v : ℕ) → Entry
 table_entry table ends n i v =
     pick (eqb i 0) none (pick (eqb v 0) none (pick (ltb n v) none (link_entry ends (get_or table (left_index n i v) 0))))
+
+-- The same of a lent left table.
+abbrev pub left_of : LeftTable → (i v : ℕ) → Entry
+left_of table = table_entry table.entries.now table.ends.now table.n
 
 -- Where the last but ones start, behind the ends of the indices 0 to 32, where the links start, and where the places before each
 -- place start.

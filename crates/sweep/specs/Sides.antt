@@ -1,5 +1,5 @@
 -- Both sides of the sweep, A and B: the start, the step at a place and the sweep, as the loops run. Assumes nothing.
-use Rattle.std.specs.Prelude.{ℕ, zero, suc, pred, ◌||◌, List, eqb}
+use Rattle.std.specs.Prelude.{ℕ, zero, suc, pred, ◌||◌, List, Option, None, Some, eqb}
 use Rattle.definitions.specs.Outcome.{pick}
 use Rattle.definitions.specs.Lists.{largest}
 use Rattle.definitions.specs.Forests.{Entry}
@@ -15,6 +15,11 @@ sides a b = record { side_a = a; side_b = b }
 -- The largest index up to k whose A-path or B-path ends at v, or 0.
 unfoldable pub highest_in : (k v : ℕ) (a b : List ℕ) → ℕ
 highest_in k v a b = largest (λ i. eqb (end_in a i) v || eqb (end_in b i) v) k
+
+-- The same with None for 0.
+unfoldable pub some_index : ℕ → Option ℕ
+some_index zero = None
+some_index (suc i) = Some (suc i)
 
 -- Path i for i, …, 1 of side A starts as s, left(i, s).
 unfoldable pub start_a : (look : ℕ → ℕ → Entry) (s i : ℕ) (a : List ℕ) → List ℕ

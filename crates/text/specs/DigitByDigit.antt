@@ -1,6 +1,6 @@
 -- How a number is read digit by digit: the first digit, later digits, where it ends. Assumes nothing.
 use Rattle.std.specs.Prelude.{ℕ, zero, suc, ◌+◌, ◌-◌, ◌*◌, ◌^◌, ◌≤◌, ◌<◌, true, false, List, [], ◌∷◌, ◌⊎◌, ◌≡◌, refl}
-use Rattle.std.proofs.Common.{inl, inr, arith, eq-eqb, ne_eqb}
+use Rattle.std.proofs.Common.{inl, inr, add-one, arith, eq-eqb, ne_eqb}
 use Rattle.definitions.specs.Lists.{outside}
 use Rattle.lists.specs.Ranges.{inside, below}
 use Rattle.definitions.specs.Form.{departs, reads, byte_at, scan_digits, scan_decimal}
@@ -39,15 +39,12 @@ power-room zero (suc k) h = omega (arith, power-step k, power-room zero k (omega
 power-room (suc j) zero h = absurd (omega arith)
 power-room (suc j) (suc k) h = omega (arith, power-step k, power-step j, power-room j k (omega arith))
 
--- Of at most `most` digits behind the first, `more` may yet come: the number has as many digits fewer than `most` + 1.
-pub digits-bound : (most more x d : ℕ) → 0 < more → more ≤ most → x < 10 ^ (suc most - more) → d ≤ 9
-    → x * 10 + d < 10 ^ (suc most - (more - 1))
-digits-bound most more x d l h b e =
-    let s : suc most - (more - 1) ≡ suc (suc most - more) = omega arith in
-    rw s (omega (arith, power-step (suc most - more), b))
+-- A number of so many digits, with one more behind it.
+pub digits-bound : (count x d : ℕ) → x < 10 ^ count → d ≤ 9 → x * 10 + d < 10 ^ (count + 1)
+digits-bound count x d b e = rw (add-one count) (omega (arith, power-step count, b))
 
-pub digits-room : (most more x : ℕ) → 0 < more → more ≤ most → x < 10 ^ (suc most - more) → x < 10 ^ most
-digits-room most more x l h b = omega (arith, b, power-room (suc most - more) most (omega arith))
+pub digits-room : (count most x : ℕ) → count ≤ most → x < 10 ^ count → x < 10 ^ most
+digits-room count most x h b = omega (arith, b, power-room count most h)
 
 -- "no zero in front except in `0` itself", for a number of at most `more` + 1 digits.
 pub decimal-zero : (text : List ℕ) (more p : ℕ) → byte_at text p ≡ 48 → scan_decimal text more p ≡ reads (0 ∷ []) (p + 1)

@@ -42,7 +42,7 @@ pub record FormWritable (buffer : List ℕ) (mark : WriteMark) (due : Due) (n : 
 
 -- The form stands at the mark, and the mark behind it.
 pub record Moved
-    (before : List ℕ) (mark : WriteMark) (due : Due) (n : ℕ) (lows highs states after : List ℕ) (moved : WriteMark)
+    (before : List ℕ) (mark : WriteMark) (due : Due) (after : List ℕ) (moved : WriteMark) (n : ℕ) (lows highs states : List ℕ)
     : Type 0 where
   pub put : Put before mark.next (due_text due n lows highs states mark.links) after moved.next
   pub counts : moved.links ≡ links_after due mark.links
@@ -52,26 +52,12 @@ pub due-room : {buffer : List ℕ} {mark : WriteMark} {due : Due} {n : ℕ} {low
     → FormWritable buffer mark due n lows highs states → mark.next + length (due_text form n lows highs states mark.links) ≤ length buffer
 due-room form e fits = rw (sym e) fits.room
 
-pub due-entries : {buffer : List ℕ} {mark : WriteMark} {due : Due} {n : ℕ} {lows highs states : List ℕ} (form : Due) → due ≡ form
-    → FormWritable buffer mark due n lows highs states → DueEntries form mark.links lows highs
-due-entries form e fits = rw (sym e) fits.entries
-
--- A link's line, from the two numbers that were looked up.
-pub entries-line : (lows highs : List ℕ) (i low high : ℕ) → low ≡ get_or lows i 0 → high ≡ get_or highs i 0
-    → write_form link_form (low ∷ high ∷ []) ≡ write_form link_form (get_or lows i 0 ∷ get_or highs i 0 ∷ [])
-entries-line lows highs i low high e f = rw (e, f)
-
--- A writing of the same bytes.
-pub same_bytes : {before after written wanted : List ℕ} {at next : ℕ} → written ≡ wanted → Put before at written after next
-    → Put before at wanted after next
-same_bytes e put = rw (sym e) put
-
 -- Before the first form.
 abbrev pub first : WriteMark
 first = record { next = 0; links = 0 }
 
 -- A table of two equal lists, and a buffer with the room for its text.
-pub record Writable (n : ℕ) (lows highs states buffer : List ℕ) : Type 0 where
+pub record Writable (buffer : List ℕ) (n : ℕ) (lows highs states : List ℕ) : Type 0 where
   pub even : length lows ≡ length highs
   pub enough : length (text_of n lows highs states) ≤ length buffer
 
@@ -103,7 +89,7 @@ module _ (n : ℕ) (lows highs states start : List ℕ) where
       ≡ length (link_lines lows highs i (length lows - i)) + (length (out_lines states 0 (length states)) + length (write_form end_form []))
   length-left i = simp length-append
 
-  module _ (writable : Writable n lows highs states start) where
+  module _ (writable : Writable start n lows highs states) where
     pub header-writable : FormWritable start first dues.Header n lows highs states
     header-writable =
         record {
@@ -142,7 +128,7 @@ module _ (n : ℕ) (lows highs states start : List ℕ) where
     end-writable buffer mark s =
         record { within = s.within; entries = tt; room = omega (arith, writable.enough, s.same, s.ends) }
 
-  pub header-moved : (buffer : List ℕ) (mark : WriteMark) → Moved start first dues.Header n lows highs states buffer mark
+  pub header-moved : (buffer : List ℕ) (mark : WriteMark) → Moved start first dues.Header buffer mark n lows highs states
       → Standing buffer mark
   unfolding text_of
   header-moved buffer mark m =
@@ -159,7 +145,7 @@ module _ (n : ℕ) (lows highs states start : List ℕ) where
       }
 
   pub link-moved : (buffer after : List ℕ) (mark moved : WriteMark) → Standing buffer mark → mark.links < length lows
-      → Moved buffer mark dues.Link n lows highs states after moved → Standing after moved
+      → Moved buffer mark dues.Link after moved n lows highs states → Standing after moved
   link-moved buffer after mark moved s h m =
       let step = links-step lows highs mark.links (length lows) h in
       let form = write_form link_form (get_or lows mark.links 0 ∷ get_or highs mark.links 0 ∷ []) in
@@ -176,7 +162,7 @@ module _ (n : ℕ) (lows highs states start : List ℕ) where
       }
 
   pub outs-moved : (buffer after : List ℕ) (mark moved : WriteMark) → Standing buffer mark → length lows ≤ mark.links
-      → Moved buffer mark dues.Out n lows highs states after moved → Ending after moved
+      → Moved buffer mark dues.Out after moved n lows highs states → Ending after moved
   outs-moved buffer after mark moved s h m =
       let lines = out_lines states 0 (length states) in
       let whole : left mark.links ≡ tail =
@@ -191,7 +177,7 @@ module _ (n : ℕ) (lows highs states start : List ℕ) where
       }
 
   pub end_moved : (buffer after : List ℕ) (mark moved : WriteMark) → Ending buffer mark
-      → Moved buffer mark dues.End n lows highs states after moved → Put start 0 (text_of n lows highs states) after moved.next
+      → Moved buffer mark dues.End after moved n lows highs states → Put start 0 (text_of n lows highs states) after moved.next
   end_moved buffer after mark moved s m =
       record {
         bytes = m.put.bytes ∙ sym s.bytes;

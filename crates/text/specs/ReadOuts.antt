@@ -1,7 +1,6 @@
 -- How the definition reads `out` lines and what their states leave in the list, way by way. Assumes nothing.
-use Rattle.std.specs.Prelude.{ℕ, zero, suc, ◌+◌, ◌-◌, ◌≤◌, ◌<◌, true, false, List, [], ◌∷◌, ◌++◌, ◌≡◌, refl, eqb, length, get_or, take, set, replicate}
+use Rattle.std.specs.Prelude.{ℕ, zero, suc, ◌+◌, ◌-◌, ◌≤◌, ◌<◌, true, false, List, [], ◌∷◌, ◌++◌, ◌≡◌, refl, eqb, length, get_or, take, set, replicate, Result, Ok, Err, IfOk}
 use Rattle.std.proofs.Common.{append_assoc, append-nil, sym, ◌∙◌, ap, subst, arith, length-set, length-take-le}
-use Rattle.std.proofs.Math.Seq.{append_snoc}
 use borrow.Author.Tests.{lt-ltb, le-ltb, le-leb, lt-leb}
 use Rattle.definitions.specs.Outcome.{refused, done, refuse_if}
 use Rattle.definitions.specs.Form.{departs, reads, byte_at, scan_form, on_scan}
@@ -10,13 +9,9 @@ use Rattle.network.specs.Answers.{refusal_of}
 use Rattle.network.specs.declared.Relay.{Relay}
 use Rattle.network.specs.declared.refusal.Refusal.{Refusal}
 use Rattle.network.specs.declared.refusal.Refusal.TheVariants.{Form, States}
-use Rattle.text.specs.Outs.{ServedUpTo, WithdrawnAt, on_out, IfWithdraws, OutRead, OutsLeft, OutsRead, StatesRead}
+use Rattle.text.specs.Outs.{ServedUpTo, WithdrawnAt, OutRead, OutsLeft, OutsRead, StatesRead}
 use Rattle.text.specs.Read.{take-stored}
 use Rattle.text.specs.Rows.{on_step, EndRead}
-use Rattle.text.specs.declared.outs.OutLine.{OutLine}
-use Rattle.text.specs.declared.outs.OutLine.TheVariants as out
-use Rattle.text.specs.declared.rows.Step.{Step}
-use Rattle.text.specs.declared.rows.Step.TheVariants as step
 
 -- An `out` line that departs, one whose relay is not below n or not above the one before, and one that is taken.
 module _ (text : List ℕ) (n at : ℕ) (lows highs states : List ℕ) (most : ℕ) (due : eqb (byte_at text (at + 1)) 111 ≡ true) where
@@ -49,19 +44,20 @@ outs-over text n p lows highs states (suc most) e = rw e
 
 -- What `read_out` promises, way by way.
 module _ (text : List ℕ) (n next at : ℕ) where
-  pub out-line-departs : (p : ℕ) → scan_form text out_form at ≡ departs p → OutRead text n next at (out.Refused (Form p))
-  out-line-departs p e =
-      record { follows = λ lows highs states most due room. out-departs text n at lows highs states most due p e; rises = tt }
+  pub out-line-departs : (refusal : Refusal) (p : ℕ) → refusal ≡ Form p → scan_form text out_form at ≡ departs p
+      → OutRead text n next at (Err refusal)
+  out-line-departs refusal p is e =
+      record { follows = λ lows highs states most due room. out-departs text n at lows highs states most due p e ∙ rw is; rises = tt }
 
   module _ (values : List ℕ) (relay p : ℕ) (e : scan_form text out_form at ≡ reads values p) (is : get_or values 0 0 ≡ relay) where
-    pub out-line-beyond : n ≤ relay → OutRead text n next at (out.Refused States)
+    pub out-line-beyond : n ≤ relay → OutRead text n next at (Err States)
     out-line-beyond h =
         record {
           follows = λ lows highs states most due room. out-beyond text n at lows highs states most due values p e (omega arith);
           rises = tt;
         }
 
-    pub out-line-again : relay < n → relay < next → OutRead text n next at (out.Refused States)
+    pub out-line-again : relay < n → relay < next → OutRead text n next at (Err States)
     out-line-again h k =
         record {
           follows = λ lows highs states most due room.
@@ -69,7 +65,7 @@ module _ (text : List ℕ) (n next at : ℕ) where
           rises = tt;
         }
 
-    pub out-line-taken : relay < n → next ≤ relay → OutRead text n next at (out.Withdraws (record { 0 = relay }) p)
+    pub out-line-taken : relay < n → next ≤ relay → OutRead text n next at (Ok (record { 0 = relay }, p))
     out-line-taken h k =
         record {
           follows = λ lows highs states most due room.
@@ -77,19 +73,6 @@ module _ (text : List ℕ) (n next at : ℕ) where
               ∙ ap (λ (r : ℕ). read_outs text n lows highs (withdrawn states r) p most) is;
           rises = (k, h);
         }
-
--- Ones behind the states told: one more, and none.
-pub serve-step : (states : List ℕ) (i to : ℕ) → i < to → to ≤ length states
-    → take i states ++ replicate (to - i) 1 ≡ take (i + 1) (set states i 1) ++ replicate (to - (i + 1)) 1
-serve-step states i to h k =
-    let e : to - i ≡ suc (to - (i + 1)) = omega arith in
-    rw (take-stored states i 1 (omega arith), e) (sym (append_snoc (take i states) 1 (replicate (to - (i + 1)) 1)))
-
-pub serve-end : (states : List ℕ) (i to : ℕ) → i ≤ to → to ≤ i → take i states ++ replicate (to - i) 1 ≡ take to states
-serve-end states i to h k =
-    let e : i ≡ to = omega arith in
-    let none : to - to ≡ 0 = omega arith in
-    rw (e, none) (append-nil (take to states))
 
 -- A relay withdrawn behind those in service.
 pub withdraw-stored : (next relay : ℕ) (states served : List ℕ) → next ≤ relay → relay < length states
@@ -121,10 +104,10 @@ unfolding read_end
 end_same text n p lows highs one other e = rw e
 
 -- The relay of a line that was taken.
-pub out-rises : (text : List ℕ) (n next at : ℕ) (r : OutLine) → OutRead text n next at r → (relay : Relay) (p : ℕ) → r ≡ out.Withdraws relay p
+out-rises : (text : List ℕ) (n next at : ℕ) (r : Result (Relay × ℕ) Refusal) → OutRead text n next at r → (relay : Relay) (p : ℕ) → r ≡ Ok (relay, p)
     → (next ≤ relay.0) × (relay.0 < n)
 out-rises text n next at r line relay p e =
-    subst (λ (s : OutLine). IfWithdraws s (λ relay. (next ≤ relay) × (relay < n))) e line.rises
+    subst (λ (s : Result (Relay × ℕ) Refusal). IfOk s (λ line. (next ≤ line.0.0) × (line.0.0 < n))) e line.rises
 
 -- ---- line by line
 module _ (text : List ℕ) (n at : ℕ) where
@@ -136,18 +119,18 @@ module _ (text : List ℕ) (n at : ℕ) where
     told : length (take next states) ≡ next
     told = length-take-le next states (omega (arith, left.within))
 
-    module _ (r : OutLine) (line : OutRead text n next p r) (due : eqb (byte_at text (p + 1)) 111 ≡ true) where
+    module _ (r : Result (Relay × ℕ) Refusal) (line : OutRead text n next p r) (due : eqb (byte_at text (p + 1)) 111 ≡ true) where
       -- The lines left are one and the others.
       one_line : (lows highs : List ℕ)
           → read_outs text n lows highs [] at (suc n)
-          ≡ on_out r (λ relay q. read_outs text n lows highs (withdrawn (take next states) relay) q (left.most - 1))
+          ≡ on_step r (λ line. read_outs text n lows highs (withdrawn (take next states) line.0.0) line.1 (left.most - 1))
       one_line lows highs =
           let more : left.most ≡ suc (left.most - 1) = omega (arith, left.within, left.enough) in
           left.follows lows highs
           ∙ ap (read_outs text n lows highs (take next states) p) more
           ∙ line.follows lows highs (take next states) (left.most - 1) due told
 
-      pub out-next : (relay : Relay) (q : ℕ) (states_then : List ℕ) → r ≡ out.Withdraws relay q
+      pub out-next : (relay : Relay) (q : ℕ) (states_then : List ℕ) → r ≡ Ok (relay, q)
           → WithdrawnAt next relay.0 states states_then → OutsLeft text n at states_then (relay.0 + 1) q
       out-next relay q states_then e w =
           let rises = out-rises text n next p r line relay q e in
@@ -157,15 +140,15 @@ module _ (text : List ℕ) (n at : ℕ) where
             enough = omega (arith, rises, left.within, left.enough);
             follows = λ lows highs.
                 one_line lows highs
-                ∙ ap (λ (s : OutLine). on_out s (λ relay q. read_outs text n lows highs (withdrawn (take next states) relay) q (left.most - 1))) e
+                ∙ ap (λ (s : Result (Relay × ℕ) Refusal). on_step s (λ line. read_outs text n lows highs (withdrawn (take next states) line.0.0) line.1 (left.most - 1))) e
                 ∙ ap (λ (l : List ℕ). read_outs text n lows highs l q (left.most - 1)) (sym w.front);
           }
 
-      pub out-refused : (refusal : Refusal) (lows highs : List ℕ) → r ≡ out.Refused refusal
+      pub out-refused : (refusal : Refusal) (lows highs : List ℕ) → r ≡ Err refusal
           → read_outs text n lows highs [] at (suc n) ≡ refusal_of refusal
       out-refused refusal lows highs e =
           one_line lows highs
-          ∙ ap (λ (s : OutLine). on_out s (λ relay q. read_outs text n lows highs (withdrawn (take next states) relay) q (left.most - 1))) e
+          ∙ ap (λ (s : Result (Relay × ℕ) Refusal). on_step s (λ line. read_outs text n lows highs (withdrawn (take next states) line.0.0) line.1 (left.most - 1))) e
 
     pub outs-end : (states_then : List ℕ) → eqb (byte_at text (p + 1)) 111 ≡ false → ServedUpTo next n states states_then
         → (lows highs : List ℕ) → read_outs text n lows highs [] at (suc n) ≡ read_end text n lows highs (take n states_then) p
@@ -175,23 +158,15 @@ module _ (text : List ℕ) (n at : ℕ) where
         ∙ end_same text n p lows highs (take next states) (take n states_then)
         (all-served n next states told ∙ sym s.front ∙ sym (all_told n states_then (omega (arith, s.same))))
 
--- A line was refused, or all states are told and the end is read or refused.
-module _ (text : List ℕ) (n at : ℕ) (states states_then : List ℕ) (r : Step) (outs : OutsRead text n at states states_then r) where
-  pub outs-refused : (refusal : Refusal) → r ≡ step.Refused refusal → StatesRead text n at states states_then (step.Refused refusal)
-  outs-refused refusal e =
-      record {
-        follows = λ lows highs.
-            outs.follows lows highs ∙ ap (λ (s : Step). on_step s (read_end text n lows highs (take n states_then))) e;
-        same = outs.same;
-      }
-
-  pub outs-told : (q : Step) (p : ℕ) → n ≤ length states → r ≡ step.Next p → EndRead text p q
+-- All states are told, and the end is read or refused.
+module _ (text : List ℕ) (n at : ℕ) (states states_then : List ℕ) (r : Result ℕ Refusal) (outs : OutsRead text n at states states_then r) where
+  pub outs-told : (q : Result ℕ Refusal) (p : ℕ) → n ≤ length states → r ≡ Ok p → EndRead text p q
       → StatesRead text n at states states_then q
   outs-told q p room e ends =
       record {
         follows = λ lows highs.
             outs.follows lows highs
-            ∙ ap (λ (s : Step). on_step s (read_end text n lows highs (take n states_then))) e
+            ∙ ap (λ (s : Result ℕ Refusal). on_step s (read_end text n lows highs (take n states_then))) e
             ∙ ends.follows n lows highs (take n states_then)
             ∙ ap (λ (l : List ℕ). on_step q (λ _. done (record { relays = n; lows = lows; highs = highs; states = l })))
             (all_told n states_then (omega (arith, outs.same)));

@@ -1,5 +1,5 @@
 -- What the check of a network's size promises: the refusals 3, 4 and 8, or the limits and the room that it found. Assumes nothing.
-use Rattle.std.specs.Prelude.{ℕ, ◌≤◌, ◌<◌, true, false, ◌≡◌, ltb}
+use Rattle.std.specs.Prelude.{ℕ, ◌≤◌, ◌<◌, true, false, ◌≡◌, ltb, ⊤, Result, Ok, Err, IfOk}
 use Rattle.std.proofs.Common.{sym, ◌∙◌, ap, subst}
 use borrow.Author.Tests.{lt-ltb, le-ltb}
 use Rattle.definitions.specs.Outcome.{Outcome, refused, refuse_if}
@@ -9,14 +9,12 @@ use Rattle.lists.specs.Ranges.{inside}
 use Rattle.lists.specs.Tests.{or-neither}
 use Rattle.text_theory.specs.Sized.{sized-passed}
 use Rattle.network.specs.Answers.{refusal_of}
-use Rattle.network.specs.declared.Check.{Check}
-use Rattle.network.specs.declared.Check.TheVariants.{Accepted, Refused}
 use Rattle.network.specs.declared.refusal.Refusal.{Refusal}
 
 -- The refusal, or what follows.
-abbrev pub on_check : {A : Type 0} → Check → Outcome A → Outcome A
-on_check Accepted rest = rest
-on_check (Refused refusal) rest = refusal_of refusal
+abbrev pub on_check : {A : Type 0} → Result ⊤ Refusal → Outcome A → Outcome A
+on_check (Ok _) rest = rest
+on_check (Err refusal) rest = refusal_of refusal
 
 -- n relays and m links are within the limits and have room in three lists of these lengths.
 pub record HasRoom (n m room_lows room_highs room_states : ℕ) : Type 0 where
@@ -27,42 +25,37 @@ pub record HasRoom (n m room_lows room_highs room_states : ℕ) : Type 0 where
   pub in_highs : m ≤ room_highs
   pub in_states : n ≤ room_states
 
--- What holds where the check was passed.
-abbrev pub IfAccepted : Check → Type 0 → Type 0
-IfAccepted Accepted claim = claim
-IfAccepted (Refused refusal) claim = Unit {0}
-
-pub record SizeChecked (n m room_lows room_highs room_states : ℕ) (r : Check) : Type 0 where
+pub record SizeChecked (n m room_lows room_highs room_states : ℕ) (r : Result ⊤ Refusal) : Type 0 where
   pub decides : (rest : Outcome Network) → sized n m room_lows room_highs room_states rest ≡ on_check r rest
-  pub room : IfAccepted r (HasRoom n m room_lows room_highs room_states)
+  pub room : IfOk r (λ _. HasRoom n m room_lows room_highs room_states)
 
 -- Each way through the check.
 module _ (n m room_lows room_highs room_states : ℕ) where
-  abbrev Checks : Check → Type 0
+  abbrev Checks : Result ⊤ Refusal → Type 0
   Checks r = SizeChecked n m room_lows room_highs room_states r
 
   pub count-outside : (refusal : Refusal) → refusal_of {A = Network} refusal ≡ refused 3 0 → outside 1 1000 n ≡ true
-      → Checks (Refused refusal)
+      → Checks (Err refusal)
   unfolding refuse_if
   count-outside refusal number e = record { decides = λ rest. rw e (sym number); room = tt }
 
   pub links-many : (refusal : Refusal) → refusal_of {A = Network} refusal ≡ refused 4 0 → outside 1 1000 n ≡ false → 3000 < m
-      → Checks (Refused refusal)
+      → Checks (Err refusal)
   unfolding refuse_if
   links-many refusal number e h = record { decides = λ rest. rw (e, lt-ltb 3000 m h) (sym number); room = tt }
 
   module _ (refusal : Refusal) (number : refusal_of {A = Network} refusal ≡ refused 8 0) (e : outside 1 1000 n ≡ false)
       (h : m ≤ 3000) where
-    pub lows-short : room_lows < m → Checks (Refused refusal)
+    pub lows-short : room_lows < m → Checks (Err refusal)
     unfolding refuse_if
     lows-short l = record { decides = λ rest. rw (e, le-ltb 3000 m h, lt-ltb room_lows m l) (sym number); room = tt }
 
-    pub highs-short : m ≤ room_lows → room_highs < m → Checks (Refused refusal)
+    pub highs-short : m ≤ room_lows → room_highs < m → Checks (Err refusal)
     unfolding refuse_if
     highs-short k l =
         record { decides = λ rest. rw (e, le-ltb 3000 m h, le-ltb room_lows m k, lt-ltb room_highs m l) (sym number); room = tt }
 
-    pub states-short : m ≤ room_lows → m ≤ room_highs → room_states < n → Checks (Refused refusal)
+    pub states-short : m ≤ room_lows → m ≤ room_highs → room_states < n → Checks (Err refusal)
     unfolding refuse_if
     states-short k l s =
         record {
@@ -71,7 +64,7 @@ module _ (n m room_lows room_highs room_states : ℕ) where
           room = tt;
         }
 
-  pub has_room : HasRoom n m room_lows room_highs room_states → Checks Accepted
+  pub has_room : HasRoom n m room_lows room_highs room_states → Checks (Ok tt)
   has_room room =
       record {
         decides = λ rest.
@@ -87,13 +80,13 @@ module _ (n m room_lows room_highs room_states : ℕ) where
       }
 
   -- What a check that refused, or was passed, leaves of the whole.
-  module _ (r : Check) (checked : Checks r) where
-    pub size-refused : (refusal : Refusal) (rest : Outcome Network) → r ≡ Refused refusal
+  module _ (r : Result ⊤ Refusal) (checked : Checks r) where
+    pub size-refused : (refusal : Refusal) (rest : Outcome Network) → r ≡ Err refusal
         → sized n m room_lows room_highs room_states rest ≡ refusal_of refusal
-    size-refused refusal rest e = checked.decides rest ∙ ap (λ (c : Check). on_check c rest) e
+    size-refused refusal rest e = checked.decides rest ∙ ap (λ (c : Result ⊤ Refusal). on_check c rest) e
 
-    pub size-passed : (rest : Outcome Network) → r ≡ Accepted → sized n m room_lows room_highs room_states rest ≡ rest
-    size-passed rest e = checked.decides rest ∙ ap (λ (c : Check). on_check c rest) e
+    pub size-passed : (rest : Outcome Network) → r ≡ Ok tt → sized n m room_lows room_highs room_states rest ≡ rest
+    size-passed rest e = checked.decides rest ∙ ap (λ (c : Result ⊤ Refusal). on_check c rest) e
 
-    pub size_room : r ≡ Accepted → HasRoom n m room_lows room_highs room_states
-    size_room e = subst (λ (c : Check). IfAccepted c (HasRoom n m room_lows room_highs room_states)) e checked.room
+    pub size_room : r ≡ Ok tt → HasRoom n m room_lows room_highs room_states
+    size_room e = subst (λ (c : Result ⊤ Refusal). IfOk c (λ _. HasRoom n m room_lows room_highs room_states)) e checked.room

@@ -1,6 +1,7 @@
 -- What reading a table promises before the lists are cleared behind it, and what follows for Read. Assumes nothing.
-use Rattle.std.specs.Prelude.{ℕ, ◌-◌, ◌≤◌, List, [], ◌∷◌, ◌≡◌, refl, take}
-use Rattle.std.proofs.Common.{sym, ◌∙◌, subst, arith, length-drop}
+use Rattle.std.specs.Prelude.{ℕ, ◌-◌, ◌≤◌, List, [], ◌∷◌, ◌≡◌, refl, take, Result, Ok, Err}
+use Rattle.std.specs.Result.{result_unwrap_or}
+use Rattle.std.proofs.Common.{sym, ◌∙◌, arith, length-drop}
 use Rattle.std.proofs.Math.Path.{ap}
 use Rattle.std.proofs.Math.ListN.{length}
 use Rattle.std.proofs.Math.Seq.{length-take-le}
@@ -27,29 +28,31 @@ use Rattle.network.specs.declared.refusal.Refusal.TheVariants.{Form}
 use Rattle.text.specs.Answers.{read_outcome}
 use Rattle.text.specs.Outs.{StatesRead}
 use Rattle.text.specs.Rows.{on_step, LineReading, LinksRead, cleared_from, Cleared}
-use Rattle.text.specs.declared.rows.Step.{Step}
-use Rattle.text.specs.declared.rows.Step.TheVariants as step
-use Rattle.text.specs.declared.ReadAnswer.{ReadAnswer}
-use Rattle.text.specs.declared.ReadAnswer.TheVariants.{Table, Refused}
+use Rattle.text.specs.declared.TableSize.{TableSize}
 
 -- The network that an answer stands for, with the fronts of the two lists.
-abbrev pub network_of : ReadAnswer → List ℕ → List ℕ → List ℕ → Outcome Network
-network_of (Table n m) lows highs states =
-    done (record { relays = n; lows = take m lows; highs = take m highs; states = take n states })
-network_of (Refused refusal) lows highs states = refusal_of refusal
+abbrev pub network_of : Result TableSize Refusal → List ℕ → List ℕ → List ℕ → Outcome Network
+network_of (Ok size) lows highs states =
+    done (record {
+      relays = size.relays;
+      lows = take size.links lows;
+      highs = take size.links highs;
+      states = take size.relays states;
+    })
+network_of (Err refusal) lows highs states = refusal_of refusal
 
 -- How many links stand in the first two lists, and how many states in the third.
-abbrev pub links_kept : ReadAnswer → ℕ
-links_kept (Table n m) = m
-links_kept (Refused refusal) = 0
+abbrev pub links_kept : Result TableSize Refusal → ℕ
+links_kept (Ok size) = size.links
+links_kept (Err refusal) = 0
 
-abbrev pub states_kept : ReadAnswer → ℕ
-states_kept (Table n m) = n
-states_kept (Refused refusal) = 0
+abbrev pub states_kept : Result TableSize Refusal → ℕ
+states_kept (Ok size) = size.relays
+states_kept (Err refusal) = 0
 
 -- What reading gave is the outcome; the lists keep their lengths.
 pub record TableRead
-    (outcome : Outcome Network) (lows highs states lows_then highs_then states_then : List ℕ) (r : ReadAnswer)
+    (outcome : Outcome Network) (lows highs states lows_then highs_then states_then : List ℕ) (r : Result TableSize Refusal)
     : Type 0 where
   pub network : outcome ≡ network_of r lows_then highs_then states_then
   pub low_room : links_kept r ≤ length lows_then
@@ -63,7 +66,7 @@ pub record TableRead
 refused-same : (outcome : Outcome Network) (lows highs states lows_then highs_then states_then : List ℕ) (refusal : Refusal)
     → outcome ≡ refusal_of refusal → length lows_then ≡ length lows → length highs_then ≡ length highs
     → length states_then ≡ length states
-    → TableRead outcome lows highs states lows_then highs_then states_then (Refused refusal)
+    → TableRead outcome lows highs states lows_then highs_then states_then (Err refusal)
 refused-same outcome lows highs states lows_then highs_then states_then refusal e l h s =
     record {
       network = e;
@@ -77,7 +80,7 @@ refused-same outcome lows highs states lows_then highs_then states_then refusal 
 
 -- The lists are as they were after a refusal before any link.
 pub refused-early : (outcome : Outcome Network) (lows highs states : List ℕ) (refusal : Refusal) → outcome ≡ refusal_of refusal
-    → TableRead outcome lows highs states lows highs states (Refused refusal)
+    → TableRead outcome lows highs states lows highs states (Err refusal)
 refused-early outcome lows highs states refusal e = refused-same outcome lows highs states lows highs states refusal e refl refl refl
 
 pub header_read : (text : List ℕ) (n m p room_lows room_highs room_states : ℕ) → scan_form text header_form 0 ≡ reads (n ∷ m ∷ []) p
@@ -85,29 +88,29 @@ pub header_read : (text : List ℕ) (n m p room_lows room_highs room_states : �
 unfolding read_network on_scan
 header_read text n m p room_lows room_highs room_states e = rw e
 
-pub header-departs : (text : List ℕ) (p room_lows room_highs room_states : ℕ) → scan_form text header_form 0 ≡ departs p
-    → read_network text room_lows room_highs room_states ≡ refusal_of (Form p)
+pub header-departs : (text : List ℕ) (refusal : Refusal) (p room_lows room_highs room_states : ℕ) → refusal ≡ Form p
+    → scan_form text header_form 0 ≡ departs p → read_network text room_lows room_highs room_states ≡ refusal_of refusal
 unfolding read_network on_scan
-header-departs text p room_lows room_highs room_states e = rw e
+header-departs text refusal p room_lows room_highs room_states is e = rw (e, is)
 
 -- Behind the link lines of a network text: the states and the end.
-pub states-behind : (text : List ℕ) (n p : ℕ) (lows highs states states_then : List ℕ) (q : Step) → StatesRead text n p states states_then q
+pub states-behind : (text : List ℕ) (n p : ℕ) (lows highs states states_then : List ℕ) (q : Result ℕ Refusal) → StatesRead text n p states states_then q
     → read_links text n lows highs p 0
     ≡ on_step q (λ _. done (record { relays = n; lows = lows; highs = highs; states = take n states_then }))
 unfolding read_links
 states-behind text n p lows highs states states_then q told = told.follows lows highs
 
 -- A refused link line, a refusal behind the last of them, and a whole table.
-module _ (reading : LineReading) (m at : ℕ) (lows highs states lows_then highs_then : List ℕ) (r : Step)
+module _ (reading : LineReading) (m at : ℕ) (lows highs states lows_then highs_then : List ℕ) (r : Result ℕ Refusal)
     (links : LinksRead reading m at lows highs lows_then highs_then r) where
-  pub links-refused : (refusal : Refusal) → r ≡ step.Refused refusal
-      → TableRead (reading [] [] at m) lows highs states lows_then highs_then states (Refused refusal)
+  pub links-refused : (refusal : Refusal) → r ≡ Err refusal
+      → TableRead (reading [] [] at m) lows highs states lows_then highs_then states (Err refusal)
   links-refused refusal e =
       refused-same (reading [] [] at m) lows highs states lows_then highs_then states refusal
-      (links.follows ∙ ap (λ (s : Step). on_step s (λ p. reading (take m lows_then) (take m highs_then) p 0)) e)
+      (links.follows ∙ ap (λ (s : Result ℕ Refusal). on_step s (λ p. reading (take m lows_then) (take m highs_then) p 0)) e)
       links.same_lows links.same_highs refl
 
-  module _ (n p : ℕ) (e : r ≡ step.Next p) (states_then : List ℕ) (q : Step)
+  module _ (n p : ℕ) (e : r ≡ Ok p) (states_then : List ℕ) (q : Result ℕ Refusal)
       (behind : reading (take m lows_then) (take m highs_then) p 0
       ≡ on_step q (λ _. done (record { relays = n; lows = take m lows_then; highs = take m highs_then; states = take n states_then })))
       (same : length states_then ≡ length states) where
@@ -118,21 +121,21 @@ module _ (reading : LineReading) (m at : ℕ) (lows highs states lows_then highs
     unfolding whole
     at-end =
         links.follows
-        ∙ ap (λ (s : Step). on_step s (λ p. reading (take m lows_then) (take m highs_then) p 0)) e
+        ∙ ap (λ (s : Result ℕ Refusal). on_step s (λ p. reading (take m lows_then) (take m highs_then) p 0)) e
         ∙ behind
 
-    pub rest-refused : (refusal : Refusal) → q ≡ step.Refused refusal
-        → TableRead (reading [] [] at m) lows highs states lows_then highs_then states_then (Refused refusal)
+    pub rest-refused : (refusal : Refusal) → q ≡ Err refusal
+        → TableRead (reading [] [] at m) lows highs states lows_then highs_then states_then (Err refusal)
     rest-refused refusal f =
         refused-same (reading [] [] at m) lows highs states lows_then highs_then states_then refusal
-        (at-end ∙ ap (λ (s : Step). on_step s (λ _. whole)) f) links.same_lows links.same_highs same
+        (at-end ∙ ap (λ (s : Result ℕ Refusal). on_step s (λ _. whole)) f) links.same_lows links.same_highs same
 
-    pub table-whole : (next : ℕ) → q ≡ step.Next next → m ≤ length lows → m ≤ length highs → n ≤ length states
-        → TableRead (reading [] [] at m) lows highs states lows_then highs_then states_then (Table n m)
+    pub table-whole : (next : ℕ) → q ≡ Ok next → m ≤ length lows → m ≤ length highs → n ≤ length states
+        → TableRead (reading [] [] at m) lows highs states lows_then highs_then states_then (Ok (record { relays = n; links = m }))
     unfolding whole
     table-whole next f h k l =
         record {
-          network = at-end ∙ ap (λ (s : Step). on_step s (λ _. whole)) f;
+          network = at-end ∙ ap (λ (s : Result ℕ Refusal). on_step s (λ _. whole)) f;
           low_room = omega (arith, links.same_lows);
           high_room = omega (arith, links.same_highs);
           state_room = omega (arith, same);
@@ -142,7 +145,7 @@ module _ (reading : LineReading) (m at : ℕ) (lows highs states lows_then highs
         }
 
 -- The same reading under another name.
-pub table_same : (one other : Outcome Network) (lows highs states lows_then highs_then states_then : List ℕ) (r : ReadAnswer)
+pub table_same : (one other : Outcome Network) (lows highs states lows_then highs_then states_then : List ℕ) (r : Result TableSize Refusal)
     → other ≡ one → TableRead one lows highs states lows_then highs_then states_then r
     → TableRead other lows highs states lows_then highs_then states_then r
 table_same one other lows highs states lows_then highs_then states_then r e t =
@@ -173,56 +176,75 @@ filled-refused column old new refusal s =
 
 -- The answer and the three lists afterwards, from what was read.
 module _ (outcome : Outcome Network) (lows highs states lows_then highs_then states_then : List ℕ) where
-  abbrev Reading : ReadAnswer → Type 0
+  abbrev Reading : Result TableSize Refusal → Type 0
   Reading r = TableRead outcome lows highs states lows_then highs_then states_then r
 
-  pub answer-of : (r : ReadAnswer) → Reading r → read_outcome r ≡ counts_of outcome
+  pub answer-of : (r : Result TableSize Refusal) → Reading r → read_outcome r ≡ counts_of outcome
   unfolding and_then
-  answer-of (Table n m) t = rw (t.network, length-take-le m lows_then t.low_room)
-  answer-of (Refused refusal) t =
+  answer-of (Ok size) t = rw (t.network, length-take-le size.links lows_then t.low_room)
+  answer-of (Err refusal) t =
       rw t.network (sym (refusal-then refusal (λ (network : Network). done (network.relays ∷ length network.lows ∷ []))))
 
-  pub lows-of : (r : ReadAnswer) → Reading r → filled (λ network. network.lows) outcome lows ≡ cleared_from (links_kept r) lows_then
-  lows-of (Table n m) t =
-      rw t.network (filled-table (λ network. network.lows) lows lows_then _ m refl t.low_room t.same_lows)
-  lows-of (Refused refusal) t =
+  pub lows-of : (r : Result TableSize Refusal) → Reading r → filled (λ network. network.lows) outcome lows ≡ cleared_from (links_kept r) lows_then
+  lows-of (Ok size) t =
+      rw t.network (filled-table (λ network. network.lows) lows lows_then _ size.links refl t.low_room t.same_lows)
+  lows-of (Err refusal) t =
       rw t.network (filled-refused (λ network. network.lows) lows lows_then refusal t.same_lows)
 
-  pub highs-of : (r : ReadAnswer) → Reading r → filled (λ network. network.highs) outcome highs ≡ cleared_from (links_kept r) highs_then
-  highs-of (Table n m) t =
-      rw t.network (filled-table (λ network. network.highs) highs highs_then _ m refl t.high_room t.same_highs)
-  highs-of (Refused refusal) t =
+  pub highs-of : (r : Result TableSize Refusal) → Reading r → filled (λ network. network.highs) outcome highs ≡ cleared_from (links_kept r) highs_then
+  highs-of (Ok size) t =
+      rw t.network (filled-table (λ network. network.highs) highs highs_then _ size.links refl t.high_room t.same_highs)
+  highs-of (Err refusal) t =
       rw t.network (filled-refused (λ network. network.highs) highs highs_then refusal t.same_highs)
 
-  pub states-of : (r : ReadAnswer) → Reading r → filled (λ network. network.states) outcome states ≡ cleared_from (states_kept r) states_then
-  states-of (Table n m) t =
-      rw t.network (filled-table (λ network. network.states) states states_then _ n refl t.state_room t.same_states)
-  states-of (Refused refusal) t =
+  pub states-of : (r : Result TableSize Refusal) → Reading r → filled (λ network. network.states) outcome states ≡ cleared_from (states_kept r) states_then
+  states-of (Ok size) t =
+      rw t.network (filled-table (λ network. network.states) states states_then _ size.relays refl t.state_room t.same_states)
+  states-of (Err refusal) t =
       rw t.network (filled-refused (λ network. network.states) states states_then refusal t.same_states)
 
 -- What the lists are once they are cleared behind what stands in them, by the answer that was given: the four promises together.
-pub record ReadWhole (outcome : Outcome Network) (lows highs states lows_end highs_end states_end : List ℕ) (r : ReadAnswer) : Type 0 where
+pub record ReadWhole (outcome : Outcome Network) (lows highs states lows_end highs_end states_end : List ℕ) (r : Result TableSize Refusal) : Type 0 where
   pub answer : read_outcome r ≡ counts_of outcome
   pub low_list : lows_end ≡ filled (λ network. network.lows) outcome lows
   pub high_list : highs_end ≡ filled (λ network. network.highs) outcome highs
   pub state_list : states_end ≡ filled (λ network. network.states) outcome states
 
+-- After a refusal nothing is kept.
+abbrev pub none_kept : TableSize
+none_kept = record { relays = 0; links = 0 }
+
+kept-links : (r : Result TableSize Refusal) → (result_unwrap_or r none_kept).links ≡ links_kept r
+kept-links (Ok size) = refl
+kept-links (Err refusal) = refl
+
+kept-states : (r : Result TableSize Refusal) → (result_unwrap_or r none_kept).relays ≡ states_kept r
+kept-states (Ok size) = refl
+kept-states (Err refusal) = refl
+
 pub read_whole : (outcome : Outcome Network) (lows highs states lows_then highs_then states_then lows_end highs_end states_end : List ℕ)
-    (r given : ReadAnswer) → r ≡ given → TableRead outcome lows highs states lows_then highs_then states_then r
-    → Cleared (links_kept given) (states_kept given) lows_then highs_then states_then lows_end highs_end states_end
-    → ReadWhole outcome lows highs states lows_end highs_end states_end given
-read_whole outcome lows highs states lows_then highs_then states_then lows_end highs_end states_end r given e table cleared =
-    let told : TableRead outcome lows highs states lows_then highs_then states_then given =
-    subst (TableRead outcome lows highs states lows_then highs_then states_then) e table in
+    (r : Result TableSize Refusal) (kept : TableSize) → kept ≡ result_unwrap_or r none_kept
+    → TableRead outcome lows highs states lows_then highs_then states_then r
+    → Cleared kept.links kept.relays lows_then highs_then states_then lows_end highs_end states_end
+    → ReadWhole outcome lows highs states lows_end highs_end states_end r
+read_whole outcome lows highs states lows_then highs_then states_then lows_end highs_end states_end r kept e table cleared =
+    let links : kept.links ≡ links_kept r = ap (λ (s : TableSize). s.links) e ∙ kept-links r in
+    let relays : kept.relays ≡ states_kept r = ap (λ (s : TableSize). s.relays) e ∙ kept-states r in
     record {
-      answer = answer-of outcome lows highs states lows_then highs_then states_then given told;
-      low_list = cleared.low_list ∙ sym (lows-of outcome lows highs states lows_then highs_then states_then given told);
-      high_list = cleared.high_list ∙ sym (highs-of outcome lows highs states lows_then highs_then states_then given told);
-      state_list = cleared.state_list ∙ sym (states-of outcome lows highs states lows_then highs_then states_then given told);
+      answer = answer-of outcome lows highs states lows_then highs_then states_then r table;
+      low_list = cleared.low_list
+          ∙ ap (λ (k : ℕ). cleared_from k lows_then) links
+          ∙ sym (lows-of outcome lows highs states lows_then highs_then states_then r table);
+      high_list = cleared.high_list
+          ∙ ap (λ (k : ℕ). cleared_from k highs_then) links
+          ∙ sym (highs-of outcome lows highs states lows_then highs_then states_then r table);
+      state_list = cleared.state_list
+          ∙ ap (λ (k : ℕ). cleared_from k states_then) relays
+          ∙ sym (states-of outcome lows highs states lows_then highs_then states_then r table);
     }
 
 -- Read's.
-pub read-promises : (text lows highs states lows_end highs_end states_end : List ℕ) (r : ReadAnswer)
+pub read-promises : (text lows highs states lows_end highs_end states_end : List ℕ) (r : Result TableSize Refusal)
     → ReadWhole (read_network text (length lows) (length highs) (length states)) lows highs states lows_end highs_end states_end r
     → (read_outcome r ≡ read_answer text lows highs states) × ((lows_end ≡ lows_after text lows highs states)
     × ((highs_end ≡ highs_after text lows highs states) × (states_end ≡ states_after text lows highs states)))

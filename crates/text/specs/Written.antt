@@ -1,17 +1,13 @@
 -- The text of a table line by line, its length, and what Write's answer and buffer are. Assumes nothing.
 use Rattle.std.specs.Prelude.{ℕ, suc, ◌+◌, ◌-◌, ◌≤◌, ◌<◌, ◌≡◌, length, get_or}
 use mathlib.Core.List.{List, [], ◌∷◌, ◌++◌}
-use Rattle.std.proofs.Common.{sym, ◌∙◌, ap, arith, length-append}
-use Rattle.std.proofs.lemmas.List.Edits.{sets}
-use Rattle.definitions.specs.Outcome.{done}
-use Rattle.definitions.specs.Network.{table_check, Accepted}
-use Rattle.definitions.specs.Form.{bytes, write_form}
-use Rattle.definitions.specs.Text.{link_form, link_lines, text_of, write_answer, buffer_after}
-use Rattle.lists.specs.Stores.{sets-overwrite}
+use Rattle.std.proofs.Common.{◌∙◌, ap, arith, length-append}
+use Rattle.definitions.specs.Network.{table_check}
+use Rattle.definitions.specs.Form.{write_form}
+use Rattle.definitions.specs.Text.{link_form, link_lines, write_answer, buffer_after}
 use Rattle.network.specs.Answers.{refusal_of}
 use Rattle.network.specs.Refusals.{refusal-then, refusal-keeps}
 use Rattle.network.specs.declared.refusal.Refusal.{Refusal}
-use Rattle.text_theory.specs.Writes.{write_done}
 
 pub links-step : (lows highs : List ℕ) (i m : ℕ) → i < m
     → link_lines lows highs i (m - i)

@@ -1,6 +1,6 @@
 -- The `out` lines of a list of states relay by relay, and how a buffer takes them. Assumes nothing.
-use Rattle.std.specs.Prelude.{ℕ, zero, suc, ◌+◌, ◌-◌, ◌≤◌, ◌<◌, Bool, true, false, List, [], ◌∷◌, ◌++◌, ◌≡◌, refl, ltb, length, get_or}
-use Rattle.std.proofs.Common.{sym, ◌∙◌, ap, arith, length-append, eq-eqb, ne_eqb, ltb-true, ltb-false}
+use Rattle.std.specs.Prelude.{ℕ, zero, suc, ◌+◌, ◌-◌, ◌≤◌, ◌<◌, List, [], ◌∷◌, ◌++◌, ◌≡◌, refl, length, get_or}
+use Rattle.std.proofs.Common.{sym, ◌∙◌, ap, arith, length-append, eq-eqb, ne_eqb}
 use Rattle.std.proofs.lemmas.List.Edits.{sets}
 use Rattle.definitions.specs.Form.{write_form}
 use Rattle.definitions.specs.Text.{out_form, out_line, out_lines}
@@ -50,16 +50,6 @@ outs-all states =
 -- A number that none of the first `count` states is below.
 abbrev pub AtMostEach : ℕ → List ℕ → ℕ → Type 0
 AtMostEach least states count = (r : ℕ) → r < count → least ≤ get_or states r 0
-
-pub at-most-next : (least next : ℕ) (states : List ℕ) (count : ℕ) → AtMostEach least states count
-    → next ≤ least → next ≤ get_or states count 0 → AtMostEach next states (count + 1)
-at-most-next least next states count each below last r h = go (ltb r count) refl
-  where
-    go : (b : Bool) → ltb r count ≡ b → next ≤ get_or states r 0
-    go true e = omega (arith, each r (ltb-true r count e))
-    go false e =
-        let here : r ≡ count = omega (arith, ltb-false r count e) in
-        rw here last
 
 -- Where no state is 0 there is no line.
 none_within : (states : List ℕ) (count r : ℕ) → ((i : ℕ) → i < r + count → 0 < get_or states i 0) → out_lines states r count ≡ []

@@ -3,43 +3,26 @@ ghost use Rattle.std.specs.Prelude.{◌≡◌, ◌+◌, ◌≤◌, ◌<◌, eqb,
 ghost use Rattle.definitions.specs.Form.{byte_at};
 ghost use Rattle.text.specs.Outs.{ServedUpTo, WithdrawnAt, OutRead, OutsRead, StatesRead};
 
-use crate::rows::Step;
-use crate::scan::{Due, PairScan};
+use crate::mark::form_at;
+use crate::scan::{Due, byte};
 use network::{Refusal, Relay};
-
-// An `out` line read: its relay and the offset behind it, or a refusal.
-#[derive(Clone, Copy)]
-enum OutLine {
-    Withdraws(Relay, usize),
-    Refused(Refusal),
-}
 
 // Whether an `out` line is due: `(out` and `(end` part at the second byte.
 fn out_due(text: &[u8], at: usize) -> bool
     ensures { result ≡ eqb (byte_at text.now (at + 1)) 111 }
 {
-    if text.len() <= at {
-        return false;
-    }
-    crate::scan::byte(text, at + 1) == b'o'
+    at < text.len() && byte(text, at + 1) == b'o'
 }
 
 // The `out` line due, where the relays below `next` have their states.
-fn read_out(text: &[u8], n: u16, next: Relay, at: usize) -> OutLine
+fn read_out(text: &[u8], n: u16, next: Relay, at: usize) -> Result<(Relay, usize), Refusal>
     ensures { OutRead text.now n next.0 at result }
 {
-    match crate::mark::form_at(text, at, Due::Out) {
-        PairScan::Departs(p) => OutLine::Refused(Refusal::Form(p)),
-        PairScan::Reads(relay, _, p) => {
-            if n <= relay {
-                return OutLine::Refused(Refusal::States);
-            }
-            if relay < next.0 {
-                return OutLine::Refused(Refusal::States);
-            }
-            OutLine::Withdraws(Relay(relay), p)
-        }
+    let (relay, _, p) = form_at(text, at, Due::Out)?;
+    if n <= relay || relay < next.0 {
+        return Err(Refusal::States);
     }
+    Ok((Relay(relay), p))
 }
 
 // The relays from one on are in service, up to another.
@@ -47,11 +30,7 @@ pub fn serve(states: &mut [u16], from: usize, to: usize)
     requires { (from ≤ to) × (to ≤ length states.old) }
     ensures { ServedUpTo from to states.old states.new }
 {
-    let mut i = from;
-    while i < to {
-        states[i] = 1;
-        i += 1;
-    }
+    states[from..to].fill(1);
 }
 
 // The relays from `next` on are in service up to one that is withdrawn.
@@ -64,36 +43,33 @@ fn withdraw(states: &mut [u16], next: Relay, relay: Relay)
     states[at] = 0;
 }
 
-// All `out` lines, and ones for the relays behind the last of them.
-fn read_outs(text: &[u8], n: u16, at: usize, states: &mut [u16]) -> Step
+// All `out` lines, and ones for the relays behind the last of them. The text says how many there are only by its lines: no range.
+fn read_outs(text: &[u8], n: u16, at: usize, states: &mut [u16]) -> Result<usize, Refusal>
     requires { (n ≤ 1000) × (n ≤ length states.old) }
     ensures { OutsRead text.now n at states.old states.new result }
 {
     let mut p = at;
     let mut next: u16 = 0;
     while out_due(text, p) {
-        match read_out(text, n, Relay(next), p) {
-            OutLine::Refused(refusal) => {
-                return Step::Refused(refusal);
-            }
-            OutLine::Withdraws(relay, behind) => {
-                withdraw(states, Relay(next), relay);
-                next = relay.0 + 1;
-                p = behind;
-            }
-        }
+        let (relay, behind) = read_out(text, n, Relay(next), p)?;
+        withdraw(states, Relay(next), relay);
+        next = relay.0 + 1;
+        p = behind;
     }
     serve(states, next as usize, n as usize);
-    Step::Next(p)
+    Ok(p)
 }
 
 // The states of all relays, and the end.
-pub(crate) fn read_states(text: &[u8], n: u16, at: usize, states: &mut [u16]) -> Step
+pub(crate) fn read_states(
+    text: &[u8],
+    n: u16,
+    at: usize,
+    states: &mut [u16],
+) -> Result<usize, Refusal>
     requires { (n ≤ 1000) × (n ≤ length states.old) }
     ensures { StatesRead text.now n at states.old states.new result }
 {
-    match read_outs(text, n, at, states) {
-        Step::Refused(refusal) => Step::Refused(refusal),
-        Step::Next(p) => crate::rows::read_end(text, p),
-    }
+    let p = read_outs(text, n, at, states)?;
+    crate::rows::read_end(text, p)
 }

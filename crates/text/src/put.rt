@@ -1,15 +1,17 @@
 // Writing from left to right: a word, a number, a line of two numbers, and the forms of a network's text, at an offset of a
 // buffer that has the room.
 // Each gives the offset behind what it wrote.
-ghost use Rattle.std.specs.Prelude.{[], ◌∷◌, ◌≡◌, ◌+◌, ◌≤◌, ◌<◌, length, get_or};
+ghost use Rattle.std.specs.Prelude.{[], ◌∷◌, ◌≡◌, ◌+◌, ◌≤◌, ◌<◌, length};
 ghost use Rattle.definitions.specs.Form.{word, numeral, decimal, write_form};
 ghost use Rattle.definitions.specs.Text.{header_form, end_form, out_line, out_lines};
+ghost use Rattle.network.specs.Tables.{OfTable};
 ghost use Rattle.text.specs.Marks.{FormWritable, Moved};
 ghost use Rattle.text.specs.Put.{Put};
 ghost use Rattle.text.specs.Scans.{pair_form};
 ghost use Rattle.text.specs.WrittenOuts.{AtMostEach};
 
 use crate::scan::Due;
+use network::Table;
 
 // Where the writer stands: the next offset, and how many links are written.
 #[derive(Clone, Copy)]
@@ -22,8 +24,9 @@ pub(crate) struct WriteMark {
 fn width(x: usize) -> usize
     ensures { result ≡ length (decimal x) }
 {
-    let mut count: usize = 1;
+    let mut count = 1;
     let mut tens = x;
+    // As long as there are tens: how often is what is counted, so no range says it.
     while 10 <= tens {
         tens /= 10;
         count += 1;
@@ -36,32 +39,24 @@ fn short_width(x: usize) -> usize
     requires { x ≤ 65535 }
     ensures { result ≡ length (decimal x) }
 {
-    if x < 10 {
-        return 1;
+    match x {
+        ..=9 => 1,
+        ..=99 => 2,
+        ..=999 => 3,
+        ..=9999 => 4,
+        _ => 5,
     }
-    if x < 100 {
-        return 2;
-    }
-    if x < 1000 {
-        return 3;
-    }
-    if x < 10000 {
-        return 4;
-    }
-    5
 }
 
-// A word to the letter.
+// A word to the letter. The buffer and the offset are two parameters, here and below: of a struct that holds the buffer by `&mut` a
+// contract could name what is left by its position alone.
 pub fn put_word(buffer: &mut [u8], at: usize, letters: &[u8]) -> usize
     requires { at + length letters.now ≤ length buffer.old }
     ensures { Put buffer.old at letters.now buffer.new result }
 {
-    let mut i: usize = 0;
-    while i < letters.len() {
-        buffer[at + i] = letters[i];
-        i += 1;
-    }
-    at + i
+    let next = at + letters.len();
+    buffer[at..next].copy_from_slice(letters);
+    next
 }
 
 // A number in base ten, with as many digits as it takes.
@@ -70,16 +65,11 @@ pub fn put_number(buffer: &mut [u8], at: usize, x: usize) -> usize
     ensures { Put buffer.old at (decimal x) buffer.new result }
 {
     let next = at + width(x);
-    let mut p = next;
     let mut tens = x;
-    while 10 <= tens {
-        p -= 1;
-        let digit = (tens % 10) as u8;
-        buffer[p] = b'0' + digit;
+    for p in (at..next).rev() {
+        buffer[p] = b'0' + (tens % 10) as u8;
         tens /= 10;
     }
-    let first = tens as u8;
-    buffer[p - 1] = b'0' + first;
     next
 }
 
@@ -132,22 +122,13 @@ fn put_out(buffer: &mut [u8], at: usize, state: u16, relay: usize) -> usize
     put_word(buffer, p, b")\n")
 }
 
-// The lesser of two states.
-fn lesser(a: u16, b: u16) -> u16
-    ensures { (result ≤ a) × (result ≤ b) }
-{
-    if b < a { b } else { a }
-}
-
 // A state that none is below: 0 where a relay is withdrawn. It looks at all entries alike, without an early exit.
 fn least_state(states: &[u16]) -> u16
     ensures { AtMostEach result states.now (length states.now) }
 {
-    let mut least: u16 = 1;
-    let mut relay: usize = 0;
-    while relay < states.len() {
-        least = lesser(least, states[relay]);
-        relay += 1;
+    let mut least = 1;
+    for state in states {
+        least = least.min(*state);
     }
     least
 }
@@ -162,10 +143,8 @@ fn put_outs(buffer: &mut [u8], at: usize, states: &[u16]) -> usize
         return at;
     }
     let mut p = at;
-    let mut relay: usize = 0;
-    while relay < states.len() {
-        p = put_out(buffer, p, states[relay], relay);
-        relay += 1;
+    for (relay, state) in states.iter().enumerate() {
+        p = put_out(buffer, p, *state, relay);
     }
     p
 }
@@ -205,75 +184,33 @@ pub(crate) fn outs_length(states: &[u16]) -> usize
     if least_state(states) != 0 {
         return 0;
     }
-    let mut total: usize = 0;
-    let mut relay: usize = 0;
-    while relay < states.len() {
-        total += out_length(states[relay], relay);
-        relay += 1;
+    let mut total = 0;
+    for (relay, state) in states.iter().enumerate() {
+        total += out_length(*state, relay);
     }
     total
 }
 
-// An entry of a list.
-fn entry(list: &[u16], i: usize) -> usize
-    requires { i < length list.now }
-    ensures { result ≡ get_or list.now i 0 }
-{
-    list[i] as usize
-}
-
-// The form that is due at a mark, and the mark behind it.
-fn put_form(
-    buffer: &mut [u8],
-    mark: WriteMark,
-    due: Due,
-    n: u16,
-    lows: &[u16],
-    highs: &[u16],
-    states: &[u16],
-) -> WriteMark
-    requires { FormWritable buffer.old mark due n lows.now highs.now states.now }
-    ensures { Moved buffer.old mark due n lows.now highs.now states.now
-        buffer.new result }
+// Writes the form that is due at the mark, and moves the mark behind it.
+pub(crate) fn move_mark(buffer: &mut [u8], mark: &mut WriteMark, due: Due, table: Table)
+    requires { OfTable (FormWritable buffer.old mark.old due) table }
+    ensures { OfTable (Moved buffer.old mark.old due buffer.new mark.new) table.entry }
 {
     match due {
-        Due::Header => WriteMark {
-            next: put_header(buffer, mark.next, n as usize, lows.len()),
-            links: mark.links,
-        },
-        Due::Link => {
-            let low = entry(lows, mark.links);
-            let high = entry(highs, mark.links);
-            let links = mark.links + 1;
-            WriteMark {
-                next: put_pair(buffer, mark.next, b"(link ", low, b" ", high, b")\n"),
-                links: links,
-            }
+        Due::Header => {
+            mark.next = put_header(buffer, mark.next, table.n as usize, table.lows.len());
         }
-        Due::Out => WriteMark {
-            next: put_outs(buffer, mark.next, states),
-            links: mark.links,
-        },
-        Due::End => WriteMark {
-            next: put_end(buffer, mark.next),
-            links: mark.links,
-        },
+        Due::Link => {
+            let low = table.lows[mark.links] as usize;
+            let high = table.highs[mark.links] as usize;
+            mark.next = put_pair(buffer, mark.next, b"(link ", low, b" ", high, b")\n");
+            mark.links += 1;
+        }
+        Due::Out => {
+            mark.next = put_outs(buffer, mark.next, table.states);
+        }
+        Due::End => {
+            mark.next = put_end(buffer, mark.next);
+        }
     }
-}
-
-// Writes the form that is due at the mark, and moves the mark behind it.
-pub(crate) fn move_mark(
-    buffer: &mut [u8],
-    mark: &mut WriteMark,
-    due: Due,
-    n: u16,
-    lows: &[u16],
-    highs: &[u16],
-    states: &[u16],
-)
-    requires { FormWritable buffer.old mark.old due n lows.now highs.now states.now }
-    ensures { Moved buffer.old mark.old due n lows.now highs.now
-        states.now buffer.new mark.new }
-{
-    *mark = put_form(buffer, *mark, due, n, lows, highs, states);
 }

@@ -1,144 +1,150 @@
 // The link lines of a text into the two lists of a table, and its end.
-ghost use Rattle.std.specs.Prelude.{[], ◌≡◌, ◌≤◌, ◌<◌, length, take};
+ghost use Rattle.std.specs.Prelude.{ℕ, List, [], ◌*◌, ◌≡◌, ◌≤◌, ◌<◌, length, take};
+ghost use Rattle.definitions.specs.Network.{row_start};
 ghost use Rattle.definitions.specs.Text.{read_links};
-ghost use Rattle.network.specs.RowStarts.{RowsFor};
 ghost use Rattle.network.specs.Seen.{Seen};
-ghost use Rattle.text.specs.Rows.{LinkRead, LinksRead, EndRead, cleared_from};
+ghost use Rattle.text.specs.Rows.{LineReading, LinkScanned, LinkRead, LinksRead, EndRead, cleared_from};
 
-use crate::scan::{Due, PairScan};
-use network::limits::{FEW_RELAYS, FEWEST_RELAYS};
-use network::{LinkCheck, Refusal, Relay};
+use crate::mark::form_at;
+use crate::scan::Due;
+use network::limits::{FEW_RELAY_ROOM, FEW_RELAYS, FEWEST_RELAY_ROOM, FEWEST_RELAYS, RELAY_ROOM};
+use network::{PairMarks, Refusal, Relay, row_starts};
 
-// A part of a text read: the offset behind it, or a refusal.
-#[derive(Clone, Copy)]
-pub enum Step {
-    Next(usize),
-    Refused(Refusal),
+// How a text gives its links, a line each: the form of a line, and the link that it stands for.
+pub trait LinkLines {
+    // The definition's reading of such a text, for so many relays.
+    ghost reading: { List ℕ → ℕ → LineReading };
+
+    // The next line, as link i: the ends of its link, on which the links before it decide, and the offset behind it.
+    fn scan_link(text: &[u8], n: u16, i: usize, at: usize) -> Result<(Relay, Relay, usize), Refusal>
+        ensures { LinkScanned (reading text.now n) n i at result };
 }
 
-// The next link line, as link i behind those before it, whose pairs are marked.
-fn read_link(
+// The lines of a network's text, a link each.
+pub(crate) struct NetworkLines;
+
+impl LinkLines for NetworkLines {
+    ghost reading = { read_links };
+
+    fn scan_link(
+        text: &[u8],
+        _n: u16,
+        _i: usize,
+        at: usize,
+    ) -> Result<(Relay, Relay, usize), Refusal> {
+        let (a, b, next) = form_at(text, at, Due::Link)?;
+        Ok((Relay(a), Relay(b), next))
+    }
+}
+
+// The next line, as link i behind those before it, whose pairs are marked.
+fn read_link<L: LinkLines>(
     text: &[u8],
-    n: u16,
     i: usize,
     at: usize,
     lows: &mut [u16],
     highs: &mut [u16],
-    rows: &[u32],
-    seen: &mut [u64],
-) -> Step
-    requires n_bound { (n ≤ 1000) × (i < length lows.old) × (i < length highs.old) }
-    requires rows_for { RowsFor n rows.now × Seen n seen.old (take i lows.old) (take i highs.old) i }
-    ensures { LinkRead (read_links text.now n) n i at lows.old highs.old lows.new
-        highs.new seen.new result }
+    marks: &mut PairMarks,
+) -> Result<usize, Refusal>
+    requires room { (i < length lows.old) × (i < length highs.old) }
+    requires before { Seen marks.old.n marks.old.seen.now (take i lows.old) (take i highs.old) i }
+    ensures read { LinkRead (L.reading text.now marks.old.n) marks.old.n i at lows.old highs.old lows.new
+        highs.new marks.new.seen.now result }
+    ensures same { marks.new.n ≡ marks.old.n }
 {
-    match crate::mark::form_at(text, at, Due::Link) {
-        PairScan::Departs(p) => Step::Refused(Refusal::Form(p)),
-        PairScan::Reads(a, b, next) => match network::check_link(
-            n,
-            Relay(a),
-            Relay(b),
-            rows,
-            seen,
-        ) {
-            LinkCheck::RelayRange => Step::Refused(Refusal::RelayRange(i)),
-            LinkCheck::NotBelow => Step::Refused(Refusal::NotBelow(i)),
-            LinkCheck::Repeated => Step::Refused(Refusal::Repeated(i)),
-            LinkCheck::Fine => {
-                lows[i] = a;
-                highs[i] = b;
-                Step::Next(next)
-            }
-        },
+    let (a, b, next) = L::scan_link(text, marks.n, i, at)?;
+    if let Err(fault) = marks.check_link(a, b) {
+        return Err(fault.of_link(i));
     }
+    lows[i] = a.0;
+    highs[i] = b.0;
+    Ok(next)
 }
 
-// All m link lines, where no pair is marked yet.
-fn read_links(
+// All m lines, where no pair is marked yet.
+fn read_links<L: LinkLines>(
     text: &[u8],
-    n: u16,
     m: usize,
     at: usize,
     lows: &mut [u16],
     highs: &mut [u16],
-    rows: &[u32],
-    seen: &mut [u64],
-) -> Step
-    requires n_bound { (n ≤ 1000) × (m ≤ length lows.old) × (m ≤ length highs.old) }
-    requires rows_for { RowsFor n rows.now × Seen n seen.old [] [] 0 }
-    ensures { LinksRead (read_links text.now n) m at lows.old highs.old lows.new
+    marks: &mut PairMarks,
+) -> Result<usize, Refusal>
+    requires room { (m ≤ length lows.old) × (m ≤ length highs.old) }
+    requires before { Seen marks.old.n marks.old.seen.now [] [] 0 }
+    ensures { LinksRead (L.reading text.now marks.old.n) m at lows.old highs.old lows.new
         highs.new result }
 {
     let mut p = at;
-    let mut i: usize = 0;
-    while i < m {
-        match read_link(text, n, i, p, lows, highs, rows, seen) {
-            Step::Next(next) => {
-                p = next;
-            }
-            Step::Refused(refusal) => {
-                return Step::Refused(refusal);
-            }
-        }
-        i += 1;
+    for i in 0..m {
+        p = read_link::<L>(text, i, p, lows, highs, marks)?;
     }
-    Step::Next(p)
+    Ok(p)
 }
 
-// All m link lines, with row starts and marks for as many relays as it takes.
-pub(crate) fn read_all_links(
+// All m lines, with row starts for so many relays and so many words of marks.
+fn read_links_in<L: LinkLines, const RELAYS: usize, const WORDS: usize>(
     text: &[u8],
     n: u16,
     m: usize,
     at: usize,
     lows: &mut [u16],
     highs: &mut [u16],
-) -> Step
+) -> Result<usize, Refusal>
+    requires sizes { (n ≤ RELAYS) × (RELAYS ≤ 1000) × (row_start n ≤ 64 * WORDS) × (WORDS ≤ 7805) }
+    requires room { (m ≤ length lows.old) × (m ≤ length highs.old) }
+    ensures { LinksRead (L.reading text.now n) m at lows.old highs.old lows.new
+        highs.new result }
+{
+    let rows = row_starts::front::<RELAYS>();
+    let mut seen = [0u64; WORDS];
+    let mut marks = PairMarks {
+        n,
+        rows: &rows,
+        seen: &mut seen,
+    };
+    read_links::<L>(text, m, at, lows, highs, &mut marks)
+}
+
+// All m lines, with row starts and marks for as many relays as it takes, so that little is cleared for a small network.
+pub fn read_all_links<L: LinkLines>(
+    text: &[u8],
+    n: u16,
+    m: usize,
+    at: usize,
+    lows: &mut [u16],
+    highs: &mut [u16],
+) -> Result<usize, Refusal>
     requires { (n ≤ 1000) × (m ≤ length lows.old) × (m ≤ length highs.old) }
-    ensures { LinksRead (read_links text.now n) m at lows.old highs.old lows.new
+    ensures { LinksRead (L.reading text.now n) m at lows.old highs.old lows.new
         highs.new result }
 {
     if n <= FEWEST_RELAYS {
-        let front = network::row_starts::row_starts_of_32();
-        let mut fewest = network::pairs::no_pairs_of_32();
-        return read_links(text, n, m, at, lows, highs, &front, &mut fewest);
+        read_links_in::<L, FEWEST_RELAY_ROOM, 8>(text, n, m, at, lows, highs)
+    } else if n <= FEW_RELAYS {
+        read_links_in::<L, FEW_RELAY_ROOM, 127>(text, n, m, at, lows, highs)
+    } else if n <= 512 {
+        read_links_in::<L, RELAY_ROOM, 2044>(text, n, m, at, lows, highs)
+    } else {
+        read_links_in::<L, RELAY_ROOM, 7805>(text, n, m, at, lows, highs)
     }
-    if n <= FEW_RELAYS {
-        let first = network::row_starts::first_row_starts();
-        let mut few = network::pairs::no_pairs_of_128();
-        return read_links(text, n, m, at, lows, highs, &first, &mut few);
-    }
-    let rows = network::row_starts::row_starts();
-    if n <= 512 {
-        let mut more = network::pairs::no_pairs_of_512();
-        return read_links(text, n, m, at, lows, highs, &rows, &mut more);
-    }
-    let mut seen = network::pairs::no_pairs_of_1000();
-    read_links(text, n, m, at, lows, highs, &rows, &mut seen)
 }
 
 // The end line, and nothing after it.
-pub(crate) fn read_end(text: &[u8], at: usize) -> Step
+pub(crate) fn read_end(text: &[u8], at: usize) -> Result<usize, Refusal>
     ensures { EndRead text.now at result }
 {
-    match crate::mark::form_at(text, at, Due::End) {
-        PairScan::Departs(p) => Step::Refused(Refusal::Form(p)),
-        PairScan::Reads(_, _, p) => {
-            if p < text.len() {
-                return Step::Refused(Refusal::Form(p));
-            }
-            Step::Next(p)
-        }
+    let (_, _, p) = form_at(text, at, Due::End)?;
+    if p < text.len() {
+        return Err(Refusal::Form(p));
     }
+    Ok(p)
 }
 
-// Zeros from an index on.
+// Zeros from an index on, or none where the list ends before it.
 pub(crate) fn clear_from(list: &mut [u16], from: usize)
     ensures { list.new ≡ cleared_from from list.old }
 {
-    let mut i = from;
-    while i < list.len() {
-        list[i] = 0;
-        i += 1;
-    }
+    let from = from.min(list.len());
+    list[from..].fill(0);
 }

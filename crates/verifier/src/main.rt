@@ -2,29 +2,27 @@
 // the sheet holds, or the refusal. An input that is longer than the room gets no line: what is said of a sheet rests on its last byte too.
 #![tactic(auto)]
 
-use input::Feature;
+ghost use Rattle.std.specs.Prelude.{◌≡◌};
+ghost use Rattle.definitions.specs.Verify.{verify_text};
+
+use input::{Complaints, Feature};
 
 fn main(rt: HostRuntime) {
-    let mut buffer = input::long_room();
-    let arrived = input::read_all(&mut rt.stdin(), &mut buffer);
-    if arrived.is_failure() {
-        input::complain(
-            &mut rt.stderr(),
-            b"verifier: standard input cannot be read\n",
-        );
-        return;
-    }
-    if !arrived.has_ended() {
-        input::complain_of_length(
-            &mut rt.stderr(),
-            Feature::Verify,
-            arrived,
-            b"verifier: the input has more than 1000000 bytes\n",
-        );
-        return;
-    }
-    let count = arrived.size();
-    let mut output = verify::line::output();
-    let size = verify::line::verify(&buffer[..count], &mut output);
-    input::hand_over(&mut rt.stdout(), Feature::Verify, arrived, &output[..size]);
+    let mut output = [0; verify::line::OUTPUT];
+    let complaints = Complaints {
+        unreadable: b"verifier: standard input cannot be read\n",
+        too_long: Some(b"verifier: the input has more than 1000000 bytes\n"),
+    };
+    input::answer(
+        rt,
+        Feature::Verify,
+        &mut input::long_room(),
+        complaints,
+        |text|
+            ensures { result.now ≡ verify_text text.now }
+        {
+            let size = verify::line::verify(text, &mut output);
+            &output[..size]
+        },
+    );
 }

@@ -9,42 +9,28 @@ use lib.Dec.{eqb, ltb}
 use lib.ListN.{length}
 use lib.Seq.{append_snoc}
 use borrow.Author.Tests.{eq-eqb, ne_eqb}
-use Rattle.definitions.specs.Outcome.{pick, refused, done, refuse_if, and_then}
+use Rattle.definitions.specs.Outcome.{pick, refused, done, Answer, refuse_if, and_then}
 use Rattle.definitions.specs.Lists.{outside, count}
 use Rattle.definitions.specs.Network.{table_check, Accepted}
 use Rattle.definitions.specs.Forests.{marks_of}
 use Rattle.definitions.specs.Form.{byte_at, Scan, reads, scan_form, on_scan}
 use Rattle.definitions.specs.Text.{end_form}
-use Rattle.definitions.specs.Program.{room}
 use Rattle.definitions.specs.Plan.{sheet_form, kept_form, Sheet}
 use Rattle.definitions.specs.SheetForm.{route_front, over_front, scan_numbers, read_kept, read_routes, read_sheet}
 use Rattle.definitions.specs.SheetTest.{routes_hold, sheet_holds, yes_or_no, sheet_answer}
 use Rattle.lists.specs.Outcomes.{not-refused, refuse-not, then-done}
 use Rattle.lists.specs.SameOutcomes.{done-same, done-then, refused-then}
+use Rattle.lists.specs.Tests.{eqb-sym}
 use Rattle.lists.specs.Ranges.{below, above, inside}
-use Rattle.theory.specs.Accepted.{accepted, accepted-states}
+use Rattle.network.specs.Tables.{of_table}
+use Rattle.network.specs.declared.Table.{Table}
 use Rattle.text_theory.specs.RoundTrip.{on-scan-done}
-use Rattle.program.specs.ReadStage.{length-room}
 use Rattle.verify.specs.Offsets.{behind_or}
 use Rattle.verify.specs.Summary.{summary, summary_of}
-use Rattle.verify.specs.Walks.{EndsKnown, LinesAt, RoutesWalked}
+use Rattle.verify.specs.Walks.{LinesAt, RoutesWalked}
+use Rattle.verify.specs.Gives.{form_says}
 use Rattle.verify.specs.Answers.{after_check}
-
--- The ends of an accepted network's links have a state.
-pub ends-known : (n : ℕ) (lows highs states : List ℕ) → Accepted n lows highs states → EndsKnown lows highs states
-ends-known n lows highs states table =
-    let proper = accepted n lows highs states table in
-    let known = accepted-states n lows highs states table in
-    record {
-      even = proper.even;
-      low = λ i less. omega (arith, proper.ordered i less, proper.below i less, known.long);
-      high = λ i less. omega (arith, proper.below i less, known.long);
-    }
-
--- The program's own list has room for the marks of every network.
-pub marks-fit : (n : ℕ) (lows highs states marks : List ℕ) → Accepted n lows highs states → marks ≡ room 3000 → length lows ≤ length marks
-marks-fit n lows highs states marks table lent =
-    omega (arith, ap length lent, length-room 3000, (accepted n lows highs states table).short)
+use Rattle.verify.specs.declared.form.Form.{Form}
 
 -- The routes of a sheet that was read stand in its text, behind those read before.
 record Stand (text : List ℕ) (routes overs : List (List ℕ)) (p : ℕ) (sheet : Sheet) : Type 0 where
@@ -150,68 +136,58 @@ departs-there n lows highs states text number place e =
     go (inl there) = sym (rw there)
     go (inr found) = let never = found.2 in let z : ◌≡◌ {A = ℕ} 0 1 = cc in absurd (omega arith)
 
-module _ (n : ℕ) (lows highs states text : List ℕ) (from to k routes kept first : ℕ)
-    (said : summary_of text ≡ done (from ∷ to ∷ k ∷ routes ∷ kept ∷ first ∷ [])) where
-  abbrev here : Summed text from to k routes kept first
-  here = summed text from to k routes kept first said
+module _ (table : Table) (text : List ℕ) (form : Form) (said : summary_of text ≡ form_says form) where
+  abbrev here : Summed text form.wish.from.0 form.wish.to.0 form.wish.k form.routes form.kept form.first
+  here = summed text form.wish.from.0 form.wish.to.0 form.wish.k form.routes form.kept form.first said
+
+  abbrev answer : Answer
+  answer = of_table after_check table text
+
+  -- How many links Cut keeps.
+  abbrev pub cut : ℕ
+  cut = count (eqb 1) (of_table marks_of table form.wish.k)
 
   -- The tests that are left once k is from 1 to 32.
   abbrev tests : Bool
   tests =
-      eqb routes k
-      && (routes_hold n lows highs states from to (eqb from) false here.sheet.routes here.sheet.overs
-      && eqb kept (count (eqb 1) (marks_of n lows highs states k)))
+      eqb form.routes form.wish.k
+      && (of_table routes_hold table form.wish.from.0 form.wish.to.0 (eqb form.wish.from.0) false here.sheet.routes here.sheet.overs
+      && eqb form.kept cut)
 
-  says : after_check n lows highs states text ≡ refuse_if (outside 1 32 k) 15 0 (done (yes_or_no tests))
+  says : answer ≡ refuse_if (outside 1 32 form.wish.k) 15 0 (done (yes_or_no tests))
   unfolding after_check sheet_holds
   says =
       then-done (read_sheet text) _ here.sheet here.read
       ∙ rw (here.many, here.from_is, here.to_is, here.k_is, here.kept_is)
 
-  refuses : outside 1 32 k ≡ true → refused 15 0 ≡ after_check n lows highs states text
+  refuses : outside 1 32 form.wish.k ≡ true → refused 15 0 ≡ answer
   unfolding refuse_if
   refuses e = sym (says ∙ rw e)
 
-  pub too_few : k < 1 → refused 15 0 ≡ after_check n lows highs states text
-  too_few h = refuses (below 1 32 k h)
+  pub other-k : (form.wish.k < 1) ⊎ ((1 ≤ form.wish.k) × (32 < form.wish.k)) → refused 15 0 ≡ answer
+  other-k (inl low) = refuses (below 1 32 form.wish.k low)
+  other-k (inr high) = refuses (above 1 32 form.wish.k high.0 high.1)
 
-  pub too_many : 1 ≤ k → 32 < k → refused 15 0 ≡ after_check n lows highs states text
-  too_many some h = refuses (above 1 32 k some h)
+  module _ (some : 1 ≤ form.wish.k) (few : form.wish.k ≤ 32) where
+    answers : (b : Bool) → tests ≡ b → done (yes_or_no b) ≡ answer
+    answers b e = sym (says ∙ refuse-not (outside 1 32 form.wish.k) 15 0 _ (inside 1 32 form.wish.k some few) ∙ rw e)
 
-  module _ (some : 1 ≤ k) (few : k ≤ 32) where
-    answers : (b : Bool) → tests ≡ b → done (pick b 1 0 ∷ []) ≡ after_check n lows highs states text
-    unfolding yes_or_no
-    answers b e = sym (says ∙ refuse-not (outside 1 32 k) 15 0 _ (inside 1 32 k some few) ∙ rw e)
+    pub other-count : (form.routes ≡ form.wish.k → ⊥) → done (yes_or_no false) ≡ answer
+    other-count differ = answers false (rw (ne_eqb form.routes form.wish.k differ))
 
-    pub other-count : (routes ≡ k → ⊥) → done (0 ∷ []) ≡ after_check n lows highs states text
-    other-count differ = answers false (rw (ne_eqb routes k differ))
-
-    module _ (same : routes ≡ k) where
+    module _ (same : form.routes ≡ form.wish.k) (r : Bool)
+        (all : RoutesWalked table text form.wish.from.0 form.wish.to.0 (eqb form.wish.from.0) form.routes form.first r) where
       -- What the second pass said is the test of the routes.
-      walked : (r : Bool) → RoutesWalked n lows highs states text from to (eqb from) routes first r
-          → routes_hold n lows highs states from to (eqb from) false here.sheet.routes here.sheet.overs ≡ r
-      walked r all = sym (all here.sheet.routes here.sheet.overs here.many here.lines)
+      walked : of_table routes_hold table form.wish.from.0 form.wish.to.0 (eqb form.wish.from.0) false here.sheet.routes here.sheet.overs ≡ r
+      walked = sym (all here.sheet.routes here.sheet.overs here.many here.lines)
 
-      pub routes-fail : (r : Bool) → RoutesWalked n lows highs states text from to (eqb from) routes first r → r ≡ false
-          → done (0 ∷ []) ≡ after_check n lows highs states text
-      routes-fail r all fails = answers false (rw (eq-eqb routes k same, walked r all, fails))
+      pub routes-fail : r ≡ false → done (yes_or_no false) ≡ answer
+      routes-fail fails = answers false (rw (eq-eqb form.routes form.wish.k same, walked, fails))
 
-      module _ (r : Bool) (all : RoutesWalked n lows highs states text from to (eqb from) routes first r) (holds : r ≡ true)
-          (found : ℕ) (counted : found ≡ count (eqb 1) (marks_of n lows highs states k)) where
-        pub other-kept : (found ≡ kept → ⊥) → done (0 ∷ []) ≡ after_check n lows highs states text
-        other-kept differ =
-            answers false
-            (rw (
-              eq-eqb routes k same,
-              walked r all,
-              holds,
-              ne_eqb kept (count (eqb 1) (marks_of n lows highs states k)) (λ e. differ (counted ∙ sym e)),
-            ))
-
-        pub all_hold : found ≡ kept → done (1 ∷ []) ≡ after_check n lows highs states text
-        all_hold e =
-            answers true
-            (rw (eq-eqb routes k same, walked r all, holds, eq-eqb kept (count (eqb 1) (marks_of n lows highs states k)) (sym e ∙ counted)))
+      pub kept-says : r ≡ true → (found : ℕ) → found ≡ cut → done (yes_or_no (eqb found form.kept)) ≡ answer
+      kept-says holds found counted =
+          answers (eqb found form.kept)
+          (rw (eq-eqb form.routes form.wish.k same, walked, holds) (eqb-sym form.kept cut ∙ ap (λ (x : ℕ). eqb x form.kept) (sym counted)))
 
 -- The table check comes first.
 module _ (n : ℕ) (lows highs states text : List ℕ) where

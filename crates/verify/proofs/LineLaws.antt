@@ -1,6 +1,7 @@
 -- The line that is printed of an answer, and the whole output by the line in front. Assumes nothing.
 use Prim.Native.Nat.{ℕ, ◌-◌, ◌≤◌}
-use mathlib.Core.List.{List, [], ◌∷◌}
+use mathlib.Core.Bool.{Bool, true, false}
+use mathlib.Core.List.{List}
 use mathlib.Core.Path.{◌≡◌, sym, ap, subst}
 use native.Mathlib.Omega.{arith}
 use lib.ListN.{length, take, drop}
@@ -8,6 +9,7 @@ use Rattle.definitions.specs.Outcome.{done, Answer}
 use Rattle.definitions.specs.Lists.{overwrite}
 use Rattle.definitions.specs.Form.{bytes}
 use Rattle.definitions.specs.Program.{printed}
+use Rattle.definitions.specs.SheetTest.{yes_or_no}
 use Rattle.definitions.specs.Verify.{verified, verdict_text, verify_text}
 use Rattle.text.specs.Put.{Put}
 use Rattle.program.specs.Border.{Border, border-rest}
@@ -22,15 +24,15 @@ line_of {before} {after} {next} one other same line =
     subst (λ (answer : Answer). LinePut before (printed verdict_text answer) after next) (sym same) line
 
 -- The two words.
-pub holds-line : {before after : List ℕ} {next : ℕ} → Put before 0 (bytes "(holds)\n") after next
-    → LinePut before (printed verdict_text (done (1 ∷ []))) after next
-unfolding printed verdict_text
-holds-line put = record { put = put; fits = omega arith }
+pub holds-line : {before after : List ℕ} {next : ℕ} {holds : Bool} → holds ≡ true → Put before 0 (bytes "(holds)\n") after next
+    → LinePut before (printed verdict_text (done (yes_or_no holds))) after next
+unfolding printed verdict_text yes_or_no
+holds-line told put = rw told (record { put = put; fits = omega arith })
 
-pub fails-line : {before after : List ℕ} {next : ℕ} → Put before 0 (bytes "(fails)\n") after next
-    → LinePut before (printed verdict_text (done (0 ∷ []))) after next
-unfolding printed verdict_text
-fails-line put = record { put = put; fits = omega arith }
+pub fails-line : {before after : List ℕ} {next : ℕ} {holds : Bool} → holds ≡ false → Put before 0 (bytes "(fails)\n") after next
+    → LinePut before (printed verdict_text (done (yes_or_no holds))) after next
+unfolding printed verdict_text yes_or_no
+fails-line told put = rw told (record { put = put; fits = omega arith })
 
 -- The two texts as they are lent.
 pub both-line : {before after : List ℕ} {next : ℕ} (text : List ℕ) (size at : ℕ) → Border size text at

@@ -1,25 +1,24 @@
 -- The relays met as marks: none yet, one more, and one step of a walk way by way through its code. Assumes nothing.
 use Prim.Native.Nat.{ℕ, ◌/◌, ◌%◌, ◌≤◌, ◌<◌}
-use mathlib.Core.Bool.{Bool, true, false, ◌&&◌, ◌||◌, not, false≢true, true≢false}
+use mathlib.Core.Bool.{Bool, true, false, ◌&&◌, ◌||◌, not, false≢true}
 use mathlib.Core.List.{List}
 use mathlib.Core.Path.{◌≡◌, refl, sym, ◌∙◌, ap, fun_ext}
 use native.Mathlib.Omega.{arith}
 use lib.Dec.{eqb, ltb}
 use lib.ListN.{length, replicate, length-replicate, get_or-eq_default}
-use borrow.Author.Tests.{ltb-true, ltb-false, lt-ltb, le-ltb, eq-eqb, ne_eqb}
+use borrow.Author.Tests.{ltb-true, ltb-false}
 use Rattle.definitions.specs.Network.{joins, link_serves}
 use Rattle.definitions.specs.SheetTest.{also_met, step_holds, met_at}
-use Rattle.lists.specs.Bitmap.{marked, mark, marked-mark, marked-none, no-bit, length-mark}
-use Rattle.lists.specs.Tests.{eqb-sym, and_both}
-use Rattle.verify.specs.Walks.{MarkRoom, Stepped}
+use Rattle.lists.specs.Bitmap.{marked, mark, marked-mark, marked-none, no-bit}
+use Rattle.lists.specs.Tests.{eqb-sym}
+use Rattle.network.specs.Tables.{of_table}
+use Rattle.network.specs.declared.Table.{Table}
+use Rattle.verify.specs.Walks.{may_step, Stepped}
 
 -- Marking a relay is meeting it.
-pub mark-meets : (marks : List ℕ) (r : ℕ) → MarkRoom marks → r < 65536 → marked (mark marks r) ≡ also_met (marked marks) r
+pub mark-meets : (marks : List ℕ) (r : ℕ) → length marks ≡ 1024 → r < 65536 → marked (mark marks r) ≡ also_met (marked marks) r
 unfolding also_met
 mark-meets marks r room small = fun_ext λ x. marked-mark marks r x (omega arith)
-
-pub mark-room : (marks : List ℕ) (r : ℕ) → MarkRoom marks → MarkRoom (mark marks r)
-mark-room marks r room = length-mark marks r ∙ room
 
 none-marked : (count x : ℕ) → marked (replicate count 0) x ≡ false
 unfolding marked
@@ -38,59 +37,53 @@ from-met marks from e small =
     mark-meets marks from (ap length e ∙ length-replicate {A = ℕ} 1024 0) small
     ∙ fun_ext λ x. ap (λ (l : List ℕ). marked l x || eqb x from) e ∙ ap (λ (b : Bool). b || eqb x from) (none-marked 1024 x) ∙ eqb-sym x from
 
--- A link that does not join the two fails the step, whatever its ends are.
-not-both : (p q r : Bool) → (p && q) ≡ false → (p && (q && r)) ≡ false
-not-both true true r e = absurd (true≢false e)
-not-both true false r e = refl
-not-both false q r e = refl
+-- The tests of a step in the order in which they are made.
+in-order : (there joins serves inner below last : Bool)
+    → ((there && (joins && serves)) && (inner && (below && last))) ≡ (((((there && joins) && serves) && inner) && below) && last)
+in-order false joins serves inner below last = refl
+in-order true false serves inner below last = refl
+in-order true true false inner below last = refl
+in-order true true true false below last = refl
+in-order true true true true false last = refl
+in-order true true true true true last = refl
 
-module _ (n : ℕ) (lows highs states : List ℕ) (to a b l : ℕ) (marks : List ℕ) (room : MarkRoom marks) where
-  -- A step that does not hold leaves the marks.
-  stops : step_holds n lows highs states to (marked marks) a b l ≡ false → Stepped n lows highs states to a b l marks marks false
-  stops e = record { holds = sym e; met = λ no. absurd (false≢true no); room = room }
+-- A test that is made after another, and one that is left out since the other failed.
+pub and-second : {v p q r s : Bool} → r ≡ true → r ≡ p → v ≡ s → s ≡ q → v ≡ (p && q)
+and-second passed first same second = same ∙ second ∙ sym (rw (sym first ∙ passed))
 
-  pub not-joined : (ltb l (length lows) && joins lows highs a b l) ≡ false → Stepped n lows highs states to a b l marks marks false
+pub and-first : {v p r : Bool} (q : Bool) → r ≡ false → r ≡ p → v ≡ r → v ≡ (p && q)
+and-first q failed first same = same ∙ failed ∙ sym (rw (sym first ∙ failed))
+
+module _ (table : Table) (to a b l : ℕ) (marks : List ℕ) where
+  abbrev passes : Bool
+  passes = may_step table to a b l
+
+  step-parts : of_table step_holds table to (marked marks) a b l ≡ (passes && (eqb b to || not (marked marks b)))
   unfolding step_holds
-  not-joined e = stops (rw (not-both (ltb l (length lows)) (joins lows highs a b l) (link_serves lows highs states l) e))
+  step-parts =
+      in-order (ltb l (length table.lows.now)) (joins table.lows.now table.highs.now a b l)
+      (link_serves table.lows.now table.highs.now table.states.now l) (not (eqb a to)) (ltb b table.n) (eqb b to || not (marked marks b))
 
-  module _ (joined : (ltb l (length lows) && joins lows highs a b l) ≡ true) where
-    both : (ltb l (length lows) ≡ true) × (joins lows highs a b l ≡ true)
-    both = and_both (ltb l (length lows)) (joins lows highs a b l) joined
+  -- A step that fails one of those leaves the marks;
+  pub not-passed : (r : Bool) → r ≡ passes → r ≡ false → Stepped table to a b l marks marks r
+  not-passed r same fails =
+      let none : passes ≡ false = sym same ∙ fails in
+      record { holds = fails ∙ sym (step-parts ∙ rw none); met = λ holds. absurd (false≢true (sym fails ∙ holds)) }
 
-    -- The link is one of the table.
-    pub link-there : l < length lows
-    link-there = ltb-true l (length lows) both.0
+  module _ (passed : passes ≡ true) where
+    -- one to the end too;
+    pub to_end : (r : Bool) → r ≡ eqb b to → r ≡ true → Stepped table to a b l marks marks r
+    unfolding met_at
+    to_end r same holds =
+        let ended : eqb b to ≡ true = sym same ∙ holds in
+        record { holds = holds ∙ sym (step-parts ∙ rw (passed, ended)); met = λ _. sym (rw ended) }
 
-    pub not-serving : link_serves lows highs states l ≡ false → Stepped n lows highs states to a b l marks marks false
-    unfolding step_holds
-    not-serving e = stops (rw (both.0, both.1, e))
-
-    module _ (serving : link_serves lows highs states l ≡ true) where
-      pub from_end : a ≡ to → Stepped n lows highs states to a b l marks marks false
-      unfolding step_holds
-      from_end same = stops (rw (both.0, both.1, serving, eq-eqb a to same))
-
-      module _ (inner : a ≡ to → ⊥) where
-        pub not-below : n ≤ b → Stepped n lows highs states to a b l marks marks false
-        unfolding step_holds
-        not-below h = stops (rw (both.0, both.1, serving, ne_eqb a to inner, le-ltb b n h))
-
-        module _ (below : b < n) where
-          pub to_end : b ≡ to → Stepped n lows highs states to a b l marks marks true
-          unfolding step_holds met_at
-          to_end same =
-              record {
-                holds = sym (rw (both.0, both.1, serving, ne_eqb a to inner, lt-ltb b n below, eq-eqb b to same));
-                met = λ _. sym (rw (eq-eqb b to same));
-                room = room;
-              }
-
-          pub to-relay : (b ≡ to → ⊥) → b < 65536 → (r : Bool) (after : List ℕ) → r ≡ not (marked marks b) → after ≡ mark marks b
-              → Stepped n lows highs states to a b l marks after r
-          unfolding step_holds met_at
-          to-relay other small r after fresh e =
-              record {
-                holds = fresh ∙ sym (rw (both.0, both.1, serving, ne_eqb a to inner, lt-ltb b n below, ne_eqb b to other));
-                met = λ _. ap marked e ∙ mark-meets marks b room small ∙ sym (rw (ne_eqb b to other));
-                room = ap length e ∙ mark-room marks b room;
-              }
+    -- one to another relay marks it.
+    pub to-relay : eqb b to ≡ false → length marks ≡ 1024 → b < 65536 → (r : Bool) (after : List ℕ)
+        → r ≡ not (marked marks b) → after ≡ mark marks b → Stepped table to a b l marks after r
+    unfolding met_at
+    to-relay other room small r after fresh e =
+        record {
+          holds = fresh ∙ sym (step-parts ∙ rw (passed, other));
+          met = λ _. ap marked e ∙ mark-meets marks b room small ∙ sym (rw other);
+        }

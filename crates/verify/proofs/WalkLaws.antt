@@ -12,15 +12,14 @@ use Rattle.definitions.specs.Outcome.{pick}
 use Rattle.definitions.specs.SheetTest.{step_holds, met_at, Walk, walk}
 use Rattle.lists.specs.Bitmap.{marked}
 use Rattle.text_theory.specs.SpacedNumbers.{numbers_at, NoNumber, ANumber, none-at, one_at, at_none}
-use Rattle.verify.specs.Walks.{SomeNumber, MarkRoom, Walked, walk_from}
+use Rattle.verify.specs.Walks.{SomeNumber, Walked, walk_from}
 
 -- A walk that ended with these relays met, and one that failed.
-pub walked_to : {w : Walk} {steps r : ℕ} {marks : List ℕ} → w ≡ record { steps = steps; met = marked marks } → r ≡ steps → MarkRoom marks
-    → Walked w r marks
-walked_to e same room = record { taken = same ∙ sym (ap (λ (w : Walk). w.steps) e); met = λ _. sym (ap (λ (w : Walk). w.met) e); room = room }
+pub walked_to : {w : Walk} {steps r : ℕ} {marks : List ℕ} → w ≡ record { steps = steps; met = marked marks } → r ≡ steps → Walked w r marks
+walked_to e same = record { taken = same ∙ sym (ap (λ (w : Walk). w.steps) e); met = λ _. sym (ap (λ (w : Walk). w.met) e) }
 
-pub walk-failed : {w : Walk} {met : ℕ → Bool} {marks : List ℕ} → w ≡ record { steps = 0; met = met } → MarkRoom marks → Walked w 0 marks
-walk-failed e room = record { taken = sym (ap (λ (w : Walk). w.steps) e); met = λ some. absurd (omega (arith, some)); room = room }
+pub walk-failed : {w : Walk} {met : ℕ → Bool} {marks : List ℕ} → w ≡ record { steps = 0; met = met } → Walked w 0 marks
+walk-failed e = record { taken = sym (ap (λ (w : Walk). w.steps) e); met = λ some. absurd (omega (arith, some)) }
 
 module _ (n : ℕ) (lows highs states text : List ℕ) (to : ℕ) (met : ℕ → Bool) (steps a p q : ℕ) where
   abbrev here : Walk

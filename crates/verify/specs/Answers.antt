@@ -1,19 +1,21 @@
 -- What the answer of reading a sheet back stands for, and what is said of a text of the form. Assumes nothing.
-use Rattle.std.specs.Prelude.{ℕ, List, [], ◌∷◌, ◌≡◌}
+use Rattle.std.specs.Prelude.{ℕ, Bool, List, ◌≡◌, Result, Ok, Err}
 use Rattle.definitions.specs.Outcome.{done, Answer, refuse_if, and_then}
 use Rattle.definitions.specs.Lists.{outside}
 use Rattle.definitions.specs.SheetForm.{read_sheet}
 use Rattle.definitions.specs.SheetTest.{sheet_holds, yes_or_no}
 use Rattle.network.specs.Answers.{refusal_of}
+use Rattle.network.specs.Tables.{of_table}
+use Rattle.network.specs.declared.Table.{Table}
+use Rattle.network.specs.declared.refusal.Refusal.{Refusal}
 use Rattle.verify.specs.Summary.{summary_of}
-use Rattle.verify.specs.declared.SheetAnswer.{SheetAnswer}
-use Rattle.verify.specs.declared.SheetAnswer.TheVariants.{Refused, Holds, Fails}
+use Rattle.verify.specs.Gives.{form_says}
+use Rattle.verify.specs.declared.form.Form.{Form}
 
 -- 1 for yes, 0 for no, or a refusal.
-abbrev pub sheet_outcome : SheetAnswer → Answer
-sheet_outcome (Refused refusal) = refusal_of refusal
-sheet_outcome Holds = done (1 ∷ [])
-sheet_outcome Fails = done (0 ∷ [])
+abbrev pub sheet_outcome : Result Bool Refusal → Answer
+sheet_outcome (Ok holds) = done (yes_or_no holds)
+sheet_outcome (Err refusal) = refusal_of refusal
 
 -- What is said of a sheet's text once the table check is passed.
 unfoldable pub after_check : (n : ℕ) (lows highs states text : List ℕ) → Answer
@@ -23,6 +25,5 @@ after_check n lows highs states text =
     (done (yes_or_no (sheet_holds n lows highs states sheet)))
 
 -- The same, for a text of the form that says this.
-abbrev pub Judged : (n : ℕ) (lows highs states text : List ℕ) (from to k routes kept first : ℕ) (answer : Answer) → Type 0
-Judged n lows highs states text from to k routes kept first answer =
-    summary_of text ≡ done (from ∷ to ∷ k ∷ routes ∷ kept ∷ first ∷ []) → answer ≡ after_check n lows highs states text
+abbrev pub Judged : (table : Table) (text : List ℕ) (form : Form) (answer : Answer) → Type 0
+Judged table text form answer = summary_of text ≡ form_says form → answer ≡ of_table after_check table text

@@ -4,15 +4,14 @@
 ghost use Rattle.std.specs.Prelude.{◌≡◌, eqb};
 ghost use Rattle.definitions.specs.Forests.{marks_of};
 ghost use Rattle.definitions.specs.Lists.{count};
-ghost use Rattle.definitions.specs.Network.{Accepted};
 ghost use Rattle.definitions.specs.SheetTest.{sheet_answer};
+ghost use Rattle.network.specs.Tables.{of_table};
 ghost use Rattle.verify.specs.Answers.{sheet_outcome, after_check, Judged};
 
 use forests::cut_accepted;
 use form::{Form, sheet_form};
-use network::limits::ROUTES;
-use network::{Check, Refusal, Relay, table_check};
-use program::rooms;
+use network::limits::{LINK_ROOM, ROUTES};
+use network::{Network, Refusal, Table};
 use walk::routes_hold;
 
 mod form;
@@ -20,90 +19,43 @@ pub mod line;
 mod link;
 mod walk;
 
-// Whether a sheet holds, or a refusal.
-#[derive(Clone, Copy)]
-pub enum SheetAnswer {
-    Refused(Refusal),
-    Holds,
-    Fails,
-}
-
 // How many links Cut keeps.
-fn kept_count(n: u16, lows: &[u16], highs: &[u16], states: &[u16], k: u16) -> u16
-    requires { Accepted n lows.now highs.now states.now }
-    ensures { result ≡ count (eqb 1) (marks_of n lows.now highs.now states.now k) }
+fn kept_count(network: Network, k: u16) -> u16
+    ensures { result ≡ count (eqb 1) (of_table marks_of network.entry.table k) }
 {
-    let mut marks = rooms::links();
-    cut_accepted(n, lows, highs, states, k, &mut marks)
+    let mut marks = [0; LINK_ROOM];
+    cut_accepted(network, k, &mut marks)
 }
 
-// A text of the form, with an accepted network: what its lines say, how many routes it has, and where the first of them stands.
-fn judge(
-    n: u16,
-    lows: &[u16],
-    highs: &[u16],
-    states: &[u16],
-    text: &[u8],
-    from: Relay,
-    to: Relay,
-    k: u16,
-    routes: usize,
-    kept: u16,
-    first: usize,
-) -> SheetAnswer
-    requires { Accepted n lows.now highs.now states.now }
-    ensures { Judged n lows.now highs.now states.now text.now
-        from.0 to.0 k routes kept first (sheet_outcome result) }
+// A text of the form, with an accepted network: whether what it says holds.
+fn judge(network: Network, text: &[u8], form: Form) -> Result<bool, Refusal>
+    ensures { Judged network.entry.table text.now form (sheet_outcome result) }
 {
-    if k < 1 {
-        return SheetAnswer::Refused(Refusal::SheetCount);
+    let k = form.wish.k;
+    if k < 1 || ROUTES < k {
+        return Err(Refusal::SheetCount);
     }
-    if ROUTES < k {
-        return SheetAnswer::Refused(Refusal::SheetCount);
-    }
-    if routes != k as usize {
-        return SheetAnswer::Fails;
-    }
-    if !routes_hold(n, lows, highs, states, text, from, to, routes, first) {
-        return SheetAnswer::Fails;
-    }
-    if kept_count(n, lows, highs, states, k) != kept {
-        return SheetAnswer::Fails;
-    }
-    SheetAnswer::Holds
+    Ok(
+        form.routes == usize::from(k)
+            && routes_hold(network, text, form)
+            && kept_count(network, k) == form.kept,
+    )
 }
 
-// A sheet's text, with an accepted network.
-fn read_sheet(n: u16, lows: &[u16], highs: &[u16], states: &[u16], text: &[u8]) -> SheetAnswer
-    requires { Accepted n lows.now highs.now states.now }
-    ensures { sheet_outcome result ≡ after_check n lows.now highs.now states.now text.now }
+// A sheet's text, with an accepted network: whether the sheet holds.
+fn read_sheet(network: Network, text: &[u8]) -> Result<bool, Refusal>
+    ensures { sheet_outcome result ≡ of_table after_check network.entry.table text.now }
 {
     match sheet_form(text) {
-        Form::Departs(p) => SheetAnswer::Refused(Refusal::SheetForm(p)),
-        Form::Reads(from, to, k, routes, kept, first) => {
-            judge(
-                n,
-                lows,
-                highs,
-                states,
-                text,
-                Relay(from),
-                Relay(to),
-                k,
-                routes,
-                kept,
-                first,
-            )
-        }
+        Ok(form) => judge(network, text, form),
+        Err(departure) => Err(Refusal::SheetForm(departure.0)),
     }
 }
 
-// Reads a sheet back with its network.
-pub fn check_sheet(n: u16, lows: &[u16], highs: &[u16], states: &[u16], text: &[u8]) -> SheetAnswer
-    ensures { sheet_outcome result ≡ sheet_answer n lows.now highs.now states.now text.now }
+// Reads a sheet back with its network: whether it holds, or a refusal.
+pub fn check_sheet(table: Table, text: &[u8]) -> Result<bool, Refusal>
+    ensures { sheet_outcome result ≡ of_table sheet_answer table.entry text.now }
 {
-    match table_check(n, lows, highs, states) {
-        Check::Refused(refusal) => SheetAnswer::Refused(refusal),
-        Check::Accepted => read_sheet(n, lows, highs, states, text),
-    }
+    let network = table.check()?;
+    read_sheet(network, text)
 }

@@ -2,49 +2,36 @@
 // out, or the refused line.
 ghost use Rattle.std.specs.Prelude.{[], ◌∷◌, ◌≡◌, ◌≤◌, length};
 ghost use Rattle.definitions.specs.Lists.{overwrite};
-ghost use Rattle.definitions.specs.Network.{Accepted};
 ghost use Rattle.definitions.specs.Program.{printed};
 ghost use Rattle.definitions.specs.SheetTest.{sheet_answer};
 ghost use Rattle.definitions.specs.Border.{border_of};
 ghost use Rattle.definitions.specs.Verify.{verdict_text, verify_text};
+ghost use Rattle.network.specs.Tables.{of_table};
 ghost use Rattle.program.specs.RefusedLine.{line_room, LinePut};
 ghost use Rattle.verify.specs.Line.{read_back_from, read_back_at};
 
-use crate::{SheetAnswer, read_sheet};
-use network::Refusal;
+use crate::read_sheet;
+use network::{Network, Refusal};
 use program::border::border;
-use program::load::load;
 use program::refusal::{LINE_ROOM, put_any};
-use program::rooms;
-use text::scan::PairScan;
-use text::{ReadAnswer, put, scan};
+use program::rooms::Rooms;
+use text::scan::Departure;
+use text::{put, scan};
 
 // The bytes for every line.
 pub const OUTPUT: usize = LINE_ROOM;
 
-pub fn output() -> [u8; OUTPUT] {
-    [0u8; OUTPUT]
-}
-
-// The line for a sheet that is read back with this table, an accepted one.
-fn put_line(
-    output: &mut [u8],
-    n: u16,
-    lows: &[u16],
-    highs: &[u16],
-    states: &[u16],
-    text: &[u8],
-) -> usize
-    requires accepted { Accepted n lows.now highs.now states.now }
-    requires line_room_in_bounds { line_room ≤ length output.old }
+// The line for a sheet that is read back with this network.
+fn put_line(output: &mut [u8], network: Network, text: &[u8]) -> usize
+    requires { line_room ≤ length output.old }
     ensures { LinePut output.old
-        (printed verdict_text (sheet_answer n lows.now highs.now states.now text.now))
+        (printed verdict_text (of_table sheet_answer network.entry.table text.now))
         output.new result }
 {
-    match read_sheet(n, lows, highs, states, text) {
-        SheetAnswer::Refused(refusal) => put_any(output, refusal),
-        SheetAnswer::Holds => put::put_word(output, 0, b"(holds)\n"),
-        SheetAnswer::Fails => put::put_word(output, 0, b"(fails)\n"),
+    match read_sheet(network, text) {
+        Ok(true) => put::put_word(output, 0, b"(holds)\n"),
+        Ok(false) => put::put_word(output, 0, b"(fails)\n"),
+        Err(refusal) => put_any(output, refusal),
     }
 }
 
@@ -54,23 +41,10 @@ fn put_read_back(output: &mut [u8], network: &[u8], text: &[u8]) -> usize
     ensures { LinePut output.old (printed verdict_text (read_back_from network.now text.now))
         output.new result }
 {
-    let mut lows = rooms::links();
-    let mut highs = rooms::links();
-    let mut states = rooms::states();
-    match load(network, &mut lows, &mut highs, &mut states) {
-        ReadAnswer::Refused(refusal) => put_any(output, refusal),
-        ReadAnswer::Table(n, m) => {
-            let size = m as usize;
-            let relays = n as usize;
-            put_line(
-                output,
-                n,
-                &lows[..size],
-                &highs[..size],
-                &states[..relays],
-                text,
-            )
-        }
+    let mut rooms = Rooms::new();
+    match rooms.load(network) {
+        Ok(network) => put_line(output, network, text),
+        Err(refusal) => put_any(output, refusal),
     }
 }
 
@@ -90,7 +64,7 @@ pub fn verify(input: &[u8], output: &mut [u8; OUTPUT]) -> usize
     ensures bytes { output.new ≡ overwrite (verify_text input.now) output.old }
 {
     match scan::pair_line(input, b"(verify ", b" ", b")\n", 0) {
-        PairScan::Departs(p) => put_any(output, Refusal::Wish(p)),
-        PairScan::Reads(a, b, p) => put_both(output, &input[p..], a, b),
+        Ok((a, b, p)) => put_both(output, &input[p..], a, b),
+        Err(Departure(p)) => put_any(output, Refusal::Wish(p)),
     }
 }

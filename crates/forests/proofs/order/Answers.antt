@@ -1,57 +1,56 @@
 -- Order: a refused table, a list too short, or the whole order.
-use mathlib.Core.Path.{sym, ◌∙◌, ap}
-use lib.ListN.{length}
+use Rattle.std.proofs.Common.{rules, ◌≡◌, ◌||◌, true, ltb, lt-ltb, length}
 use Rattle.definitions.specs.Network.{Accepted}
-use Rattle.network.specs.Answers.{check_outcome}
-use borrow.Author.Tests.{lt-ltb}
-use lib.Dec.{ltb}
+use Rattle.network.specs.Tables.{OfTable}
 use Rattle.lists.specs.Tests.{or_left, or_right}
 use Rattle.forests.proofs.AnswerLaws.{order-refused, order-short, order-done}
 use Rattle.forests.proofs.order.Goals as goal
+use Rattle.forests.proofs.order.Goals.{then-relays-size-via-then-relays-size, then-relays-size-via-else-relays-size+then-places-size}
+
+pub returns-in_err-network-clause-answer : goal.returns-in_err-network-clause-answer
+returns-in_err-network-clause-answer c =
+    let t = c.args.table in
+    let refused = order-refused t.n t.lows.now t.highs.now t.states.now c.args.relays.now c.args.places.now
+    c.in_err-network.field-0.0 c.in_err-network.ensures.answer in
+    let answer = refused.0 in
+    search rules
+
+pub returns-in_err-network-clause-relays : goal.returns-in_err-network-clause-relays
+returns-in_err-network-clause-relays c =
+    let t = c.args.table in
+    let refused = order-refused t.n t.lows.now t.highs.now t.states.now c.args.relays.now c.args.places.now
+    c.in_err-network.field-0.0 c.in_err-network.ensures.answer in
+    refused.1.0
+
+pub returns-in_err-network-clause-places : goal.returns-in_err-network-clause-places
+returns-in_err-network-clause-places c =
+    let t = c.args.table in
+    let refused = order-refused t.n t.lows.now t.highs.now t.states.now c.args.relays.now c.args.places.now
+    c.in_err-network.field-0.0 c.in_err-network.ensures.answer in
+    refused.1.1
 
 pub returns-then-relays-size : goal.returns-then-relays-size
 returns-then-relays-size c =
-    let good : let a = c.args in
-    Accepted a.n a.lows.now a.highs.now a.states.now =
-    sym c.table_check.ensures ∙ ap check_outcome c.in-Accepted.is in
-    let a = c.args in
-    let both = order-short a.n a.lows.now a.highs.now a.states.now a.relays.now a.places.now good
-    (or_left (ltb (length a.relays.now) a.n) (ltb (length a.places.now) a.n) (lt-ltb (length a.relays.now) a.n c.if-relays-size.true)) in
+    let t = c.args.table in
+    let network = c.in_ok-network.network in
+    let good : OfTable Accepted t = rw c.in_ok-network.ensures.same at network.accepted in
+    let size = c.from-size.ensures in
+    let short : (ltb (length c.args.relays.now) t.n || ltb (length c.args.places.now) t.n) ≡ true =
+    elim c.then-relays-size.branch [
+      | then-relays-size-via-then-relays-size w ↦ or_left _ _ (lt-ltb _ _ (rw size at w.if-relays-size.true))
+      | then-relays-size-via-else-relays-size+then-places-size w ↦ or_right _ _ (lt-ltb _ _ (rw size at w.if-places-size.true))
+    ] in
+    let both = order-short t.n t.lows.now t.highs.now t.states.now c.args.relays.now c.args.places.now good short in
     record { answer = both.0; relays = both.1.0; places = both.1.1 }
 
-pub returns-then-places-size : goal.returns-then-places-size
-returns-then-places-size c =
-    let good : let a = c.args in
-    Accepted a.n a.lows.now a.highs.now a.states.now =
-    sym c.table_check.ensures ∙ ap check_outcome c.in-Accepted.is in
-    let a = c.args in
-    let both = order-short a.n a.lows.now a.highs.now a.states.now a.relays.now a.places.now good
-    (or_right (ltb (length a.relays.now) a.n) (ltb (length a.places.now) a.n) (lt-ltb (length a.places.now) a.n c.if-places-size.true)) in
-    record { answer = both.0; relays = both.1.0; places = both.1.1 }
-
-pub place_relays-requires : goal.place_relays-requires
-place_relays-requires c =
-    let good : let a = c.args in
-    Accepted a.n a.lows.now a.highs.now a.states.now =
-    sym c.table_check.ensures ∙ ap check_outcome c.in-Accepted.is in
-    (good, c.if-relays-size.false, c.if-places-size.false)
-
-pub returns-in-Refused : goal.returns-in-Refused
-returns-in-Refused c =
-    let a = c.args in
-    let both = order-refused a.n a.lows.now a.highs.now a.states.now a.relays.now a.places.now c.in-Refused.refusal
-    (sym (ap check_outcome c.in-Refused.is) ∙ c.table_check.ensures) in
-    record { answer = both.0; relays = both.1.0; places = both.1.1 }
-
-pub returns-else-places-size : goal.returns-else-places-size
-returns-else-places-size c =
-    let good : let a = c.args in
-    Accepted a.n a.lows.now a.highs.now a.states.now =
-    sym c.table_check.ensures ∙ ap check_outcome c.in-Accepted.is in
-    let a = c.args in
-    let one = c.if-relays-size.false in
-    let other = c.if-places-size.false in
+pub returns : goal.returns
+returns c =
+    let t = c.args.table in
+    let network = c.in_ok-network.network in
+    let same : network.table ≡ t = c.in_ok-network.ensures.same in
+    let good : OfTable Accepted t = rw same at network.accepted in
     let stored = c.place_relays.ensures in
-    let both = order-done a.n a.lows.now a.highs.now a.states.now a.relays.now a.places.now
-    good one other stored.relays_left stored.places_left in
+    let both = order-done t.n t.lows.now t.highs.now t.states.now c.args.relays.now c.args.places.now good
+    (rw c.from-size.ensures at c.if-relays-size.false) (rw c.from-size.ensures at c.if-places-size.false)
+    (rw same at stored.relays_left) (rw same at stored.places_left) in
     record { answer = both.0; relays = both.1.0; places = both.1.1 }

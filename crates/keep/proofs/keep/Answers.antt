@@ -1,6 +1,6 @@
 -- `keep::keep` meets its contract: the line in front departs, or the network behind it is read.
 use Prim.Native.Nat.{ℕ, ◌-◌, ◌≤◌}
-use mathlib.Core.Path.{◌≡◌, sym, ◌∙◌, ap}
+use mathlib.Core.Path.{◌≡◌, sym, ap}
 use mathlib.Core.List.{List, [], ◌∷◌}
 use native.Mathlib.Omega.{arith}
 use lib.ListN.{length, take, drop}
@@ -9,7 +9,6 @@ use Rattle.network.specs.declared.refusal.Refusal.TheVariants.{Wish}
 use Rattle.definitions.specs.Form.{departs, reads, scan_form}
 use Rattle.definitions.specs.Program.{printed}
 use Rattle.definitions.specs.Keep.{keep_form, lease_room, lease_text, keep_text}
-use Rattle.text.specs.Scans.{number_gives}
 use Rattle.keep.specs.Longest.{keep-length}
 use Rattle.program.specs.ReadStage.{whole-put}
 use Rattle.keep.specs.Stages.{read_stage, keep-departed, keep_taken}
@@ -27,40 +26,38 @@ taken input k p e =
     let read = keep_taken input k p e in
     (read.0, ap (printed lease_text) read.1)
 
-pub put_refusal-requires : goal.put_refusal-requires
-unfolding printed lease_room
-put_refusal-requires c =
-    let input = c.args.input.now in
-    let is = departed input c.in-Departs.p (sym c.keep_line.ensures ∙ ap number_gives c.in-Departs.is) in
-    omega (arith, keep-length input, ap length is)
-
-pub slice_bounds-keep_network-start : goal.slice_bounds-keep_network-start
-slice_bounds-keep_network-start c =
-    (taken c.args.input.now c.in-Reads.k c.in-Reads.p (sym c.keep_line.ensures ∙ ap number_gives c.in-Reads.is)).0
-
-pub slice_bounds-keep_network-count : goal.slice_bounds-keep_network-count
-slice_bounds-keep_network-count c =
-    (taken c.args.input.now c.in-Reads.k c.in-Reads.p (sym c.keep_line.ensures ∙ ap number_gives c.in-Reads.is)).0
-
 pub keep_network-requires : goal.keep_network-requires
 unfolding lease_room
 keep_network-requires c =
     let input = c.args.input.now in
-    let is = (taken input c.in-Reads.k c.in-Reads.p (sym c.keep_line.ensures ∙ ap number_gives c.in-Reads.is)).1 in
+    let is = (taken input c.in-Ok.k c.in-Ok.p (sym c.in-Ok.ensures)).1 in
     omega (arith, keep-length input, ap length is)
 
-pub returns-in-Departs : goal.returns-in-Departs
+pub slice_bounds-keep_network-start : goal.slice_bounds-keep_network-start
+slice_bounds-keep_network-start c = (taken c.args.input.now c.in-Ok.k c.in-Ok.p (sym c.in-Ok.ensures)).0
+
+pub slice_bounds-keep_network-count : goal.slice_bounds-keep_network-count
+slice_bounds-keep_network-count c = (taken c.args.input.now c.in-Ok.k c.in-Ok.p (sym c.in-Ok.ensures)).0
+
+pub put_refusal-requires : goal.put_refusal-requires
 unfolding printed lease_room
-returns-in-Departs c =
+put_refusal-requires c =
     let input = c.args.input.now in
-    let is = departed input c.in-Departs.p (sym c.keep_line.ensures ∙ ap number_gives c.in-Departs.is) in
-    let whole = whole-put _ _ _ _ _ is (omega (arith, keep-length input)) c.put_refusal.ensures in
+    let is = departed input c.in-Err.departure.0 (sym c.in-Err.ensures) in
+    omega (arith, keep-length input, ap length is)
+
+pub returns-in-Ok : goal.returns-in-Ok
+unfolding lease_room
+returns-in-Ok c =
+    let input = c.args.input.now in
+    let is = (taken input c.in-Ok.k c.in-Ok.p (sym c.in-Ok.ensures)).1 in
+    let whole = whole-put _ _ _ _ _ is (omega (arith, keep-length input)) c.keep_network.ensures in
     record { length = whole.0; bytes = whole.1 }
 
-pub returns-in-Reads : goal.returns-in-Reads
-unfolding lease_room
-returns-in-Reads c =
+pub returns-in-Err : goal.returns-in-Err
+unfolding printed lease_room
+returns-in-Err c =
     let input = c.args.input.now in
-    let is = (taken input c.in-Reads.k c.in-Reads.p (sym c.keep_line.ensures ∙ ap number_gives c.in-Reads.is)).1 in
-    let whole = whole-put _ _ _ _ _ is (omega (arith, keep-length input)) c.keep_network.ensures in
+    let is = departed input c.in-Err.departure.0 (sym c.in-Err.ensures) in
+    let whole = whole-put _ _ _ _ _ is (omega (arith, keep-length input)) c.put_refusal.ensures in
     record { length = whole.0; bytes = whole.1 }

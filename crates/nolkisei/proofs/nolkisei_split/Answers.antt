@@ -1,10 +1,7 @@
--- `nolkisei::nolkisei_split` meets its contract: Split's answer is reported, and the list is as Split leaves it.
-use mathlib.Core.Path.{sym, ap, ◌∙◌}
-use Rattle.forests.specs.Answers.{split_outcome}
+-- `nolkisei_split` meets its contract: Split's answer is reported, and the list is as Split leaves it.
+use Rattle.std.proofs.Common.{sym, ◌∙◌}
 use Rattle.nolkisei.specs.Reported.{reported-one}
 use Rattle.nolkisei.proofs.nolkisei_split.Goals as goal
 
-pub returns-in-Highest-clause-answer : goal.returns-in-Highest-clause-answer
-returns-in-Highest-clause-answer c =
-    let said = c.split.ensures in
-    reported-one _ _ (sym said.answer ∙ ap split_outcome c.in-Highest.is) ∙ c.give.ensures
+pub returns-in-Ok-clause-answer : goal.returns-in-Ok-clause-answer
+returns-in-Ok-clause-answer c = reported-one _ _ (sym c.in-Ok.ensures.answer) ∙ (rw c.from.ensures at c.give.ensures)

@@ -1,7 +1,7 @@
 -- `plan::plan` meets its contract: the wish departs, or the network behind it is read. That the output holds it rests on
 -- demand 3, which bounds the relays of all the routes.
 use Prim.Native.Nat.{ℕ, ◌-◌, ◌≤◌}
-use mathlib.Core.Path.{◌≡◌, sym, ◌∙◌, ap}
+use mathlib.Core.Path.{◌≡◌, sym, ap}
 use mathlib.Core.List.{List, [], ◌∷◌}
 use native.Mathlib.Omega.{arith}
 use lib.ListN.{length, take, drop}
@@ -10,7 +10,6 @@ use Rattle.network.specs.declared.refusal.Refusal.TheVariants.{Wish}
 use Rattle.definitions.specs.Form.{departs, reads, scan_form}
 use Rattle.definitions.specs.Program.{printed}
 use Rattle.definitions.specs.Plan.{wish_form, output_room, sheet_text, plan_text}
-use Rattle.plan.specs.Wish.{wish_gives}
 use Rattle.plan.specs.Longest.{plan-length}
 use Rattle.program.specs.ReadStage.{whole-put}
 use Rattle.plan.specs.Stages.{read_stage, wish-departed, wish-taken}
@@ -29,44 +28,44 @@ taken input from to k p e =
     let read = wish-taken input from to k p e in
     (read.0, ap (printed sheet_text) read.1)
 
-pub put_refusal-requires : goal.put_refusal-requires
-unfolding printed output_room
-put_refusal-requires c =
-    let input = c.args.input.now in
-    let is = departed input c.in-Departs.p (sym c.wish_line.ensures ∙ ap wish_gives c.in-Departs.is) in
-    omega (arith, plan-length input, ap length is)
-
-pub slice_bounds-plan_network-start : goal.slice_bounds-plan_network-start
-slice_bounds-plan_network-start c =
-    let at = c.in-Reads in
-    (taken c.args.input.now at.from at.to at.k at.p (sym c.wish_line.ensures ∙ ap wish_gives at.is)).0
-
-pub slice_bounds-plan_network-count : goal.slice_bounds-plan_network-count
-slice_bounds-plan_network-count c =
-    let at = c.in-Reads in
-    (taken c.args.input.now at.from at.to at.k at.p (sym c.wish_line.ensures ∙ ap wish_gives at.is)).0
-
 pub plan_network-requires : goal.plan_network-requires
 unfolding output_room
 plan_network-requires c =
     let input = c.args.input.now in
-    let at = c.in-Reads in
-    let is = (taken input at.from at.to at.k at.p (sym c.wish_line.ensures ∙ ap wish_gives at.is)).1 in
+    let w = c.in-Ok.wish in
+    let is = (taken input w.from.0 w.to.0 w.k c.in-Ok.p (sym c.in-Ok.ensures)).1 in
     omega (arith, plan-length input, ap length is)
 
-pub returns-in-Departs : goal.returns-in-Departs
+pub slice_bounds-plan_network-start : goal.slice_bounds-plan_network-start
+slice_bounds-plan_network-start c =
+    let w = c.in-Ok.wish in
+    (taken c.args.input.now w.from.0 w.to.0 w.k c.in-Ok.p (sym c.in-Ok.ensures)).0
+
+pub slice_bounds-plan_network-count : goal.slice_bounds-plan_network-count
+slice_bounds-plan_network-count c =
+    let w = c.in-Ok.wish in
+    (taken c.args.input.now w.from.0 w.to.0 w.k c.in-Ok.p (sym c.in-Ok.ensures)).0
+
+pub put_refusal-requires : goal.put_refusal-requires
 unfolding printed output_room
-returns-in-Departs c =
+put_refusal-requires c =
     let input = c.args.input.now in
-    let is = departed input c.in-Departs.p (sym c.wish_line.ensures ∙ ap wish_gives c.in-Departs.is) in
-    let whole = whole-put _ _ _ _ _ is (omega (arith, plan-length input)) c.put_refusal.ensures in
+    let is = departed input c.in-Err.departure.0 (sym c.in-Err.ensures) in
+    omega (arith, plan-length input, ap length is)
+
+pub returns-in-Ok : goal.returns-in-Ok
+unfolding output_room
+returns-in-Ok c =
+    let input = c.args.input.now in
+    let w = c.in-Ok.wish in
+    let is = (taken input w.from.0 w.to.0 w.k c.in-Ok.p (sym c.in-Ok.ensures)).1 in
+    let whole = whole-put _ _ _ _ _ is (omega (arith, plan-length input)) c.plan_network.ensures in
     record { length = whole.0; bytes = whole.1 }
 
-pub returns-in-Reads : goal.returns-in-Reads
-unfolding output_room
-returns-in-Reads c =
+pub returns-in-Err : goal.returns-in-Err
+unfolding printed output_room
+returns-in-Err c =
     let input = c.args.input.now in
-    let at = c.in-Reads in
-    let is = (taken input at.from at.to at.k at.p (sym c.wish_line.ensures ∙ ap wish_gives at.is)).1 in
-    let whole = whole-put _ _ _ _ _ is (omega (arith, plan-length input)) c.plan_network.ensures in
+    let is = departed input c.in-Err.departure.0 (sym c.in-Err.ensures) in
+    let whole = whole-put _ _ _ _ _ is (omega (arith, plan-length input)) c.put_refusal.ensures in
     record { length = whole.0; bytes = whole.1 }

@@ -3,16 +3,9 @@ use Rattle.text.specs.Tables.{read_whole}
 use Rattle.reports.proofs.SetLaws.{reports-promises}
 use Rattle.reports.proofs.reports.Goals as goal
 
-pub returns-in-Refused : goal.returns-in-Refused
-returns-in-Refused c =
-    let table = c.reports_table in
-    let cleared = c.clear_behind.ensures in
-    let both = reports-promises _ _ _ _ _ _ _ _ _ (read_whole _ _ _ _ _ _ _ _ _ _ _ _ c.in-Refused.is table.ensures cleared) in
-    record { answer = both.0; low_list = both.1.0; high_list = both.1.1.0; state_list = both.1.1.1 }
-
-pub returns-in-Table : goal.returns-in-Table
-returns-in-Table c =
-    let table = c.reports_table in
-    let cleared = c.clear_behind-in-Table.ensures in
-    let both = reports-promises _ _ _ _ _ _ _ _ _ (read_whole _ _ _ _ _ _ _ _ _ _ _ _ c.in-Table.is table.ensures cleared) in
-    record { answer = both.0; low_list = both.1.0; high_list = both.1.1.0; state_list = both.1.1.1 }
+pub returns : goal.returns
+returns c =
+    let table = c.reports_table-answer in
+    let whole = read_whole _ _ _ _ _ _ _ _ _ _ _ _ c.unwrap_or-kept.ensures table.ensures c.clear_behind.ensures in
+    let promises = reports-promises _ _ _ _ _ _ _ _ _ whole in
+    record { answer = promises.0; low_list = promises.1.0; high_list = promises.1.1.0; state_list = promises.1.1.1 }

@@ -2,12 +2,13 @@
 -- code's terms.
 use Prim.Native.Nat.{ℕ, ◌+◌, ◌*◌, ◌≤◌, ◌<◌}
 use mathlib.Core.Bool.{Bool, true, false}
-use mathlib.Core.List.{List, [], ◌∷◌, ◌++◌, map, append-nil}
+use mathlib.Core.List.{List, [], ◌∷◌, ◌++◌, map}
 use mathlib.Core.Path.{◌≡◌, refl, ◌∙◌, ap, ap₂}
 use native.Mathlib.Nat.{zero-add}
 use native.Mathlib.Omega.{arith}
-use lib.ListN.{length, drop, get_or, replicate, length-replicate}
-use lib.Seq.{drop-length, sets}
+use lib.ListN.{length, take, drop, get_or, replicate, length-replicate}
+use Rattle.std.proofs.Common.{length-take, length-append, length-drop}
+use lib.Seq.{sets}
 use Rattle.definitions.specs.Outcome.{pick, refused, done}
 use Rattle.definitions.specs.Lists.{overwrite, zeroed, join_all}
 use Rattle.definitions.specs.Network.{linked, Accepted}
@@ -15,11 +16,11 @@ use Rattle.definitions.specs.Order.{order_of, place_of, relay_at, places_of}
 use Rattle.definitions.specs.Forests.{forests_of, forest_of, Entry}
 use Rattle.definitions.specs.Route.{routes_of, one_tree_of}
 use Rattle.definitions.specs.Over.{overs_of}
-use Rattle.lists.specs.Tables.{length-table, get_or-table, get_or-zeros}
+use Rattle.lists.specs.Tables.{length-table, get_or-table}
 use Rattle.lists.specs.Overwritten.{get_or-overwrite}
 use Rattle.theory.specs.ServingRelays.{serving-few}
 use Rattle.theory.specs.Places.{relay-placed}
-use Rattle.forests.specs.Scan.{Scannable, Scanned}
+use Rattle.forests.specs.Scan.{Scanned}
 use Rattle.forests.specs.Left.{LeftInput, LeftTable}
 use Rattle.forests.proofs.ClearLaws.{cleared}
 use Rattle.sweep.specs.Side.{prior_start, table_entry}
@@ -27,26 +28,6 @@ use Rattle.routes.specs.Writing.{Written, written}
 use Rattle.routes.specs.Between.{one_tree_in, between_in, links_between}
 use Rattle.routes.specs.Answers.{Answered, answered, answer_in, tree_answer, Routable, RouteArrays, Prepared, ScanGave}
 use Rattle.routes.proofs.Answers.Accepted.{front-relays, tree-tested, routes-written, links-written}
-
--- Lists of zeros, in one of the two sizes.
-zeros-at : (size : ℕ) (list : List ℕ) → list ≡ replicate size 0 → (i : ℕ) → get_or list i 0 ≡ 0
-zeros-at size list e i = ap (λ (l : List ℕ). get_or l i 0) e ∙ get_or-zeros size i
-
-zeros-long : (size : ℕ) (list : List ℕ) → list ≡ replicate size 0 → length list ≡ size
-zeros-long size list e = ap length e ∙ length-replicate {A = ℕ} size 0
-
-pub route-arrays : (size links wide n : ℕ) {lows order places numbers a b : List ℕ} → n ≤ size → length lows ≤ links → prior_start + (2 * n + 1) < wide
-    → order ≡ replicate size 0 → places ≡ replicate size 0 → numbers ≡ replicate links 0 → a ≡ replicate wide 0 → b ≡ replicate wide 0
-    → RouteArrays n lows order places numbers a b
-route-arrays size links wide n {lows} {order} {places} {numbers} {a} {b} few short broad eo ep en ea eb =
-    record {
-      relay_room = omega (arith, zeros-long size order eo);
-      place_room = omega (arith, zeros-long size places ep);
-      link_room = omega (arith, zeros-long links numbers en);
-      no_order = zeros-at size order eo;
-      no_a = record { room = omega (arith, zeros-long wide a ea); empty = zeros-at wide a ea };
-      no_b = record { room = omega (arith, zeros-long wide b eb); empty = zeros-at wide b eb };
-    }
 
 -- The places' list gives the place of each relay.
 pub place-entry : (n : ℕ) (lows highs states places places' : List ℕ) → places' ≡ overwrite (places_of n (order_of n lows highs states)) places
@@ -157,33 +138,21 @@ module _ (n : ℕ) (lows highs states : List ℕ) (k from to : ℕ) (counts rela
       let placed_q = relay-placed n lows highs states to asked.goal in
       omega (arith, at_p, at_q, placed_p.0, placed_p.1, placed_q.0, placed_q.1, asked.few, serving-few n states, lent.no_a.room, lent.no_b.room)
 
--- A list cleared as far as it goes, which was as long as another.
-pub clear_whole : (old mid last : List ℕ) → length mid ≡ length old → last ≡ replicate (length mid) 0 ++ drop (length mid) mid
-    → last ≡ zeroed old
+-- A list of zeros as long as another.
+pub clear_whole : (old mid last : List ℕ) → length mid ≡ length old → last ≡ replicate (length mid) 0 → last ≡ zeroed old
 unfolding zeroed
-clear_whole old mid last e clear =
-    clear ∙ rw (drop-length mid) (append-nil (replicate (length mid) 0)) ∙ ap (λ (x : ℕ). replicate x 0) e
+clear_whole old mid last e clear = clear ∙ ap (λ (x : ℕ). replicate x 0) e
 
--- What the scan asks, and what it gave.
-pub scan-asks : {n k from to : ℕ} {lows highs states counts relays scratch order places numbers a b : List ℕ}
-    → Routable n lows highs states k from to counts relays scratch → RouteArrays n lows order places numbers a b
-    → Scannable n lows highs states order places numbers
-scan-asks asked lent =
-    record { accepted = asked.accepted; relay_room = lent.relay_room; place_room = lent.place_room; forest_room = lent.link_room }
+-- The front of scratch filled with zeros, and the rest as it was; it stays as long.
+module _ (k n : ℕ) {routes size : ℕ} (scratch : List ℕ) {front : List ℕ} (same_k : routes ≡ k) (same_n : size ≡ n) (room : k * n ≤ length scratch)
+    (filled : front ≡ replicate (length (take (routes * size) scratch)) 0) where
+  pub front-cleared : front ++ drop (routes * size) scratch ≡ replicate (k * n) 0 ++ drop (k * n) scratch
+  front-cleared =
+      let long : length (take (k * n) scratch) ≡ k * n = omega (arith, length-take (k * n) scratch) in
+      rw (filled, same_k, same_n, long)
 
-pub scan-gave : {n : ℕ} {lows highs states order order' places places' numbers numbers' a b : List ℕ}
-    → RouteArrays n lows order places numbers a b → Scanned n lows highs states order order' places places' numbers numbers'
-    → length places' ≡ length places → length numbers' ≡ length numbers → ScanGave n lows highs states order' places' numbers' a b
-scan-gave lent scanned same_places same_numbers =
-    record {
-      order_before = _;
-      places_before = _;
-      numbers_before = _;
-      arrays = lent;
-      scanned = scanned;
-      place_room = omega (arith, same_places, lent.place_room);
-      link_room = omega (arith, same_numbers, lent.link_room);
-    }
+  pub front-long : length (front ++ drop (routes * size) scratch) ≡ length scratch
+  front-long = rw front-cleared (simp (length-append, length-drop, length-replicate {A = ℕ}) (omega arith))
 
 -- What the left table is made from, after the front of scratch is cleared.
 pub table-input : (n : ℕ) (lows highs states : List ℕ) (k from to : ℕ) (counts relays scratch scratch' order places numbers a b : List ℕ)

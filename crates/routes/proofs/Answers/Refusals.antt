@@ -3,6 +3,7 @@
 use Prim.Native.Nat.{ℕ, zero, suc, ◌+◌, ◌-◌, ◌*◌}
 use mathlib.Core.Bool.{Bool, true, false, ◌&&◌, ◌||◌, not}
 use mathlib.Core.List.{List, [], ◌∷◌, map}
+use Rattle.std.specs.Prelude.{Option}
 use mathlib.Core.Logic.{◌≢◌}
 use mathlib.Core.Path.{◌≡◌, refl, sym, ◌∙◌, ap, subst}
 use native.Mathlib.Omega.{arith}
@@ -21,7 +22,9 @@ use Rattle.network.specs.Answers.{refusal_number, refusal_place, refusal_of}
 use Rattle.network.specs.Refusals.{refusal-then}
 use Rattle.network.specs.declared.refusal.Refusal.{Refusal}
 use Rattle.network.specs.declared.refusal.Refusal.TheVariants.{NotOneTree}
-use Rattle.routes.specs.Answers.{wish_check, Answered, answered, tree_answer, short_for, core_answer, core_counts, core_relays, core_links, core_scratch, Routable}
+use Rattle.routes.specs.declared.wish.Room.{Room}
+use Rattle.routes.specs.Wishes.{links_short, is_short, wish_check}
+use Rattle.routes.specs.Answers.{Answered, answered, tree_answer, short_for, core_answer, core_counts, core_relays, core_links, core_scratch, Routable}
 
 -- Not refused by the test of one tree, which comes last and alone uses scratch.
 abbrev BeforeTree : Answer → Type 0
@@ -69,21 +72,19 @@ before-table n lows highs states =
     (before-then (links_check n lows highs 0 (length lows)) (λ _. last) (before-links n lows highs 0 (length lows))
     (λ _. before-refuse (states_fault n states) 16 0 (done []) (λ e. omega arith) tt)))
 
-before-wish : (n k from to : ℕ) (states : List ℕ) (asked : Bool) (counts_length relays_length links_length scratch_length : ℕ)
-    → BeforeTree (wish_check n k from to states asked counts_length relays_length links_length scratch_length)
+before-wish : (n k from to : ℕ) (states : List ℕ) (room : Room) → BeforeTree (wish_check n k from to states room)
 unfolding wish_check
-before-wish n k from to states asked counts_length relays_length links_length scratch_length =
-    let short : Bool =
-    (ltb counts_length k || (ltb relays_length (n - 2 + 2 * k) || ltb scratch_length (k * n))) || (asked && ltb links_length (n - 2 + k)) in
+before-wish n k from to states room =
+    let short : Bool = is_short room n k in
     let out : Bool = not (serves states from && serves states to) in
-    let room : Answer = refuse_if short 12 0 (done []) in
-    let service : Answer = refuse_if out 17 0 room in
+    let lists : Answer = refuse_if short 12 0 (done []) in
+    let service : Answer = refuse_if out 17 0 lists in
     let same : Answer = refuse_if (eqb from to) 11 0 service in
     let range : Answer = refuse_if (leb n from || leb n to) 10 0 same in
     before-refuse (outside 1 32 k) 9 0 range (λ e. omega arith)
     (before-refuse (leb n from || leb n to) 10 0 same (λ e. omega arith)
     (before-refuse (eqb from to) 11 0 service (λ e. omega arith)
-    (before-refuse out 17 0 room (λ e. omega arith)
+    (before-refuse out 17 0 lists (λ e. omega arith)
     (before-refuse short 12 0 (done []) (λ e. omega arith) tt))))
 
 refuse-then : (b : Bool) (number place : ℕ) (rest : Answer) (next : List ℕ → Answer)
@@ -92,7 +93,11 @@ unfolding refuse_if and_then
 refuse-then true number place rest next = refl
 refuse-then false number place rest next = refl
 
-module _ (asked : Bool) (n : ℕ) (lows highs states : List ℕ) (k from to : ℕ) (counts relays links scratch : List ℕ) where
+-- The room in lists.
+abbrev pub room_of : (asked : Option ℕ) (counts relays scratch : List ℕ) → Room
+room_of asked counts relays scratch = record { counts = length counts; relays = length relays; links = asked; scratch = length scratch }
+
+module _ (asked : Option ℕ) (n : ℕ) (lows highs states : List ℕ) (k from to : ℕ) (counts relays links scratch : List ℕ) where
   -- What Route promises of its answer and the four lists afterwards.
   abbrev pub Promised : (answer : Answer) (counts' relays' links' scratch' : List ℕ) → Type 0
   Promised answer counts' relays' links' scratch' =
@@ -103,7 +108,7 @@ module _ (asked : Bool) (n : ℕ) (lows highs states : List ℕ) (k from to : �
       × (scratch' ≡ core_scratch asked n lows highs states k from to counts relays links scratch))))
 
   abbrev wish : Answer
-  wish = wish_check n k from to states asked (length counts) (length relays) (length links) (length scratch)
+  wish = wish_check n k from to states (room_of asked counts relays scratch)
 
   abbrev last : Answer
   last = refuse_if (not (one_tree_of n lows highs states k from to)) 13 0 (done (length (join_all (routes_of n lows highs states k from to)) ∷ []))
@@ -115,7 +120,7 @@ module _ (asked : Bool) (n : ℕ) (lows highs states : List ℕ) (k from to : �
       short : Bool
       short =
           (ltb (length counts) k || (ltb (length relays) (n - 2 + 2 * k) || ltb (length scratch) (k * n)))
-          || (asked && ltb (length links) (n - 2 + k))
+          || links_short asked n k
 
       out : Bool
       out = not (serves states from && serves states to)
@@ -132,7 +137,7 @@ module _ (asked : Bool) (n : ℕ) (lows highs states : List ℕ) (k from to : �
 
       inner : refuse_if (outside 1 32 k) 9 0
           (refuse_if (leb n from || leb n to) 10 0 (refuse_if (eqb from to) 11 0 (refuse_if out 17 0 (refuse_if short 12 0 last))))
-          ≡ and_then (wish_check n k from to states asked (length counts) (length relays) (length links) (length scratch)) (λ _. last)
+          ≡ and_then (wish_check n k from to states (room_of asked counts relays scratch)) (λ _. last)
       inner =
           ap (λ (x : Answer). refuse_if (outside 1 32 k) 9 0 (refuse_if (leb n from || leb n to) 10 0 (refuse_if (eqb from to) 11 0 (refuse_if out 17 0 x))))
           (refuse-then short 12 0 (done []) (λ _. last))
@@ -168,7 +173,7 @@ module _ (asked : Bool) (n : ℕ) (lows highs states : List ℕ) (k from to : �
 
     pub wish-refused : (refusal : Refusal) → refusal_of refusal ≡ wish → Promised (refusal_of refusal) counts relays links scratch
     wish-refused refusal e =
-        refused-by refusal wish (before-wish n k from to states asked (length counts) (length relays) (length links) (length scratch)) e
+        refused-by refusal wish (before-wish n k from to states (room_of asked counts relays scratch)) e
         (past-table ∙ ap (λ (x : Answer). and_then x (λ _. last)) (sym e) ∙ refusal-then refusal (λ _. last))
 
     module _ (fine : wish ≡ done []) where
@@ -215,7 +220,7 @@ module _ (asked : Bool) (n : ℕ) (lows highs states : List ℕ) (k from to : �
       unfolding wish_check outside
       wish-passed =
           let lent : Bool = ltb (length counts) k || (ltb (length relays) (n - 2 + 2 * k) || ltb (length scratch) (k * n)) in
-          let short : Bool = lent || (asked && ltb (length links) (n - 2 + k)) in
+          let short : Bool = lent || links_short asked n k in
           let out : Bool = not (serves states from && serves states to) in
           let room : Answer = refuse_if short 12 0 (done []) in
           let service : Answer = refuse_if out 17 0 room in
@@ -230,7 +235,7 @@ module _ (asked : Bool) (n : ℕ) (lows highs states : List ℕ) (k from to : �
           let ends = or-false (leb n from) (leb n to) two.0 in
           let serve = and_both (serves states from) (serves states to) (not-false (serves states from && serves states to) four.0) in
           let rooms = or-false (ltb (length counts) k) (ltb (length relays) (n - 2 + 2 * k) || ltb (length scratch) (k * n))
-          (or-false lent (asked && ltb (length links) (n - 2 + k)) five.0).0 in
+          (or-false lent (links_short asked n k) five.0).0 in
           let later = or-false (ltb (length relays) (n - 2 + 2 * k)) (ltb (length scratch) (k * n)) rooms.1 in
           record {
             accepted = ok;

@@ -7,7 +7,6 @@ use lib.ListN.{length, set}
 use Rattle.sweep.specs.Side.{second_in, link_in, prior_in, prior_link_in}
 use Rattle.routes.specs.Writing.{count_in}
 use Rattle.routes.specs.WrittenLinks.{links_down, links_up, route_links, links_from}
-use Rattle.routes.proofs.Loops.Write.{counted}
 
 pub links-down-turn : (side : List ℕ) (from c link link' x x' : ℕ) (links links' : List ℕ) → 0 < c
     → links' ≡ set links (from + (c - 1)) link → link' ≡ prior_link_in side x → x' ≡ prior_in side x
@@ -21,21 +20,15 @@ pub links-down-end : (side : List ℕ) (from c link x : ℕ) (links : List ℕ) 
 unfolding links_down
 links-down-end side from c link x links e = rw e
 
-pub links-up-turn : (side : List ℕ) (at c link link' x x' : ℕ) (links links' : List ℕ) → 0 < c
+pub links-up-turn : (side : List ℕ) (at c c' link link' x x' : ℕ) (links links' : List ℕ) → c ≡ suc c'
     → links' ≡ set links at link → link' ≡ prior_link_in side x → x' ≡ prior_in side x
-    → links_up side at c link x links ≡ links_up side (at + 1) (c - 1) link' x' links'
+    → links_up side at c link x links ≡ links_up side (at + 1) c' link' x' links'
 unfolding links_up
-links-up-turn side at zero link link' x x' links links' some s l e = absurd (omega arith)
-links-up-turn side at (suc c) link link' x x' links links' some s l e =
-    let less : suc c - 1 ≡ c = omega arith in rw (s, l, e, less)
+links-up-turn side at c c' link link' x x' links links' some s l e = rw (some, s, l, e)
 
 pub links-up-end : (side : List ℕ) (at c link x : ℕ) (links : List ℕ) → c ≡ 0 → links_up side at c link x links ≡ links
 unfolding links_up
 links-up-end side at c link x links e = rw e
-
-pub links-bound : (front back : List ℕ) (i number : ℕ) → number ≡ count_in front i + count_in back i → number ≤ 2000
-links-bound front back i number e =
-    omega (arith, e, counted front i (count_in front i) refl, counted back i (count_in back i) refl)
 
 pub route-links-written : (front back : List ℕ) (i from low high : ℕ) (old down up : List ℕ)
     → low ≡ count_in front i → high ≡ count_in back i

@@ -32,10 +32,6 @@ chain-bound side (suc fuel) x = go (chain-bound side fuel (prior_in side x)) (eq
     go less true = omega arith
     go less false = omega arith
 
-count-bound : (side : List ℕ) (i : ℕ) → count_in side i ≤ 1000
-unfolding count_in
-count-bound side i = chain-bound side 1000 (second_in side i)
-
 pub count-stops : (side : List ℕ) (i start x c : ℕ) → start ≡ second_in side i
     → chain_length side 1000 start ≡ c + chain_length side (1000 - c) x → x ≡ 0 → c ≡ count_in side i
 unfolding count_in
@@ -43,7 +39,7 @@ count-stops side i start x c e inv stop =
     rw (← e) (omega (arith, inv, chain-stop side (1000 - c) x stop))
 
 pub count-full : (side : List ℕ) (i start x c : ℕ) → start ≡ second_in side i
-    → chain_length side 1000 start ≡ c + chain_length side (1000 - c) x → c ≤ 1000 → 1000 ≤ c → c ≡ count_in side i
+    → chain_length side 1000 start ≡ c + chain_length side (1000 - c) x → c ≤ 1000 → 1000 ≤ c → 1000 ≡ count_in side i
 unfolding count_in
 count-full side i start x c e inv le full =
     rw (← e) (omega (arith, inv, chain-bound side (1000 - c) x))
@@ -66,24 +62,15 @@ pub down-end : (side order : List ℕ) (from c x : ℕ) (relays : List ℕ) → 
 unfolding write_down
 down-end side order from c x relays e = rw e
 
-pub up_turn : (side order : List ℕ) (at c x x' relay : ℕ) (relays relays' : List ℕ) → 0 < c → relay ≡ relay_at order x
+pub up_turn : (side order : List ℕ) (at c c' x x' relay : ℕ) (relays relays' : List ℕ) → c ≡ suc c' → relay ≡ relay_at order x
     → relays' ≡ set relays at relay → x' ≡ prior_in side x
-    → write_up side order at c x relays ≡ write_up side order (at + 1) (c - 1) x' relays'
+    → write_up side order at c x relays ≡ write_up side order (at + 1) c' x' relays'
 unfolding write_up
-up_turn side order at zero x x' relay relays relays' some r s e = absurd (omega arith)
-up_turn side order at (suc c) x x' relay relays relays' some r s e =
-    let less : suc c - 1 ≡ c = omega arith in rw (s, r, e, less)
+up_turn side order at c c' x x' relay relays relays' some r s e = rw (some, s, r, e)
 
 pub up-end : (side order : List ℕ) (at c x : ℕ) (relays : List ℕ) → c ≡ 0 → write_up side order at c x relays ≡ relays
 unfolding write_up
 up-end side order at c x relays e = rw e
-
-pub counted : (side : List ℕ) (i count : ℕ) → count ≡ count_in side i → count ≤ 1000
-counted side i count e = omega (arith, e, count-bound side i)
-
-pub route-bound : (front back : List ℕ) (i length : ℕ) → length ≡ route_length front back i → length ≤ 2001
-unfolding route_length
-route-bound front back i length e = omega (arith, e, count-bound front i, count-bound back i)
 
 pub route-length : (front back : List ℕ) (i low high : ℕ) → low ≡ count_in front i → high ≡ count_in back i
     → low + 1 + high ≡ route_length front back i

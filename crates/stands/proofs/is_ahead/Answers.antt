@@ -1,14 +1,14 @@
--- `stands::is_ahead` meets its contract: the difference is below the range, above it, or in it.
-use Rattle.std.proofs.Common.{true, false}
+-- `stands::is_ahead` meets its contract: the difference is in the range, below it or above it.
+use Rattle.std.proofs.Common.{true, false, arith}
 use Rattle.lists.specs.Ranges.{inside, below, above}
 use Rattle.stands.proofs.ReadLaws.{ahead-by}
 use Rattle.stands.proofs.is_ahead.Goals as goal
 
-pub returns-then-by-lt1 : goal.returns-then-by-lt1
-returns-then-by-lt1 c = ahead-by _ _ _ true c.lead-by.ensures (below 1 2147483647 _ c.if-by-lt1.true)
+pub returns-in-1-to-2147483647 : goal.returns-in-1-to-2147483647
+returns-in-1-to-2147483647 c = ahead-by _ _ _ false c.lead.ensures (inside 1 2147483647 c.lead.result (omega arith) (omega arith))
 
-pub returns-then-by-gt2147483647 : goal.returns-then-by-gt2147483647
-returns-then-by-gt2147483647 c = ahead-by _ _ _ true c.lead-by.ensures (above 1 2147483647 _ c.if-by-lt1.false c.if-by-gt2147483647.true)
+pub returns-in_default : goal.returns-in_default
+returns-in_default c = ahead-by _ _ _ true c.lead.ensures (below 1 2147483647 c.lead.result (omega arith))
 
-pub returns : goal.returns
-returns c = ahead-by _ _ _ false c.lead-by.ensures (inside 1 2147483647 _ c.if-by-lt1.false c.if-by-gt2147483647.false)
+pub returns-in_default-2 : goal.returns-in_default-2
+returns-in_default-2 c = ahead-by _ _ _ true c.lead.ensures (above 1 2147483647 c.lead.result (omega arith) (omega arith))

@@ -1,26 +1,26 @@
 -- `stands::standing` meets its contract: the text that stands, itself, or the first one's empty front.
-use Rattle.std.proofs.Common.{sym, refl, ap, ◌∙◌}
+use Rattle.std.proofs.Common.{Ok, sym, refl, ap, ◌∙◌}
 use Rattle.definitions.specs.Stands.{text_of_which, bytes_of, standing_bytes}
 use Rattle.stands.specs.Standing.{which_outcome}
 use Rattle.stands.proofs.standing.Goals as goal
 
-pub returns-in-First : goal.returns-in-First
+pub returns-in-Ok-First : goal.returns-in-Ok-First
 unfolding standing_bytes bytes_of text_of_which
-returns-in-First c = record {
-  bytes = rw (sym c.which_stands.ensures ∙ ap which_outcome c.in-First.is) refl;
-  own = rw (sym c.which_stands.ensures ∙ ap which_outcome c.in-First.is) refl;
+returns-in-Ok-First c = record {
+  bytes = rw (sym c.which_stands.ensures ∙ ap which_outcome (c.in-Ok-First.is ∙ ap Ok c.in-Ok-First.field-0-is)) refl;
+  own = rw (sym c.which_stands.ensures ∙ ap which_outcome (c.in-Ok-First.is ∙ ap Ok c.in-Ok-First.field-0-is)) refl;
 }
 
-pub returns-in-Second : goal.returns-in-Second
+pub returns-in-Ok-Second : goal.returns-in-Ok-Second
 unfolding standing_bytes bytes_of text_of_which
-returns-in-Second c = record {
-  bytes = rw (sym c.which_stands.ensures ∙ ap which_outcome c.in-Second.is) refl;
-  own = rw (sym c.which_stands.ensures ∙ ap which_outcome c.in-Second.is) refl;
+returns-in-Ok-Second c = record {
+  bytes = rw (sym c.which_stands.ensures ∙ ap which_outcome (c.in-Ok-Second.is ∙ ap Ok c.in-Ok-Second.field-0-is)) refl;
+  own = rw (sym c.which_stands.ensures ∙ ap which_outcome (c.in-Ok-Second.is ∙ ap Ok c.in-Ok-Second.field-0-is)) refl;
 }
 
-pub returns-in-Refused : goal.returns-in-Refused
+pub returns-in-Err : goal.returns-in-Err
 unfolding standing_bytes bytes_of
-returns-in-Refused c = record {
-  bytes = rw (sym c.which_stands.ensures ∙ ap which_outcome c.in-Refused.is) refl;
-  own = rw (sym c.which_stands.ensures ∙ ap which_outcome c.in-Refused.is) tt;
+returns-in-Err c = record {
+  bytes = rw (sym c.which_stands.ensures ∙ ap which_outcome c.in-Err.is) refl;
+  own = rw (sym c.which_stands.ensures ∙ ap which_outcome c.in-Err.is) tt;
 }

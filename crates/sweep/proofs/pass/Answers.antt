@@ -1,32 +1,32 @@
 -- `pass` meets its contract.
 use Rattle.sweep.proofs.Loops.{passed-met, passed-a, passed_b, passed_none}
-use Rattle.sweep.specs.Side.{table_entry}
+use Rattle.sweep.specs.Side.{left_of}
 use Rattle.sweep.proofs.pass.Goals as goal
 
 pub returns-then-end_b-v : goal.returns-then-end_b-v
 returns-then-end_b-v c =
     let a = c.args in
-    passed-met (table_entry a.table.now a.ends.now a.n) a.v.0 a.j a.a.now a.b.now _ _ _ _
+    passed-a (left_of a.table) a.v.0 a.j a.a.now a.b.now _ _ _ _
     c.trade_below.ensures c.trade_below-2.ensures c.end_of-end_a.ensures c.end_of-end_b.ensures
-    c.if-end_a-v.true c.if-end_b-v.true
+    _ c.if-end_a-v.true c.if-end_b-v.true c.extend.ensures
 
-pub returns-then-end_a-v : goal.returns-then-end_a-v
-returns-then-end_a-v c =
+pub returns-else-end_b-v : goal.returns-else-end_b-v
+returns-else-end_b-v c =
     let a = c.args in
-    passed-a (table_entry a.table.now a.ends.now a.n) a.v.0 a.j a.a.now a.b.now _ _ _ _
+    passed-met (left_of a.table) a.v.0 a.j a.a.now a.b.now _ _ _ _
     c.trade_below.ensures c.trade_below-2.ensures c.end_of-end_a.ensures c.end_of-end_b.ensures
-    _ c.if-end_a-v.true c.if-end_b-v.false c.extend.ensures
+    c.if-end_a-v.true c.if-end_b-v.false
 
 pub returns-then-end_b-v-2 : goal.returns-then-end_b-v-2
 returns-then-end_b-v-2 c =
     let a = c.args in
-    passed_b (table_entry a.table.now a.ends.now a.n) a.v.0 a.j a.a.now a.b.now _ _ _ _
+    passed_b (left_of a.table) a.v.0 a.j a.a.now a.b.now _ _ _ _
     c.trade_below.ensures c.trade_below-2.ensures c.end_of-end_a.ensures c.end_of-end_b.ensures
     _ c.if-end_a-v.false c.if-end_b-v-2.true c.extend-then-end_b-v-2.ensures
 
 pub returns-else-end_b-v-2 : goal.returns-else-end_b-v-2
 returns-else-end_b-v-2 c =
     let a = c.args in
-    passed_none (table_entry a.table.now a.ends.now a.n) a.v.0 a.j a.a.now a.b.now _ _ _ _
+    passed_none (left_of a.table) a.v.0 a.j a.a.now a.b.now _ _ _ _
     c.trade_below.ensures c.trade_below-2.ensures c.end_of-end_a.ensures c.end_of-end_b.ensures
     c.if-end_a-v.false c.if-end_b-v-2.false

@@ -1,21 +1,16 @@
--- `text::read_lines` meets its contract: a refused link line, refused states or end, or a whole table.
-use native.Mathlib.Omega.{arith}
-use Rattle.text.specs.Tables.{states-behind, links-refused, rest-refused, table-whole}
+-- `read_lines` meets its contract: refused states or a refused end, or a whole table.
+use Rattle.std.proofs.Common.{rules, refl, arith}
+use Rattle.text.specs.Tables.{states-behind, rest-refused, table-whole}
 use Rattle.text.proofs.read_lines.Goals as goal
 
-pub returns-in-Refused : goal.returns-in-Refused
-returns-in-Refused c =
-    let a = c.args in
-    links-refused _ _ _ _ _ a.states.now _ _ _ c.read_all_links.ensures _ c.in-Refused.is
+pub returns-in_err-read_states : goal.returns-in_err-read_states
+returns-in_err-read_states c =
+    let told = c.in_err-read_states.ensures in
+    let table = rest-refused _ _ _ _ _ _ _ _ _ c.in_ok-p.ensures c.args.size.relays _ refl _ _ (states-behind _ _ _ _ _ _ _ _ told) told.same _ refl in
+    search rules
 
-pub returns-in-Refused-read_states : goal.returns-in-Refused-read_states
-returns-in-Refused-read_states c =
-    let told = c.read_states.ensures in
-    rest-refused _ _ _ _ _ _ _ _ _ c.read_all_links.ensures _ _ c.in-Next.is _ _ (states-behind _ _ _ _ _ _ _ _ told)
-    told.same _ c.in-Refused-read_states.is
-
-pub returns-in-Next-read_states : goal.returns-in-Next-read_states
-returns-in-Next-read_states c =
-    let told = c.read_states.ensures in
-    table-whole _ _ _ _ _ _ _ _ _ c.read_all_links.ensures _ _ c.in-Next.is _ _ (states-behind _ _ _ _ _ _ _ _ told)
-    told.same _ c.in-Next-read_states.is (omega (arith, c.requires)) (omega (arith, c.requires)) (omega (arith, c.requires))
+pub returns : goal.returns
+returns c =
+    let told = c.in_ok-read_states.ensures in
+    table-whole _ _ _ _ _ _ _ _ _ c.in_ok-p.ensures c.args.size.relays _ refl _ _ (states-behind _ _ _ _ _ _ _ _ told)
+    told.same c.in_ok-read_states.field-0 refl (omega (arith, c.requires.room)) (omega (arith, c.requires.room)) (omega (arith, c.requires.room))

@@ -1,4 +1,4 @@
--- `text::text_length` meets its contract. The loop: the length so far and that of the lines left make that of the text.
+-- The loop's invariant: the length so far and that of the lines left make that of the text.
 use Prim.Native.Nat.{◌+◌, ◌-◌, ◌*◌, ◌≤◌}
 use mathlib.Core.Path.{◌≡◌}
 use lib.ListN.{length}
@@ -7,8 +7,7 @@ use Rattle.text.proofs.text_length.Given as goal
 
 abbrev pub invariant-loop-i : goal.invariant-loop-i
 invariant-loop-i l =
-    (l.i ≤ length l.lows) × (l.total ≤ l.initial.total + 19 * l.i)
-    × (l.total + length (link_lines l.lows l.highs l.i (length l.lows - l.i)) ≡ l.initial.total + length (link_lines l.lows l.highs 0 (length l.lows)))
-
-abbrev pub decreases-loop-i : goal.decreases-loop-i
-decreases-loop-i l = length l.lows - l.i
+    let lows = l.table.lows.now in
+    let highs = l.table.highs.now in
+    (l.total ≤ l.initial.total + 19 * l.i)
+    × (l.total + length (link_lines lows highs l.i (length lows - l.i)) ≡ l.initial.total + length (link_lines lows highs 0 (length lows)))

@@ -5,8 +5,8 @@ use Rattle.together.proofs.all_four.Goals as goal
 
 pub returns-clause-demand : goal.returns-clause-demand
 returns-clause-demand c =
-    let order = c.order-order.ensures in
-    let split = c.split-split.ensures in
-    let cut = c.cut-cut.ensures in
-    let route = c.route-route.ensures in
+    let order = c.order.ensures in
+    let split = c.split.ensures in
+    let cut = c.cut.ensures in
+    let route = c.route.ensures in
     together _ _ _ _ _ _ _ _ _ _ _ _ _ _ _ _ _ _ _ _ _ order.relays order.places split.forests cut.marks route.answer route.counts route.relays

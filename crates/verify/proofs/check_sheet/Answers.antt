@@ -1,21 +1,20 @@
--- `verify::check_sheet` meets its contract: the table check, then the sheet.
-use mathlib.Core.Path.{sym, ◌∙◌, ap}
-use Rattle.network.specs.Answers.{check_outcome}
+-- `check_sheet` meets its contract: the table check, then the sheet.
+use Rattle.std.proofs.Common.{◌≡◌, ◌∙◌, rules, sym}
+use Rattle.definitions.specs.Network.{Accepted}
+use Rattle.network.specs.Tables.{OfTable}
 use Rattle.verify.proofs.JudgeLaws.{table-refused, table-passed}
 use Rattle.verify.proofs.check_sheet.Goals as goal
 
-pub read_sheet-requires : goal.read_sheet-requires
-read_sheet-requires c = sym c.table_check.ensures ∙ ap check_outcome c.in-Accepted.is
+pub returns-in_err-network : goal.returns-in_err-network
+returns-in_err-network c =
+    let t = c.args.table in
+    let refused = table-refused t.n t.lows.now t.highs.now t.states.now c.args.text.now _ _ (sym c.in_err-network.ensures.answer) in
+    search rules
 
-pub returns-in-Refused : goal.returns-in-Refused
-returns-in-Refused c =
-    let a = c.args in
-    table-refused a.n a.lows.now a.highs.now a.states.now a.text.now _ _
-    (sym c.table_check.ensures ∙ ap check_outcome c.in-Refused.is)
-
-pub returns-in-Accepted : goal.returns-in-Accepted
-returns-in-Accepted c =
-    let a = c.args in
-    c.read_sheet.ensures
-    ∙ table-passed a.n a.lows.now a.highs.now a.states.now a.text.now
-    (sym c.table_check.ensures ∙ ap check_outcome c.in-Accepted.is)
+pub returns : goal.returns
+returns c =
+    let t = c.args.table in
+    let network = c.in_ok-network.network in
+    let same : network.table ≡ t = c.in_ok-network.ensures.same in
+    let good : OfTable Accepted t = rw same at network.accepted in
+    rw same at c.read_sheet.ensures ∙ table-passed t.n t.lows.now t.highs.now t.states.now c.args.text.now good

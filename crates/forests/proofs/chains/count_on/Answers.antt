@@ -1,19 +1,12 @@
 -- The run goes on, or that at `last` is over and goes into the list.
-use native.Mathlib.Omega.{arith}
-use Rattle.forests.proofs.LinkCountLaws.{run-goes-on, run-is-over}
+use mathlib.Core.Path.{refl}
+use Rattle.forests.specs.LinkCounts.{run_on, list_on}
 use Rattle.forests.proofs.chains.count_on.Goals as goal
 
-pub overflow_add-result : goal.overflow_add-result
-overflow_add-result c = omega (arith, c.requires.1)
-
-pub returns-then-r-last : goal.returns-then-r-last
-returns-then-r-last c =
-    let lent = c.args in
-    let both = run-goes-on lent.r.0 lent.last.0 lent.run lent.counts.now c.if-r-last.true in
-    record { value = both.0; counts_left = both.1 }
+pub returns-then-eq : goal.returns-then-eq
+unfolding run_on list_on
+returns-then-eq c = rw (← c.if-eq.ensures) (record { value = refl; counts_left = refl })
 
 pub returns : goal.returns
-returns c =
-    let lent = c.args in
-    let both = run-is-over lent.r.0 lent.last.0 lent.run lent.counts.now (λ e. omega arith) c.count_links.ensures in
-    record { value = both.0; counts_left = both.1 }
+unfolding run_on list_on
+returns c = rw (← c.if-eq.ensures) (record { value = refl; counts_left = c.count_links.ensures })

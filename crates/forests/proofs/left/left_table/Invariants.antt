@@ -1,16 +1,12 @@
 -- After each turn one link more is entered, and one earlier end more put, whatever the states are.
-use Prim.Native.Nat.{ℕ, ◌-◌, ◌≤◌}
+use Prim.Native.Nat.{ℕ}
 use mathlib.Core.List.{List}
-use lib.ListN.{length}
 use Rattle.forests.specs.Left.{LeftInput}
 use Rattle.forests.proofs.LeftTableLaws.{LeftTo, EndsTo}
 use Rattle.forests.proofs.left.left_table.Given as goal
 
 abbrev pub invariant-loop-i : goal.invariant-loop-i
 invariant-loop-i l =
-    (l.i ≤ length l.lows)
-    × ((states : List ℕ) → LeftInput l.n l.k l.lows l.highs states l.places l.initial.forests l.initial.table
-    → LeftTo l.n l.k l.lows l.highs states l.i l.initial.table l.table × EndsTo l.n l.k l.lows l.highs states l.i l.initial.forests l.forests)
-
-abbrev pub decreases-loop-i : goal.decreases-loop-i
-decreases-loop-i l = length l.lows - l.i
+    (states : List ℕ) → LeftInput l.n l.k l.lows l.highs states l.places l.initial.forests l.initial.table
+    → LeftTo l.n l.k l.lows l.highs states l.i l.initial.table l.table
+    × EndsTo l.n l.k l.lows l.highs states l.i l.initial.forests l.forests

@@ -1,44 +1,25 @@
--- After each turn `best` is the highest of that many numbers.
-use Prim.Native.Nat.{max}
-use mathlib.Core.Path.{◌≡◌, refl, sym, ◌∙◌, ap}
-use native.Mathlib.Numerals.{add-one}
-use native.Mathlib.Omega.{arith}
-use lib.ListN.{take, get_or}
+-- The greatest of the numbers by `max`.
+use Rattle.std.proofs.Common.{ℕ, List, [], ◌∷◌, ◌≡◌, ◌∙◌, refl, sym, ap, arith, max}
+use Rattle.std.specs.List.{fold, reduce}
+use Rattle.std.specs.Option.{unwrap_or, option_map}
+use Rattle.std.proofs.lemmas.Iterator.Adapters.{option_map_id}
+use Rattle.std.proofs.lemmas.Iterator.{YieldsList-from_slice}
+use Rattle.std.proofs.lemmas.Iterator.Consumers.{YieldsList-from_copied, max_from_yields_List}
 use Rattle.definitions.specs.Lists.{greatest}
-use Rattle.lists.specs.Greatest.{greatest-next}
 use Rattle.forests.proofs.marks.highest.Goals as goal
 
-pub loop-i-init : goal.loop-i-init
+folded : (best : ℕ) (l : List ℕ) → fold max best l ≡ max best (greatest l)
 unfolding greatest
-loop-i-init c = (omega arith, refl)
+folded best [] = omega arith
+folded best (x ∷ l) = omega (arith, folded (max best x) l)
 
-pub offset_bounds-forests-i : goal.offset_bounds-forests-i
-offset_bounds-forests-i c = omega arith
-
-pub bounds-forests-i : goal.bounds-forests-i
-bounds-forests-i c = omega arith
-
-pub higher-best-requires : goal.higher-best-requires
-higher-best-requires c = tt
-
-pub overflow_add-i : goal.overflow_add-i
-overflow_add-i c = omega arith
-
-pub loop-i-smaller : goal.loop-i-smaller
-loop-i-smaller c = omega arith
-
-pub loop-i-preserved : goal.loop-i-preserved
-loop-i-preserved c =
-    let i = c.loop-i.i in
-    let forests = c.args.forests.now in (
-      omega arith,
-      c.higher-best.ensures
-          ∙ ap (λ b. max b (get_or forests i 0)) c.loop-i.invariant.1
-          ∙ sym (greatest-next forests i (omega arith))
-          ∙ ap (λ j. greatest (take j forests)) (sym (add-one i)),
-    )
+greatest-of : (l : List ℕ) → unwrap_or (reduce max l) 0 ≡ greatest l
+unfolding greatest
+greatest-of [] = refl
+greatest-of (x ∷ l) = folded x l
 
 pub returns : goal.returns
 returns c =
-    let p : c.loop-i.i ≡ c.args.count = omega arith in
-    rw p at c.loop-i.invariant.1
+    let most : option_map (λ (x : ℕ). x) c.max.result ≡ reduce max c.args.forests.now =
+    max_from_yields_List c.copied.result c.max.result c.max.ensures.ran (YieldsList-from_copied (YieldsList-from_slice c.args.forests.now cc)) in
+    c.unwrap_or.ensures ∙ ap (λ o. unwrap_or o 0) (sym (option_map_id c.max.result) ∙ most) ∙ greatest-of c.args.forests.now

@@ -1,9 +1,5 @@
 -- The chains are made and the links between relays in service counted; the relay with the most is the first of the order.
-use Prim.Native.Nat.{ℕ}
-use mathlib.Core.List.{List}
-use mathlib.Core.Path.{◌≡◌}
-use native.Mathlib.Omega.{arith}
-use lib.ListN.{length}
+use Rattle.std.proofs.Common.{ℕ, List, ◌≡◌, arith, length}
 use Rattle.definitions.specs.Network.{Accepted}
 use Rattle.theory.specs.Accepted.{accepted, accepted-states}
 use Rattle.forests.proofs.IdleLinkLaws.{counted-beyond}
@@ -27,39 +23,44 @@ all-links n lows highs states counts' ok arrays long all =
 
 pub link_up-requires : goal.link_up-requires
 link_up-requires c =
-    let p = c.requires in
-    (chain-ready c.args.states.now p.1 p.2, p.2.count_room, p.2.no_counts)
+    let arrays = c.requires in
+    (chain-ready c.args.network.table.states.now c.args.network.accepted arrays, arrays.count_room, arrays.no_counts)
+
+pub serving-turns-requires : goal.serving-turns-requires
+serving-turns-requires c =
+    let t = c.args.network.table in
+    ((accepted t.n t.lows.now t.highs.now t.states.now c.args.network.accepted).few, accepted-states t.n t.lows.now t.highs.now t.states.now c.args.network.accepted)
 
 pub count_serving-requires : goal.count_serving-requires
 count_serving-requires c =
-    let a = c.args in
-    let p = c.requires in (
-      p.0,
-      all-links a.n a.lows.now a.highs.now a.states.now c.link_up.new.counts p.1 p.2 (omega (arith, c.link_up.auto))
-          c.link_up.ensures.counted_from,
+    let t = c.args.network.table in (
+      c.serving-turns.ensures,
+      all-links t.n t.lows.now t.highs.now t.states.now c.link_up.new.counts c.args.network.accepted c.requires
+          (omega (arith, c.link_up.auto)) c.link_up.ensures.counted_from,
     )
 
-pub busiest-requires : goal.busiest-requires
-busiest-requires c =
-    let a = c.args in
-    let p = c.requires in
-    let all = all-links a.n a.lows.now a.highs.now a.states.now c.link_up.new.counts p.1 p.2 (omega (arith, c.link_up.auto))
-    c.link_up.ensures.counted_from in
+pub busiest-relay-requires : goal.busiest-relay-requires
+busiest-relay-requires c =
+    let t = c.args.network.table in
+    let all = all-links t.n t.lows.now t.highs.now t.states.now c.link_up.new.counts c.args.network.accepted c.requires
+    (omega (arith, c.link_up.auto)) c.link_up.ensures.counted_from in
     (all.proper.few, omega (arith, all.room, c.count_serving.auto), omega (arith, all.stated.long))
 
 pub returns : goal.returns
 returns c =
-    let a = c.args in
-    let p = c.requires in
+    let t = c.args.network.table in
     let counts = c.count_serving.new.counts in
-    let all = all-links a.n a.lows.now a.highs.now a.states.now c.link_up.new.counts p.1 p.2 (omega (arith, c.link_up.auto))
-    c.link_up.ensures.counted_from in
+    let all = all-links t.n t.lows.now t.highs.now t.states.now c.link_up.new.counts c.args.network.accepted c.requires
+    (omega (arith, c.link_up.auto)) c.link_up.ensures.counted_from in
     record {
-      chained = c.link_up.ensures.chained_from;
-      counted = c.count_serving.ensures;
-      none_beyond =
-          counted-beyond a.lows.now a.highs.now a.states.now a.n c.link_up.new.counts counts all c.count_serving.ensures;
-      starts =
-          busiest-first a.n a.lows.now a.highs.now a.states.now counts c.busiest.result.0
-          c.count_serving.ensures c.busiest.ensures;
+      turned = c.serving-turns.ensures;
+      made = record {
+        chained = c.link_up.ensures.chained_from;
+        counted = c.count_serving.ensures;
+        none_beyond =
+            counted-beyond t.lows.now t.highs.now t.states.now t.n c.link_up.new.counts counts all c.count_serving.ensures;
+        starts =
+            busiest-first t.n t.lows.now t.highs.now t.states.now counts c.busiest-relay.result.0
+            c.count_serving.ensures c.busiest-relay.ensures;
+      };
     }

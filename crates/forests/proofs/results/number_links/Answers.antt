@@ -1,14 +1,8 @@
 -- The scan with lists of its own for the order.
-use Rattle.forests.proofs.SizeLaws.{relay-room}
+use Rattle.theory.specs.Accepted.{accepted}
 use Rattle.forests.proofs.results.number_links.Goals as goal
 
-pub scan-requires-else-n-le-FEW_RELAYS : goal.scan-requires-else-n-le-FEW_RELAYS
-scan-requires-else-n-le-FEW_RELAYS c =
-    let relays = c.relay_copies-relays in
-    let places = c.relay_copies-places in
-    record {
-      accepted = c.requires.0;
-      relay_room = relay-room c.args.n c.args.lows.now c.args.highs.now c.args.states.now relays.result c.requires.0 relays.ensures;
-      place_room = relay-room c.args.n c.args.lows.now c.args.highs.now c.args.states.now places.result c.requires.0 places.ensures;
-      forest_room = c.requires.1;
-    }
+pub scan-requires-else-network-le-FEW_RELAYS : goal.scan-requires-else-network-le-FEW_RELAYS
+scan-requires-else-network-le-FEW_RELAYS c =
+    let few = (accepted _ _ _ _ c.args.network.accepted).few in
+    (few, few, c.requires)

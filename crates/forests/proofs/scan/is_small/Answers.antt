@@ -1,10 +1,13 @@
--- Where the number of relays passes, the number of links decides.
-use native.Mathlib.Omega.{arith}
-use Rattle.forests.proofs.SizeLaws.{few-relays, many-relays}
+-- The two tests are those of the definition.
+use Rattle.std.proofs.Common.{le-leb}
+use Rattle.std.proofs.lemmas.Bool.{lt-leb}
+use Rattle.forests.specs.Scan.{is_small}
 use Rattle.forests.proofs.scan.is_small.Goals as goal
 
-pub returns-then-n-le-FEW_RELAYS : goal.returns-then-n-le-FEW_RELAYS
-returns-then-n-le-FEW_RELAYS c = let a = c.args in few-relays a.n a.m c.if-n-le-FEW_RELAYS.true
+pub returns-then-table-le-FEW_RELAYS : goal.returns-then-table-le-FEW_RELAYS
+unfolding is_small
+returns-then-table-le-FEW_RELAYS c = simp (le-leb _ _ c.if-table-le-FEW_RELAYS.true)
 
-pub returns-else-n-le-FEW_RELAYS : goal.returns-else-n-le-FEW_RELAYS
-returns-else-n-le-FEW_RELAYS c = let a = c.args in many-relays a.n a.m (omega arith)
+pub returns-else-table-le-FEW_RELAYS : goal.returns-else-table-le-FEW_RELAYS
+unfolding is_small
+returns-else-table-le-FEW_RELAYS c = simp (lt-leb _ _ c.if-table-le-FEW_RELAYS.false)

@@ -1,13 +1,17 @@
 -- The scan in arrays of one of three sizes.
+use Rattle.std.proofs.Common.{arith}
+use Rattle.theory.specs.Accepted.{accepted}
 use Rattle.forests.proofs.SizeLaws.{small-sizes}
 use Rattle.forests.proofs.scan.scan.Goals as goal
 
-pub scan_tiny-requires : goal.scan_tiny-requires
-scan_tiny-requires c =
-    let tiny = c.is_tiny.ensures c.if-is_tiny.true in
-    (c.requires, tiny.0, tiny.1)
-
-pub scan_small-requires : goal.scan_small-requires
-scan_small-requires c =
+pub scan_sized-requires-then-is_small-clause-fits :
+    goal.scan_sized-requires-then-is_small-clause-fits
+scan_sized-requires-then-is_small-clause-fits c =
     let small = small-sizes _ _ c.is_small.ensures c.if-is_small.true in
-    (c.requires, small.0, small.1)
+    (small.0, omega arith)
+
+pub scan_sized-requires-else-is_small-clause-fits :
+    goal.scan_sized-requires-else-is_small-clause-fits
+scan_sized-requires-else-is_small-clause-fits c =
+    let table = accepted _ _ _ _ c.args.network.accepted in
+    (table.few, omega (arith, table.short))

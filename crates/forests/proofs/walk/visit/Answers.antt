@@ -17,4 +17,4 @@ pub returns : goal.returns
 unfolding across
 returns c =
     let far = c.far_end in
-    visit-done far.result.0 far.ensures (c.raise-count.ensures.value, c.raise-count.ensures.moved) c.number.ensures c.wide.ensures
+    visit-done far.result.0 far.ensures (c.raise-count.ensures.value, c.raise-count.ensures.moved) c.number.ensures c.from.ensures

@@ -10,25 +10,9 @@ pub leave-count-requires : goal.leave-count-requires
 leave-count-requires c =
     let p = c.requires in (omega (arith, p.relay, p.count_room), p.sorted)
 
-pub overflow_cast-at : goal.overflow_cast-at
-overflow_cast-at c = omega arith
-
-pub overflow_mul-end : goal.overflow_mul-end
-overflow_mul-end c = omega arith
-
-pub offset_bounds-first-at : goal.offset_bounds-first-at
-offset_bounds-first-at c = omega arith
-
-pub bounds-first-at : goal.bounds-first-at
-bounds-first-at c =
-    c.requires.relay
-
-pub wide-h-requires : goal.wide-h-requires
-wide-h-requires c = tt
-
 pub loop-h-init : goal.loop-h-init
 loop-h-init c =
-    (walk-starts c.requires c.leave-count.ensures.moved c.wide-h.result c.wide-h.ensures, omega arith)
+    (walk-starts c.requires c.leave-count.ensures.moved c.from-h.result (rw c.from.ensures at c.from-h.ensures), omega arith)
 
 pub visit-h-requires : goal.visit-h-requires
 visit-h-requires c =

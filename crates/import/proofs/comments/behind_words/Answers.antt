@@ -1,6 +1,6 @@
--- `import::comments::behind_words` meets its contract. The loop: the whole search is that of the bytes left, from the offset reached.
+-- `import::comments::behind_words` meets its contract: a line end is found, or the text has none.
 use Prim.Native.Nat.{suc, ◌+◌, ◌-◌}
-use mathlib.Core.Path.{◌≡◌, refl, sym, ◌∙◌, ap}
+use mathlib.Core.Path.{◌≡◌, sym, ◌∙◌, ap}
 use native.Mathlib.Omega.{arith}
 use lib.ListN.{length}
 use Rattle.definitions.specs.Form.{byte_at}
@@ -8,23 +8,11 @@ use Rattle.definitions.specs.Dimacs.{behind_words}
 use Rattle.import.proofs.CommentLaws.{words-stop, words-end, words_step}
 use Rattle.import.proofs.comments.behind_words.Goals as goal
 
-pub loop-p-init : goal.loop-p-init
-loop-p-init c = refl
-
-pub bounds-text-p : goal.bounds-text-p
-bounds-text-p c = omega arith
-
 pub returns-then-text-p-eq10 : goal.returns-then-text-p-eq10
 unfolding byte_at
 returns-then-text-p-eq10 c =
     let text = c.args.text.now in
     sym (c.loop-p.invariant ∙ words-stop text c.loop-p.p (length text - c.loop-p.p) c.if-text-p-eq10.true)
-
-pub overflow_add-p : goal.overflow_add-p
-overflow_add-p c = omega arith
-
-pub loop-p-smaller : goal.loop-p-smaller
-loop-p-smaller c = omega arith
 
 pub loop-p-preserved : goal.loop-p-preserved
 unfolding byte_at
@@ -37,4 +25,5 @@ loop-p-preserved c =
 pub returns : goal.returns
 returns c =
     let text = c.args.text.now in
-    sym (c.loop-p.invariant ∙ words-end text c.loop-p.p (length text - c.loop-p.p) (omega arith))
+    let end : c.loop-p.p ≡ length text = omega arith in
+    sym (c.loop-p.invariant ∙ words-end text c.loop-p.p (length text - c.loop-p.p) (omega arith) ∙ end)

@@ -1,4 +1,4 @@
--- `import::comments::behind_words` meets its contract. The loop: the whole search is that of the bytes left, from the offset reached.
+-- The loop of `import::comments::behind_words`: the whole search is that of the bytes left, from the offset reached.
 use Prim.Native.Nat.{◌-◌}
 use mathlib.Core.Path.{◌≡◌}
 use lib.ListN.{length}
@@ -7,6 +7,3 @@ use Rattle.import.proofs.comments.behind_words.Given as goal
 
 abbrev pub invariant-loop-p : goal.invariant-loop-p
 invariant-loop-p l = behind_words l.text l.at (length l.text - l.at) ≡ behind_words l.text l.p (length l.text - l.p)
-
-abbrev pub decreases-loop-p : goal.decreases-loop-p
-decreases-loop-p l = length l.text - l.p

@@ -1,11 +1,11 @@
--- `import::comments::comments` meets its contract. The loop: the whole reading is that of the comment lines left, from the offset reached.
-use mathlib.Core.Path.{◌≡◌}
+-- The loop of `import::comments::comments`: the whole reading is that of the comment lines from the offset reached; each leads on.
+use Prim.Native.Nat.{◌-◌}
 use lib.ListN.{length}
-use Rattle.definitions.specs.Dimacs.{scan_comments}
+use Rattle.import.proofs.CommentLaws.{CommentsFrom}
 use Rattle.import.proofs.comments.comments.Given as goal
 
-abbrev pub invariant-loop-left : goal.invariant-loop-left
-invariant-loop-left l = scan_comments l.text l.at (length l.text) ≡ scan_comments l.text l.p l.left
+abbrev pub invariant-loop-p : goal.invariant-loop-p
+invariant-loop-p l = CommentsFrom l.text l.at l.p
 
-abbrev pub decreases-loop-left : goal.decreases-loop-left
-decreases-loop-left l = l.left
+abbrev pub decreases-loop-p : goal.decreases-loop-p
+decreases-loop-p l = length l.text - l.p

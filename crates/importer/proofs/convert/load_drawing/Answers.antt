@@ -1,8 +1,34 @@
--- `importer::convert::load_drawing` meets its contract: the import refuses, or leaves an accepted network in the front of the lists.
-use Rattle.importer.proofs.ConvertLaws.{import-loads}
+-- It refuses, or leaves an accepted network in the front of the lists.
+use Rattle.std.proofs.Common.{rules, sym, ◌∙◌, ap}
+use Rattle.definitions.specs.Outcome.{done}
+use Rattle.definitions.specs.Dimacs.{import_network}
+use Rattle.program.specs.ReadStage.{Rooms, FrontTable, table-front}
+use Rattle.importer.proofs.ConvertLaws.{import-refused, import-table}
 use Rattle.importer.proofs.convert.load_drawing.Goals as goal
+
+pub returns-in_err-size : goal.returns-in_err-size
+returns-in_err-size c =
+    let own = c.args.rooms.now in
+    let rooms : Rooms own.lows own.highs own.states = record { in_lows = search rules; in_highs = search rules; in_states = search rules } in
+    let told = import-refused c.args.input.now own.lows own.highs own.states c.in_err-size.field-0.0 rooms c.in_err-size.ensures.answer in
+    search rules
+
+pub network-requires : goal.network-requires
+network-requires c =
+    let left : FrontTable (import_network c.args.input.now 3000 3000 1000) c.in_ok-size.size.relays c.in_ok-size.size.links
+    c.import.new.lows c.import.new.highs c.import.new.states =
+    let own = c.args.rooms.now in
+    let rooms : Rooms own.lows own.highs own.states = record { in_lows = search rules; in_highs = search rules; in_states = search rules } in
+    let read = c.in_ok-size.ensures in
+    import-table c.args.input.now own.lows own.highs own.states _ _ _ _ _ rooms read.answer read.low_list read.high_list read.state_list in
+    table-front _ _ _ _ _ _ left
 
 pub returns : goal.returns
 returns c =
-    let r = c.import.ensures in
-    import-loads c.args.input.now _ _ _ _ _ _ _ c.requires.0 c.requires.1 c.requires.2 (r.answer, (r.low_list, (r.high_list, r.state_list)))
+    let left : FrontTable (import_network c.args.input.now 3000 3000 1000) c.in_ok-size.size.relays c.in_ok-size.size.links
+    c.import.new.lows c.import.new.highs c.import.new.states =
+    let own = c.args.rooms.now in
+    let rooms : Rooms own.lows own.highs own.states = record { in_lows = search rules; in_highs = search rules; in_states = search rules } in
+    let read = c.in_ok-size.ensures in
+    import-table c.args.input.now own.lows own.highs own.states _ _ _ _ _ rooms read.answer read.low_list read.high_list read.state_list in
+    ap done c.network.ensures ∙ sym left.read

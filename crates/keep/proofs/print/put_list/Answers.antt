@@ -5,41 +5,37 @@ use Rattle.text.specs.Put.{put-append}
 use Rattle.keep.specs.Lines.{list_lines, list-lengths}
 use Rattle.keep.proofs.print.put_list.Goals as goal
 
-pub idle_links-idle-requires : goal.idle_links-idle-requires
-idle_links-idle-requires c =
-    (c.requires.lows_in_bounds.0, c.requires.lows_in_bounds.2)
-
 pub overflow_sub-dropped : goal.overflow_sub-dropped
 overflow_sub-dropped c =
-    omega (arith, c.requires.states_in_bounds)
+    omega (arith, c.requires.kept_in_bounds)
 
 pub overflow_sub-dropped-2 : goal.overflow_sub-dropped-2
 overflow_sub-dropped-2 c =
-    omega (arith, c.requires.states_in_bounds, c.idle_links-idle.ensures)
+    omega (arith, c.requires.kept_in_bounds, c.idle_links-idle.ensures)
 
 pub put_single-p-requires : goal.put_single-p-requires
 put_single-p-requires c =
     let a = c.args in
-    let whole = list-lengths a.k a.lows.now a.highs.now a.states.now a.marks.now a.kept _ c.idle_links-idle.ensures in
-    omega (arith, c.requires.kept_in_bounds)
+    let whole = list-lengths a.k a.network.table.lows.now a.network.table.highs.now a.network.table.states.now a.marks.now a.kept _ c.idle_links-idle.ensures in
+    omega (arith, c.requires.output_in_bounds)
 
 pub put_links-q-requires : goal.put_links-q-requires
 put_links-q-requires c =
     let a = c.args in
-    let whole = list-lengths a.k a.lows.now a.highs.now a.states.now a.marks.now a.kept _ c.idle_links-idle.ensures in
+    let whole = list-lengths a.k a.network.table.lows.now a.network.table.highs.now a.network.table.states.now a.marks.now a.kept _ c.idle_links-idle.ensures in
     let one = c.put_single-p.ensures in
     record {
-      lows_in_bounds = c.requires.lows_in_bounds;
-      lows_in_bounds_2 = omega (arith, c.requires.kept_in_bounds, one.ends, one.same);
+      marks_in_bounds = c.requires.marks_in_bounds;
+      output_in_bounds = omega (arith, c.requires.output_in_bounds, one.ends, one.same);
     }
 
 pub put_counts-requires : goal.put_counts-requires
 put_counts-requires c =
     let a = c.args in
-    let whole = list-lengths a.k a.lows.now a.highs.now a.states.now a.marks.now a.kept _ c.idle_links-idle.ensures in
+    let whole = list-lengths a.k a.network.table.lows.now a.network.table.highs.now a.network.table.states.now a.marks.now a.kept _ c.idle_links-idle.ensures in
     let one = c.put_single-p.ensures in
     let two = c.put_links-q.ensures in
-    omega (arith, c.requires.kept_in_bounds, one.ends, one.same, two.ends, two.same)
+    omega (arith, c.requires.output_in_bounds, one.ends, one.same, two.ends, two.same)
 
 pub returns : goal.returns
 unfolding list_lines lease_form

@@ -1,23 +1,21 @@
--- `nolkisei::link_reports::nolkisei_stands` meets its contract: which text stands is reported with its length.
-use mathlib.Core.Path.{sym, ap, ◌∙◌}
+-- `nolkisei_stands` meets its contract: which text stands is reported with its length.
+use Rattle.std.proofs.Common.{sym, ap, ◌∙◌}
 use Rattle.definitions.specs.Stands.{first, second, text_of_which, which_number}
-use Rattle.stands.specs.Standing.{which_outcome, stands-answer, stands-refused}
+use Rattle.stands.specs.Standing.{stands-answer, stands-refused}
 use Rattle.nolkisei.specs.Reported.{reported}
 use Rattle.nolkisei.proofs.link_reports.nolkisei_stands.Goals as goal
 
-pub returns-in-First : goal.returns-in-First
+pub returns-in-Ok-First : goal.returns-in-Ok-First
 unfolding text_of_which which_number
-returns-in-First c =
-    let said = c.which_stands.ensures in
-    ap reported (stands-answer _ _ first (sym said ∙ ap which_outcome c.in-First.is)) ∙ c.give.ensures
+returns-in-Ok-First c =
+    let told = rw c.in-Ok-First.field-0-is at c.in-Ok-First.ensures in
+    ap reported (stands-answer _ _ first (sym told)) ∙ c.give.ensures
 
-pub returns-in-Second : goal.returns-in-Second
+pub returns-in-Ok-Second : goal.returns-in-Ok-Second
 unfolding text_of_which which_number
-returns-in-Second c =
-    let said = c.which_stands.ensures in
-    ap reported (stands-answer _ _ second (sym said ∙ ap which_outcome c.in-Second.is)) ∙ c.give-in-Second.ensures
+returns-in-Ok-Second c =
+    let told = rw c.in-Ok-Second.field-0-is at c.in-Ok-Second.ensures in
+    ap reported (stands-answer _ _ second (sym told)) ∙ c.give-in-Ok-Second.ensures
 
-pub returns-in-Refused : goal.returns-in-Refused
-returns-in-Refused c =
-    let said = c.which_stands.ensures in
-    ap reported (stands-refused _ _ c.in-Refused.refusal (sym said ∙ ap which_outcome c.in-Refused.is)) ∙ c.refuse.ensures
+pub returns-in-Err : goal.returns-in-Err
+returns-in-Err c = ap reported (stands-refused _ _ c.in-Err.refusal (sym c.in-Err.ensures)) ∙ c.refuse.ensures

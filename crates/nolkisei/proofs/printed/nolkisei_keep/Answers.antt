@@ -1,10 +1,7 @@
--- `nolkisei::printed::nolkisei_keep` meets its contract: the list's answer is reported, and the output is as it leaves it.
-use mathlib.Core.Path.{sym, ap, ◌∙◌}
-use Rattle.program.specs.Into.{print_outcome}
+-- `nolkisei_keep` meets its contract: the answer is reported, and the output is as the list of links leaves it.
+use Rattle.std.proofs.Common.{sym, ◌∙◌}
 use Rattle.nolkisei.specs.Reported.{reported-one}
 use Rattle.nolkisei.proofs.printed.nolkisei_keep.Goals as goal
 
-pub returns-in-Printed-clause-answer : goal.returns-in-Printed-clause-answer
-returns-in-Printed-clause-answer c =
-    let said = c.keep_into.ensures in
-    reported-one _ _ (sym said.answer ∙ ap print_outcome c.in-Printed.is) ∙ c.give.ensures
+pub returns-in-Ok-clause-answer : goal.returns-in-Ok-clause-answer
+returns-in-Ok-clause-answer c = reported-one _ _ (sym c.in-Ok.ensures.answer) ∙ c.give.ensures

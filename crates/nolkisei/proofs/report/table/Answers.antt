@@ -1,11 +1,12 @@
--- `nolkisei::report::table` meets its contract: each answer is reported as what it stands for.
-use mathlib.Core.Path.{ap, ◌∙◌}
+-- `table` meets its contract: each answer is reported as what it stands for.
+use Rattle.std.proofs.Common.{ap, ◌∙◌}
 use Rattle.text.specs.Answers.{read_outcome}
 use Rattle.nolkisei.specs.Reported.{reported}
 use Rattle.nolkisei.proofs.report.table.Goals as goal
 
-pub returns-in-Table : goal.returns-in-Table
-returns-in-Table c = ap reported (ap read_outcome c.in-Table.is) ∙ c.give.ensures
+pub returns-in-Ok : goal.returns-in-Ok
+returns-in-Ok c =
+    ap reported (ap read_outcome c.in-Ok.is) ∙ (rw (c.from.ensures, c.from-in-Ok.ensures) at c.give.ensures)
 
-pub returns-in-Refused : goal.returns-in-Refused
-returns-in-Refused c = ap reported (ap read_outcome c.in-Refused.is) ∙ c.refuse.ensures
+pub returns-in-Err : goal.returns-in-Err
+returns-in-Err c = ap reported (ap read_outcome c.in-Err.is) ∙ c.refuse.ensures

@@ -1,6 +1,5 @@
 -- `plan::print::put_line` meets its contract: a word, the numbers, and a word.
 use native.Mathlib.Omega.{arith}
-use lib.Seq.{slice}
 use Rattle.definitions.specs.Plan.{numbers_line}
 use Rattle.text.specs.Put.{put-append}
 use Rattle.plan.specs.SheetLines.{line-length}
@@ -9,30 +8,20 @@ use Rattle.plan.proofs.print.put_line.Goals as goal
 pub put_word-p-requires : goal.put_word-p-requires
 put_word-p-requires c =
     let a = c.args in
-    omega (arith, line-length a.name.now (slice a.first a.last a.list.now), c.requires.list_in_bounds)
+    omega (arith, line-length a.name.now a.numbers.now, c.requires)
 
 pub put_numbers-q-requires : goal.put_numbers-q-requires
 put_numbers-q-requires c =
     let a = c.args in
-    let one = c.put_word-p.ensures in record {
-      first_le_last = c.requires.first_le_last;
-      list_in_bounds = omega (arith, line-length a.name.now (slice a.first a.last a.list.now), c.requires.list_in_bounds, one.ends, one.same);
-    }
+    let one = c.put_word-p.ensures in
+    omega (arith, line-length a.name.now a.numbers.now, c.requires, one.ends, one.same)
 
 pub put_word-requires : goal.put_word-requires
 put_word-requires c =
     let a = c.args in
     let one = c.put_word-p.ensures in
     let two = c.put_numbers-q.ensures in
-    omega (
-      arith,
-      line-length a.name.now (slice a.first a.last a.list.now),
-      c.requires.list_in_bounds,
-      one.ends,
-      one.same,
-      two.ends,
-      two.same,
-    )
+    omega (arith, line-length a.name.now a.numbers.now, c.requires, one.ends, one.same, two.ends, two.same)
 
 pub returns : goal.returns
 unfolding numbers_line

@@ -1,9 +1,7 @@
 -- `plan::wish::wish_line` meets its contract: a line of two numbers, and a third with the line end.
-use mathlib.Core.List.{[], ◌∷◌}
-use mathlib.Core.Path.{refl, sym, ◌∙◌, ap}
+use Rattle.std.proofs.Common.{rules, [], ◌∷◌, refl, sym, ◌∙◌, ap}
 use Rattle.definitions.specs.Form.{with_front}
 use Rattle.text_theory.specs.Forms.{no_zero}
-use Rattle.text.specs.Scans.{number_gives, pair_gives}
 use Rattle.plan.specs.Wish.{wish-departs, wish-reads}
 use Rattle.plan.proofs.wish.wish_line.Goals as goal
 
@@ -15,23 +13,22 @@ pub number_word-requires : goal.number_word-requires
 unfolding no_zero
 number_word-requires c = refl
 
-pub returns-in-Departs : goal.returns-in-Departs
-returns-in-Departs c =
-    let a = c.args in
-    sym (wish-departs a.input.now _ (sym c.pair_line.ensures ∙ ap pair_gives c.in-Departs.is))
+pub returns-in_err-from : goal.returns-in_err-from
+returns-in_err-from c =
+    let departed = wish-departs c.args.input.now _ (sym c.in_err-from.ensures) in
+    search rules
 
-pub returns-in-Departs-number_word : goal.returns-in-Departs-number_word
+pub returns-in_err-k : goal.returns-in_err-k
 unfolding with_front
-returns-in-Departs-number_word c =
-    let a = c.args in
-    sym
-    (wish-reads a.input.now _ _ (sym c.pair_line.ensures ∙ ap pair_gives c.in-Reads.is)
-    ∙ ap (with_front (c.in-Reads.from ∷ c.in-Reads.to ∷ [])) (sym c.number_word.ensures ∙ ap number_gives c.in-Departs-number_word.is))
+returns-in_err-k c =
+    let departed =
+    wish-reads c.args.input.now _ _ (sym c.in_ok-from.ensures)
+    ∙ ap (with_front (c.in_ok-from.from ∷ c.in_ok-from.to ∷ [])) (sym c.in_err-k.ensures) in
+    search rules
 
-pub returns-in-Reads-number_word : goal.returns-in-Reads-number_word
+pub returns : goal.returns
 unfolding with_front
-returns-in-Reads-number_word c =
-    let a = c.args in
+returns c =
     sym
-    (wish-reads a.input.now _ _ (sym c.pair_line.ensures ∙ ap pair_gives c.in-Reads.is)
-    ∙ ap (with_front (c.in-Reads.from ∷ c.in-Reads.to ∷ [])) (sym c.number_word.ensures ∙ ap number_gives c.in-Reads-number_word.is))
+    (wish-reads c.args.input.now _ _ (sym c.in_ok-from.ensures)
+    ∙ ap (with_front (c.in_ok-from.from ∷ c.in_ok-from.to ∷ [])) (sym c.in_ok-k.ensures))

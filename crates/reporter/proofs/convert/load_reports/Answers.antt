@@ -1,8 +1,34 @@
--- `reporter::convert::load_reports` meets its contract: the set is refused, or leaves an accepted network in the front of the lists.
-use Rattle.reporter.proofs.ConvertLaws.{reports-loads}
+-- It refuses, or leaves an accepted network in the front of the lists.
+use Rattle.std.proofs.Common.{rules, sym, ◌∙◌, ap}
+use Rattle.definitions.specs.Outcome.{done}
+use Rattle.definitions.specs.ReportSets.{reports_network}
+use Rattle.program.specs.ReadStage.{Rooms, FrontTable, table-front}
+use Rattle.reporter.proofs.ConvertLaws.{reports-refused, reports-table}
 use Rattle.reporter.proofs.convert.load_reports.Goals as goal
+
+pub returns-in_err-size : goal.returns-in_err-size
+returns-in_err-size c =
+    let own = c.args.rooms.now in
+    let rooms : Rooms own.lows own.highs own.states = record { in_lows = search rules; in_highs = search rules; in_states = search rules } in
+    let told = reports-refused c.args.n c.args.text.now own.lows own.highs own.states c.in_err-size.field-0.0 rooms c.in_err-size.ensures.answer in
+    search rules
+
+pub network-requires : goal.network-requires
+network-requires c =
+    let left : FrontTable (reports_network c.args.n c.args.text.now 3000 3000 1000) c.in_ok-size.size.relays c.in_ok-size.size.links
+    c.reports.new.lows c.reports.new.highs c.reports.new.states =
+    let own = c.args.rooms.now in
+    let rooms : Rooms own.lows own.highs own.states = record { in_lows = search rules; in_highs = search rules; in_states = search rules } in
+    let read = c.in_ok-size.ensures in
+    reports-table c.args.n c.args.text.now own.lows own.highs own.states _ _ _ _ _ rooms read.answer read.low_list read.high_list read.state_list in
+    table-front _ _ _ _ _ _ left
 
 pub returns : goal.returns
 returns c =
-    let r = c.reports.ensures in
-    reports-loads _ c.args.text.now _ _ _ _ _ _ _ c.requires.0 c.requires.1 c.requires.2 (r.answer, (r.low_list, (r.high_list, r.state_list)))
+    let left : FrontTable (reports_network c.args.n c.args.text.now 3000 3000 1000) c.in_ok-size.size.relays c.in_ok-size.size.links
+    c.reports.new.lows c.reports.new.highs c.reports.new.states =
+    let own = c.args.rooms.now in
+    let rooms : Rooms own.lows own.highs own.states = record { in_lows = search rules; in_highs = search rules; in_states = search rules } in
+    let read = c.in_ok-size.ensures in
+    reports-table c.args.n c.args.text.now own.lows own.highs own.states _ _ _ _ _ rooms read.answer read.low_list read.high_list read.state_list in
+    ap done c.network.ensures ∙ sym left.read

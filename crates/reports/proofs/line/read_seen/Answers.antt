@@ -1,74 +1,69 @@
--- `reports::line::read_seen` meets its contract. The loop: those read so far are good, and the next is to be at least `least`.
-use Prim.Native.Nat.{ℕ, ◌+◌, ◌<◌}
-use mathlib.Core.List.{List}
-use mathlib.Core.Logic.{inl, inr}
-use mathlib.Core.Path.{◌≡◌, sym, ◌∙◌, ap}
+-- `reports::line::read_seen` meets its contract: a number departs or is bad, or those seen end.
+use mathlib.Core.Logic.{◌⊎◌, inl, inr}
+use mathlib.Core.Path.{◌≡◌, sym, ◌∙◌}
+use Prim.Native.Nat.{◌<◌}
 use native.Mathlib.Omega.{arith}
-use Rattle.definitions.specs.Form.{byte_at, scan_number}
+use Rattle.definitions.specs.Form.{byte_at}
 use Rattle.text_theory.specs.Numbers.{byte-within}
-use Rattle.text_theory.specs.SeenTurns.{seen-ends, seen-runs-out}
 use Rattle.text.specs.Scans.{number_gives}
-use Rattle.text.specs.declared.scan.NumberScan.{NumberScan}
-use Rattle.text.specs.declared.scan.NumberScan.TheVariants as numbers
-use Rattle.reports.proofs.LineLaws.{SeenLoop, loop-start, loop-ends, loop-over, loop-departs, SeenNumber, turn-bad, turn-good}
+use Rattle.reports.proofs.LineLaws.{read-so, departed-so, loop-start, loop-ends, loop-departs, SeenNumber, leads, turn-bad, turn-below, turn-above}
 use Rattle.reports.proofs.line.read_seen.Goals as goal
+use Rattle.reports.proofs.line.read_seen.Goals.{then-x-least-via-then-x-least, then-x-least-via-else-x-least+then-x-relay, then-x-least-via-else-x-least+else-x-relay+then-x-gt-HIGHEST_RELAY, then-x-relay-2, else-x-relay-2}
 
-pub loop-left-init : goal.loop-left-init
-loop-left-init c =
-    let a = c.args in
-    loop-start a.text.now a.relay a.at
-
-pub returns-then-byte-ne32 : goal.returns-then-byte-ne32
-returns-then-byte-ne32 c =
-    let inv = c.loop-left.invariant in
-    let other : byte_at c.args.text.now c.loop-left.p ≡ 32 → ⊥ = λ e. c.if-byte-ne32.true (c.byte.ensures ∙ e) in
-    loop-ends inv other (seen-ends _ _ _ _ _ _ _ inv.good other)
+pub loop-relay-init : goal.loop-relay-init
+loop-relay-init c = loop-start _ _ _
 
 pub overflow_add-p : goal.overflow_add-p
 overflow_add-p c =
-    let space : byte_at c.args.text.now c.loop-left.p ≡ 32 =
-    sym c.byte.ensures ∙ c.if-byte-ne32.false in
-    omega (arith, byte-within c.args.text.now c.loop-left.p (omega (arith, space)))
+    let text = c.args.text.now in
+    let p = c.loop-relay.p in
+    let space : byte_at text p ≡ 32 = sym c.byte.ensures ∙ c.loop-relay-test.true in
+    omega (arith, byte-within text p (omega (arith, space)))
 
-pub returns-in-Departs : goal.returns-in-Departs
-returns-in-Departs c =
-    let space : byte_at c.args.text.now c.loop-left.p ≡ 32 =
-    sym c.byte.ensures ∙ c.if-byte-ne32.false in
-    loop-departs c.loop-left.invariant space c.loop-left-test.true
-    (sym c.number.ensures ∙ ap number_gives c.in-Departs.is)
-
--- A number was read: what is known of it in this turn.
-turn : {text : List ℕ} {relay t p left least above x q byte : ℕ} {r : NumberScan} → SeenLoop text relay t p left least above
-    → byte ≡ byte_at text p → byte ≡ 32 → 0 < left → number_gives r ≡ scan_number text (p + 1) → r ≡ numbers.Reads x q
-    → SeenNumber text relay t p left least above x q
-turn inv told space some number is =
-    record { inv = inv; space = sym told ∙ space; some = some; number = sym number ∙ ap number_gives is }
+pub returns-in_err-x : goal.returns-in_err-x
+returns-in_err-x c =
+    let departed = departed-so number_gives c.number.result c.number.ensures c.in_err-x.ensures.value in
+    rw c.from_residual.ensures
+    (loop-departs c.loop-relay.invariant (sym c.byte.ensures ∙ c.loop-relay-test.true) departed.1)
 
 pub returns-then-x-least : goal.returns-then-x-least
 returns-then-x-least c =
-    turn-bad
-    (turn c.loop-left.invariant c.byte.ensures c.if-byte-ne32.false c.loop-left-test.true c.number.ensures c.in-Reads.is)
-    (inl c.if-x-least.true)
+    let turn : SeenNumber c.args.text.now c.args.relay c.args.at c.loop-relay.p c.loop-relay.least c.loop-relay.above c.in_ok-x.x c.in_ok-x.q =
+    record {
+      inv = c.loop-relay.invariant;
+      space = sym c.byte.ensures ∙ c.loop-relay-test.true;
+      number = read-so number_gives c.number.result c.number.ensures _ c.in_ok-x.ensures.value;
+    } in
+    let fault : (c.in_ok-x.x < c.loop-relay.least) ⊎ ((c.in_ok-x.x ≡ c.args.relay) ⊎ (999 < c.in_ok-x.x)) = elim c.then-x-least.branch [
+      | then-x-least-via-then-x-least w ↦ inl w.if-x-least.true
+      | then-x-least-via-else-x-least+then-x-relay w ↦ inr (inl w.if-x-relay.true)
+      | then-x-least-via-else-x-least+else-x-relay+then-x-gt-HIGHEST_RELAY w ↦ inr (inr w.if-x-gt-HIGHEST_RELAY.true)
+    ] in
+    turn-bad turn fault
 
-pub returns-then-x-relay : goal.returns-then-x-relay
-returns-then-x-relay c =
-    turn-bad
-    (turn c.loop-left.invariant c.byte.ensures c.if-byte-ne32.false c.loop-left-test.true c.number.ensures c.in-Reads.is)
-    (inr (inl c.if-x-relay.true))
+pub loop-relay-smaller : goal.loop-relay-smaller
+loop-relay-smaller c =
+    let turn : SeenNumber c.args.text.now c.args.relay c.args.at c.loop-relay.p c.loop-relay.least c.loop-relay.above c.in_ok-x.x c.in_ok-x.q =
+    record {
+      inv = c.loop-relay.invariant;
+      space = sym c.byte.ensures ∙ c.loop-relay-test.true;
+      number = read-so number_gives c.number.result c.number.ensures _ c.in_ok-x.ensures.value;
+    } in
+    omega (arith, leads turn)
 
-pub returns-then-x-gt-HIGHEST_RELAY : goal.returns-then-x-gt-HIGHEST_RELAY
-returns-then-x-gt-HIGHEST_RELAY c =
-    turn-bad
-    (turn c.loop-left.invariant c.byte.ensures c.if-byte-ne32.false c.loop-left-test.true c.number.ensures c.in-Reads.is)
-    (inr (inr c.if-x-gt-HIGHEST_RELAY.true))
-
-pub loop-left-preserved : goal.loop-left-preserved
-loop-left-preserved c =
-    turn-good
-    (turn c.loop-left.invariant c.byte.ensures c.if-byte-ne32.false c.loop-left-test.true c.number.ensures c.in-Reads.is)
-    c.if-x-least.false c.if-x-relay.false c.if-x-gt-HIGHEST_RELAY.false c.start_above-above.ensures
+pub loop-relay-preserved : goal.loop-relay-preserved
+loop-relay-preserved c =
+    let turn : SeenNumber c.args.text.now c.args.relay c.args.at c.loop-relay.p c.loop-relay.least c.loop-relay.above c.in_ok-x.x c.in_ok-x.q =
+    record {
+      inv = c.loop-relay.invariant;
+      space = sym c.byte.ensures ∙ c.loop-relay-test.true;
+      number = read-so number_gives c.number.result c.number.ensures _ c.in_ok-x.ensures.value;
+    } in
+    elim c.if-x-relay-2.branch [
+      | then-x-relay-2 w ↦ rw w.above-is (turn-below turn c.if-x-least.false w.if-x-relay-2.true c.if-x-gt-HIGHEST_RELAY.false)
+      | else-x-relay-2 w ↦
+          rw w.above-is (turn-above turn c.if-x-least.false w.if-x-relay-2.false c.if-x-relay.false c.if-x-gt-HIGHEST_RELAY.false)
+    ]
 
 pub returns : goal.returns
-returns c =
-    let inv = c.loop-left.invariant in
-    loop-ends inv (loop-over inv (omega arith)) (seen-runs-out _ _ _ _ _ _ _ inv.good (omega arith))
+returns c = loop-ends c.loop-relay.invariant (λ e. c.loop-relay-test.false (c.byte.ensures ∙ e))

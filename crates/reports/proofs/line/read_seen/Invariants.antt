@@ -1,9 +1,11 @@
--- `reports::line::read_seen` meets its contract. The loop: those read so far are good, and the next is to be at least `least`.
+-- The loop of `reports::line::read_seen`: those read so far are good, and the next is to be at least `least`; each leads on.
+use Prim.Native.Nat.{◌-◌}
+use lib.ListN.{length}
 use Rattle.reports.proofs.LineLaws.{SeenLoop}
 use Rattle.reports.proofs.line.read_seen.Given as goal
 
-abbrev pub invariant-loop-left : goal.invariant-loop-left
-invariant-loop-left l = SeenLoop l.text l.relay l.at l.p l.left l.least l.above
+abbrev pub invariant-loop-relay : goal.invariant-loop-relay
+invariant-loop-relay l = SeenLoop l.text l.relay l.at l.p l.least l.above
 
-abbrev pub decreases-loop-left : goal.decreases-loop-left
-decreases-loop-left l = l.left
+abbrev pub decreases-loop-relay : goal.decreases-loop-relay
+decreases-loop-relay l = length l.text - l.p

@@ -1,57 +1,45 @@
--- `reports::line::tail` meets its contract: a way out for each part that can depart, for those seen that are bad, and for a good line.
-use mathlib.Core.List.{[]}
-use mathlib.Core.Path.{◌≡◌, refl, sym, ◌∙◌, ap}
-use native.Mathlib.Omega.{arith}
-use Rattle.definitions.specs.Form.{bytes, reads, scan_word}
+-- `reports::line::tail` meets its contract: a word departs, those seen are bad, or it is the rest of a good line.
+use Rattle.std.proofs.Common.{refl, arith}
 use Rattle.text_theory.specs.Forms.{no_zero}
 use Rattle.text_theory.specs.ReportParts.{name-departs, end-departs}
 use Rattle.text.specs.Scans.{word_gives}
-use Rattle.reports.specs.Lines.{SeenEnds}
-use Rattle.reports.proofs.LineLaws.{departs-bad, seen-bad, line-told}
+use Rattle.reports.proofs.LineLaws.{read-so, departed-so, departs-bad, seen-bad, line-told}
 use Rattle.reports.proofs.line.tail.Goals as goal
 
 pub word-requires : goal.word-requires
 unfolding no_zero
 word-requires c = refl
 
-pub word-requires-in-Ends : goal.word-requires-in-Ends
+pub word-requires-2 : goal.word-requires-2
 unfolding no_zero
-word-requires-in-Ends c = refl
+word-requires-2 c = refl
 
-pub returns-in-Departs : goal.returns-in-Departs
-returns-in-Departs c p u front number =
+pub returns-in_err-start : goal.returns-in_err-start
+returns-in_err-start c =
     let text = c.args.text.now in
-    departs-bad text p
-    (name-departs text p _ _ front _ _ number _ (sym c.word.ensures ∙ ap word_gives c.in-Departs.is))
+    let departed = departed-so word_gives c.word.result c.word.ensures c.in_err-start.ensures.value in
+    rw c.from_residual.ensures
+    (λ p u front number. departs-bad text p (name-departs text p _ _ front _ _ number _ departed.1))
 
-pub returns-in-Bad : goal.returns-in-Bad
-returns-in-Bad c p u front number =
-    let name : let a = c.args in
-    scan_word a.text.now (bytes " (sees") a.at ≡ reads [] c.in-Reads.sees =
-    sym c.word.ensures ∙ ap word_gives c.in-Reads.is in
-    seen-bad c.args.text.now p front number name
-    (rw c.in-Bad.is at c.read_seen.ensures)
-
-pub returns-in-Departs-word : goal.returns-in-Departs-word
-returns-in-Departs-word c p u front number =
-    let name : let a = c.args in
-    scan_word a.text.now (bytes " (sees") a.at ≡ reads [] c.in-Reads.sees =
-    sym c.word.ensures ∙ ap word_gives c.in-Reads.is in
-    let seen : let a = c.args in
-    SeenEnds a.text.now a.relay c.in-Reads.sees c.in-Ends.least c.in-Ends.p c.in-Ends.above =
-    rw c.in-Ends.is at c.read_seen.ensures in
+pub returns-in_err-seen : goal.returns-in_err-seen
+returns-in_err-seen c =
     let text = c.args.text.now in
-    departs-bad text p
-    (end-departs text p _ _ front _ _ number _ name _ _ seen.scanned _
-    (sym c.word-in-Ends.ensures ∙ ap word_gives c.in-Departs-word.is))
+    let name = read-so word_gives c.word.result c.word.ensures _ c.in_ok-start.ensures.value in
+    rw c.from_residual-in_err-seen.ensures
+    (λ p u front number. seen-bad text p front number name c.in_err-seen.ensures)
 
-pub returns-in-Reads-word : goal.returns-in-Reads-word
-returns-in-Reads-word c p u front number =
-    let name : let a = c.args in
-    scan_word a.text.now (bytes " (sees") a.at ≡ reads [] c.in-Reads.sees =
-    sym c.word.ensures ∙ ap word_gives c.in-Reads.is in
-    let seen : let a = c.args in
-    SeenEnds a.text.now a.relay c.in-Reads.sees c.in-Ends.least c.in-Ends.p c.in-Ends.above =
-    rw c.in-Ends.is at c.read_seen.ensures in
-    line-told c.args.text.now p front number name c.requires (omega arith) seen
-    (sym c.word-in-Ends.ensures ∙ ap word_gives c.in-Reads-word.is) c.top_of.ensures
+pub returns-in_err-next : goal.returns-in_err-next
+returns-in_err-next c =
+    let text = c.args.text.now in
+    let name = read-so word_gives c.word.result c.word.ensures _ c.in_ok-start.ensures.value in
+    let seen = c.in_ok-seen.ensures in
+    let departed = departed-so word_gives c.word-2.result c.word-2.ensures c.in_err-next.ensures.value in
+    rw c.from_residual-in_err-next.ensures
+    (λ p u front number. departs-bad text p (end-departs text p _ _ front _ _ number _ name _ _ seen.scanned _ departed.1))
+
+pub returns : goal.returns
+returns c p u front number =
+    let name = read-so word_gives c.word.result c.word.ensures _ c.in_ok-start.ensures.value in
+    let end = read-so word_gives c.word-2.result c.word-2.ensures _ c.in_ok-next.ensures.value in
+    line-told c.args.text.now p front number name c.requires (omega arith) c.in_ok-seen.ensures end
+    (omega (arith, c.max.ensures, c.saturating_sub.ensures))

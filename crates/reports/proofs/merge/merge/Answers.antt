@@ -1,4 +1,4 @@
--- `reports::merge::merge` meets its contract. The loop: the links so far, row by row.
+-- `reports::merge::merge` meets its contract: all rows are merged, or there are more links than a network may have.
 use native.Mathlib.Omega.{arith}
 use Rattle.reports.proofs.LinkLaws.{links-start, links-all, row_below, links-on, links-many}
 use Rattle.reports.proofs.merge.merge.Goals as goal
@@ -6,18 +6,11 @@ use Rattle.reports.proofs.merge.merge.Goals as goal
 pub loop-a-init : goal.loop-a-init
 loop-a-init c = links-start c.requires
 
-pub bounds-starts-a : goal.bounds-starts-a
-bounds-starts-a c =
+pub merge_row-count-requires-clause-all_below_in : goal.merge_row-count-requires-clause-all_below_in
+merge_row-count-requires-clause-all_below_in c x there =
     let able = c.requires in
-    omega (arith, c.loop-a-test.true, able.few, able.starts_room)
-
-pub merge_row-count-requires : goal.merge_row-count-requires
-merge_row-count-requires c =
     let inv = c.loop-a.invariant in
-    let able = c.requires in record {
-      n_in_bounds = (omega (arith, inv.room.offsets_room, able.room, able.few), inv.few);
-      all_below_in = row_below able inv c.loop-a-test.true;
-    }
+    omega (arith, row_below able inv c.loop-a-test.true x there, inv.room.offsets_room, able.room, able.few)
 
 pub returns-then-count-gt-LINKS : goal.returns-then-count-gt-LINKS
 returns-then-count-gt-LINKS c =

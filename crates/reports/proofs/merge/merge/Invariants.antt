@@ -1,11 +1,7 @@
 -- `reports::merge::merge` meets its contract. The loop: the links so far, row by row.
-use Prim.Native.Nat.{◌-◌}
 use Rattle.reports.proofs.LinkLaws.{LinksSoFar}
 use Rattle.reports.proofs.merge.merge.Given as goal
 
 abbrev pub invariant-loop-a : goal.invariant-loop-a
 invariant-loop-a l =
     LinksSoFar l.text l.n l.initial.offsets l.initial.lows l.initial.highs l.offsets l.lows l.highs l.count l.a
-
-abbrev pub decreases-loop-a : goal.decreases-loop-a
-decreases-loop-a l = l.n - l.a

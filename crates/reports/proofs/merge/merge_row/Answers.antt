@@ -1,4 +1,4 @@
--- `reports::merge::merge_row` meets its contract. The loop: the row so far, up to the offset.
+-- `reports::merge::merge_row` meets its contract: the row ends, or there are more links than a network may have.
 use mathlib.Core.Path.{refl, sym, ◌∙◌, ap}
 use native.Mathlib.Omega.{arith}
 use Rattle.text_theory.specs.Forms.{no_zero}
@@ -9,35 +9,35 @@ use Rattle.reports.proofs.merge.merge_row.Goals as goal
 
 pub loop-count-init : goal.loop-count-init
 loop-count-init c =
-    row-starts c.requires.all_below_in c.requires.n_in_bounds.1
+    row-starts c.requires.all_below_in c.requires.few
 
 pub word_number-requires : goal.word_number-requires
 unfolding no_zero
 word_number-requires c = refl
 
-pub returns-in-Departs : goal.returns-in-Departs
-returns-in-Departs c =
+pub returns-in_default : goal.returns-in_default
+returns-in_default c =
     row_done c.loop-count.invariant
-    (_, sym c.word_number.ensures ∙ ap number_gives c.in-Departs.is)
+    (_, sym c.word_number.ensures ∙ ap number_gives c.in_default.is)
 
 pub try_link-count-requires : goal.try_link-count-requires
 try_link-count-requires c =
-    let number : ANumber c.args.text.now c.loop-count.p c.in-Reads.b c.in-Reads.next =
-    sym c.word_number.ensures ∙ ap number_gives c.in-Reads.is in
+    let number : ANumber c.args.text.now c.loop-count.p c.in-Ok.b c.in-Ok.next =
+    sym c.word_number.ensures ∙ ap number_gives c.in-Ok.is in
     let inv = c.loop-count.invariant in
     let below = next-below inv number in
-    (omega (arith, below, inv.room.offsets_room, c.requires.n_in_bounds.0), c.loop-count-test.true)
+    (omega (arith, below, inv.room.offsets_room), c.loop-count-test.true)
 
 pub loop-count-smaller : goal.loop-count-smaller
 loop-count-smaller c =
-    let number : ANumber c.args.text.now c.loop-count.p c.in-Reads.b c.in-Reads.next =
-    sym c.word_number.ensures ∙ ap number_gives c.in-Reads.is in
+    let number : ANumber c.args.text.now c.loop-count.p c.in-Ok.b c.in-Ok.next =
+    sym c.word_number.ensures ∙ ap number_gives c.in-Ok.is in
     omega (arith, number_behind _ c.loop-count.p _ _ number)
 
 pub loop-count-preserved : goal.loop-count-preserved
 loop-count-preserved c =
-    let number : ANumber c.args.text.now c.loop-count.p c.in-Reads.b c.in-Reads.next =
-    sym c.word_number.ensures ∙ ap number_gives c.in-Reads.is in
+    let number : ANumber c.args.text.now c.loop-count.p c.in-Ok.b c.in-Ok.next =
+    sym c.word_number.ensures ∙ ap number_gives c.in-Ok.is in
     row-tried c.loop-count.invariant number c.loop-count-test.true c.try_link-count.ensures
 
 pub returns : goal.returns

@@ -2,13 +2,14 @@
 use native.Mathlib.Omega.{arith}
 use Rattle.reports.proofs.MergeLaws.{link-skipped, link-missed, link-taken}
 use Rattle.reports.proofs.merge.try_link.Goals as goal
+use Rattle.reports.proofs.merge.try_link.Goals.{then-b-a-via-then-b-a, then-b-a-via-else-b-a+then-not-sees_back}
 
 pub returns-then-b-a : goal.returns-then-b-a
-returns-then-b-a c = link-skipped c.if-b-a.true
-
-pub returns-then-not-sees_back : goal.returns-then-not-sees_back
-returns-then-not-sees_back c =
-    link-missed (omega (arith, c.if-b-a.false)) c.sees_back.ensures c.if-not-sees_back.true
+returns-then-b-a c = elim c.then-b-a.branch [
+  | then-b-a-via-then-b-a w ↦ rw w.offsets-is (link-skipped w.if-b-a.true)
+  | then-b-a-via-else-b-a+then-not-sees_back w ↦
+      rw w.offsets-is (link-missed (omega (arith, w.if-b-a.false)) w.sees_back.ensures w.if-not-sees_back.true)
+]
 
 pub returns : goal.returns
 returns c =

@@ -1,5 +1,4 @@
--- `reports::places::put_states` meets its contract. The loop: the states of the relays passed stand in the front of the list.
-use Prim.Native.Nat.{◌-◌, ◌≤◌}
+-- The loop of `reports::places::put_states`: the states of the relays passed stand in the front of the list.
 use mathlib.Core.Path.{◌≡◌}
 use lib.Dec.{ltb}
 use lib.ListN.{length, take}
@@ -10,7 +9,4 @@ use Rattle.reports.proofs.places.put_states.Given as goal
 
 abbrev pub invariant-loop-r : goal.invariant-loop-r
 invariant-loop-r l =
-    (l.r ≤ l.n) × (length l.states ≡ length l.initial.states) × (take l.r l.states ≡ table (λ r. pick (ltb 0 (offset_of l.offsets r)) 1 0) 0 l.r)
-
-abbrev pub decreases-loop-r : goal.decreases-loop-r
-decreases-loop-r l = l.n - l.r
+    (length l.states ≡ length l.initial.states) × (take l.r l.states ≡ table (λ r. pick (ltb 0 (offset_of l.offsets r)) 1 0) 0 l.r)

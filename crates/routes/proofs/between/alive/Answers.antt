@@ -1,39 +1,28 @@
 -- `alive` meets its contract. The loop's invariant: what is left to do gives what the whole gives.
-use Rattle.sweep.specs.Side.{entry_of, table_entry}
+use Rattle.sweep.specs.Side.{entry_of, left_of}
 use Rattle.routes.proofs.Loops.Between.{alive-turn, alive-stop, alive-end}
-use Rattle.routes.specs.Between.{alive_in}
 use native.Mathlib.Omega.{arith}
-use mathlib.Core.Path.{refl, sym, ◌∙◌, ap}
-use Prim.Native.Nat.{ℕ, ◌-◌}
+use Prim.Native.Nat.{◌+◌, ◌-◌}
+use mathlib.Core.Path.{◌≡◌, sym, ◌∙◌}
 use Rattle.routes.proofs.between.alive.Goals as goal
 
-pub loop-v-init : goal.loop-v-init
-loop-v-init c = refl
-
-pub left-found-requires : goal.left-found-requires
-left-found-requires c = tt
-
-pub returns-then-place-eq0 : goal.returns-then-place-eq0
-returns-then-place-eq0 c =
+pub returns-then-found-eq0 : goal.returns-then-found-eq0
+returns-then-found-eq0 c =
     let a = c.args in
-    sym (c.loop-v.invariant ∙ alive-stop (table_entry a.table.now a.ends.now a.n) a.k a.t.0 c.loop-v.v.0 (entry_of c.left-found.result)
-    (omega arith) c.left-found.ensures c.if-place-eq0.true)
-
-pub one_before-v-requires : goal.one_before-v-requires
-one_before-v-requires c = omega arith
-
-pub loop-v-smaller : goal.loop-v-smaller
-loop-v-smaller c = omega (arith, c.one_before-v.ensures)
+    let v = c.loop-v.v in
+    let e : v - 1 + 1 ≡ v = omega arith in
+    sym (c.loop-v.invariant ∙ alive-stop (left_of a.table) a.k a.t.0 v (entry_of c.left-found.result)
+    c.loop-v-test.true (rw e at c.left-found.ensures) c.if-found-eq0.true)
 
 pub loop-v-preserved : goal.loop-v-preserved
 loop-v-preserved c =
     let a = c.args in
-    let look = table_entry a.table.now a.ends.now a.n in
-    c.loop-v.invariant ∙ alive-turn look a.k a.t.0 c.loop-v.v.0 (entry_of c.left-found.result)
-    (omega arith) c.left-found.ensures c.if-place-eq0.false
-    ∙ ap (λ (x : ℕ). alive_in look a.k a.t.0 (x - a.t.0)) (sym c.one_before-v.ensures)
+    let v = c.loop-v.v in
+    let e : v - 1 + 1 ≡ v = omega arith in
+    c.loop-v.invariant ∙ alive-turn (left_of a.table) a.k a.t.0 v (entry_of c.left-found.result)
+    c.loop-v-test.true (rw e at c.left-found.ensures) c.if-found-eq0.false
 
 pub returns : goal.returns
 returns c =
     let a = c.args in
-    sym (c.loop-v.invariant ∙ alive-end (table_entry a.table.now a.ends.now a.n) a.k a.t.0 c.loop-v.v.0 (omega arith))
+    sym (c.loop-v.invariant ∙ alive-end (left_of a.table) a.k a.t.0 c.loop-v.v (omega arith))

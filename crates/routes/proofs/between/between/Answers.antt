@@ -1,12 +1,12 @@
 -- `between` meets its contract.
-use Rattle.sweep.specs.Side.{table_entry}
+use Rattle.sweep.specs.Side.{left_of}
 use Rattle.routes.proofs.Loops.Between.{between-falls, between-rises, links-fall, links-rise}
 use Rattle.routes.proofs.between.between.Goals as goal
 
 pub returns-then-q-p : goal.returns-then-q-p
 returns-then-q-p c =
     let a = c.args in
-    let look = table_entry a.table.now a.ends.now a.n in
+    let look = left_of a.table in
     let wrote = c.write_routes in
     let linked = c.write_links in
     let swept = c.sweep in record {
@@ -20,7 +20,7 @@ returns-then-q-p c =
 pub returns-else-q-p : goal.returns-else-q-p
 returns-else-q-p c =
     let a = c.args in
-    let look = table_entry a.table.now a.ends.now a.n in
+    let look = left_of a.table in
     let wrote = c.write_routes-else-q-p in
     let linked = c.write_links-else-q-p in
     let swept = c.sweep-else-q-p in record {

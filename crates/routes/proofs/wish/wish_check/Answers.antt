@@ -1,147 +1,90 @@
 -- `wish_check` meets its contract.
-use Rattle.routes.specs.Answers.{wish_check}
+use Rattle.routes.specs.Wishes.{wish_check}
 use Rattle.definitions.specs.Lists.{outside}
 use Rattle.definitions.specs.Outcome.{refuse_if}
-use borrow.Author.Tests.{lt-ltb, le-ltb, le-leb, lt-leb, eq-eqb, ne_eqb}
+use borrow.Author.Tests.{lt-ltb, le-ltb, le-leb, lt-leb, eqb-false}
+use Rattle.theory.specs.Accepted.{accepted, accepted-states}
 use mathlib.Core.Path.{sym, ◌∙◌}
-use native.Mathlib.Nat.{mul-le-mul}
 use native.Mathlib.Omega.{arith}
 use Rattle.routes.proofs.wish.wish_check.Goals as goal
+use Rattle.routes.proofs.wish.wish_check.Goals.{then-wish-lt1-via-then-wish-lt1, then-wish-lt1-via-else-wish-lt1+then-wish-gt-ROUTES}
+use Rattle.routes.proofs.wish.wish_check.Goals.{then-table-wish-via-then-table-wish, then-table-wish-via-else-table-wish+then-table-wish-2}
 
-pub returns-then-k-lt1 : goal.returns-then-k-lt1
+pub returns-then-wish-lt1 : goal.returns-then-wish-lt1
 unfolding wish_check outside refuse_if
-returns-then-k-lt1 c = simp (lt-ltb _ _ c.if-k-lt1.true)
+returns-then-wish-lt1 c =
+    elim c.then-wish-lt1.branch [
+      | then-wish-lt1-via-then-wish-lt1 w ↦ simp (lt-ltb _ _ w.if-wish-lt1.true)
+      | then-wish-lt1-via-else-wish-lt1+then-wish-gt-ROUTES w ↦ simp (le-ltb _ _ w.if-wish-lt1.false, lt-ltb _ _ w.if-wish-gt-ROUTES.true)
+    ]
 
-pub returns-then-k-gt-ROUTES : goal.returns-then-k-gt-ROUTES
+pub returns-then-table-wish : goal.returns-then-table-wish
 unfolding wish_check outside refuse_if
-returns-then-k-gt-ROUTES c = simp (le-ltb _ _ c.if-k-lt1.false, lt-ltb _ _ c.if-k-gt-ROUTES.true)
+returns-then-table-wish c =
+    elim c.then-table-wish.branch [
+      | then-table-wish-via-then-table-wish w ↦ simp (le-ltb _ _ c.if-wish-lt1.false, le-ltb _ _ c.if-wish-gt-ROUTES.false, le-leb _ _ w.if-table-wish.true)
+      | then-table-wish-via-else-table-wish+then-table-wish-2 w ↦
+          simp (le-ltb _ _ c.if-wish-lt1.false, le-ltb _ _ c.if-wish-gt-ROUTES.false, lt-leb _ _ w.if-table-wish.false, le-leb _ _ w.if-table-wish-2.true)
+    ]
 
-pub returns-then-n-source : goal.returns-then-n-source
+pub returns-then-eq : goal.returns-then-eq
 unfolding wish_check outside refuse_if
-returns-then-n-source c = simp (le-ltb _ _ c.if-k-lt1.false, le-ltb _ _ c.if-k-gt-ROUTES.false, le-leb _ _ c.if-n-source.true)
+returns-then-eq c =
+    simp (
+      le-ltb _ _ c.if-wish-lt1.false,
+      le-ltb _ _ c.if-wish-gt-ROUTES.false,
+      lt-leb _ _ c.if-table-wish.false,
+      lt-leb _ _ c.if-table-wish-2.false,
+      sym c.eq.ensures ∙ c.if-eq.true,
+    )
 
-pub returns-then-n-goal : goal.returns-then-n-goal
-unfolding wish_check outside refuse_if
-returns-then-n-goal c =
-    simp
-    (le-ltb _ _ c.if-k-lt1.false, le-ltb _ _ c.if-k-gt-ROUTES.false, lt-leb _ _ c.if-n-source.false, le-leb _ _ c.if-n-goal.true)
-
-pub returns-then-source-goal : goal.returns-then-source-goal
-unfolding wish_check outside refuse_if
-returns-then-source-goal c =
-    simp
-    (le-ltb _ _ c.if-k-lt1.false, le-ltb _ _ c.if-k-gt-ROUTES.false, lt-leb _ _ c.if-n-source.false, lt-leb _ _ c.if-n-goal.false, eq-eqb _ _ c.if-source-goal.true)
+pub withdrawn_end-requires : goal.withdrawn_end-requires
+withdrawn_end-requires c =
+    let t = c.args.network.table in
+    let long = (accepted-states t.n t.lows.now t.highs.now t.states.now c.args.network.accepted).long in
+    (omega arith, omega arith)
 
 pub returns-then-withdrawn_end : goal.returns-then-withdrawn_end
 unfolding wish_check outside refuse_if
 returns-then-withdrawn_end c =
     simp (
-      le-ltb _ _ c.if-k-lt1.false,
-      le-ltb _ _ c.if-k-gt-ROUTES.false,
-      lt-leb _ _ c.if-n-source.false,
-      lt-leb _ _ c.if-n-goal.false,
-      ne_eqb _ _ c.if-source-goal.false,
+      le-ltb _ _ c.if-wish-lt1.false,
+      le-ltb _ _ c.if-wish-gt-ROUTES.false,
+      lt-leb _ _ c.if-table-wish.false,
+      lt-leb _ _ c.if-table-wish-2.false,
+      sym c.eq.ensures ∙ c.if-eq.false,
       sym c.withdrawn_end.ensures ∙ c.if-withdrawn_end.true,
     )
 
-pub returns-then-counts_length-routes : goal.returns-then-counts_length-routes
+pub is_short-requires : goal.is_short-requires
+is_short-requires c =
+    let t = c.args.network.table in
+    let few = (accepted t.n t.lows.now t.highs.now t.states.now c.args.network.accepted).few in
+    let differ = eqb-false c.args.wish.from.0 c.args.wish.to.0 (sym c.eq.ensures ∙ c.if-eq.false) in
+    (omega arith, omega arith, omega arith)
+
+pub returns-then-is_short : goal.returns-then-is_short
 unfolding wish_check outside refuse_if
-returns-then-counts_length-routes c =
+returns-then-is_short c =
     simp (
-      le-ltb _ _ c.if-k-lt1.false,
-      le-ltb _ _ c.if-k-gt-ROUTES.false,
-      lt-leb _ _ c.if-n-source.false,
-      lt-leb _ _ c.if-n-goal.false,
-      ne_eqb _ _ c.if-source-goal.false,
+      le-ltb _ _ c.if-wish-lt1.false,
+      le-ltb _ _ c.if-wish-gt-ROUTES.false,
+      lt-leb _ _ c.if-table-wish.false,
+      lt-leb _ _ c.if-table-wish-2.false,
+      sym c.eq.ensures ∙ c.if-eq.false,
       sym c.withdrawn_end.ensures ∙ c.if-withdrawn_end.false,
-      lt-ltb _ _ c.if-counts_length-routes.true,
+      sym c.is_short.ensures ∙ c.if-is_short.true,
     )
 
-pub returns-then-relays_length-size : goal.returns-then-relays_length-size
+pub returns : goal.returns
 unfolding wish_check outside refuse_if
-returns-then-relays_length-size c =
+returns c =
     simp (
-      le-ltb _ _ c.if-k-lt1.false,
-      le-ltb _ _ c.if-k-gt-ROUTES.false,
-      lt-leb _ _ c.if-n-source.false,
-      lt-leb _ _ c.if-n-goal.false,
-      ne_eqb _ _ c.if-source-goal.false,
+      le-ltb _ _ c.if-wish-lt1.false,
+      le-ltb _ _ c.if-wish-gt-ROUTES.false,
+      lt-leb _ _ c.if-table-wish.false,
+      lt-leb _ _ c.if-table-wish-2.false,
+      sym c.eq.ensures ∙ c.if-eq.false,
       sym c.withdrawn_end.ensures ∙ c.if-withdrawn_end.false,
-      le-ltb _ _ c.if-counts_length-routes.false,
-      lt-ltb _ _ c.if-relays_length-size.true,
-    )
-
-pub overflow_mul-routes-2 : goal.overflow_mul-routes-2
-overflow_mul-routes-2 c =
-    omega (arith, mul-le-mul {n₁ = c.args.k} {m₁ = c.args.n} {n₂ = 32} {m₂ = 1000} (omega arith) (omega arith))
-
-pub returns-then-scratch_length-routes : goal.returns-then-scratch_length-routes
-unfolding wish_check outside refuse_if
-returns-then-scratch_length-routes c =
-    simp (
-      le-ltb _ _ c.if-k-lt1.false,
-      le-ltb _ _ c.if-k-gt-ROUTES.false,
-      lt-leb _ _ c.if-n-source.false,
-      lt-leb _ _ c.if-n-goal.false,
-      ne_eqb _ _ c.if-source-goal.false,
-      sym c.withdrawn_end.ensures ∙ c.if-withdrawn_end.false,
-      le-ltb _ _ c.if-counts_length-routes.false,
-      le-ltb _ _ c.if-relays_length-size.false,
-      lt-ltb _ _ c.if-scratch_length-routes.true,
-    )
-
-pub overflow_sub-size-then-asked : goal.overflow_sub-size-then-asked
-overflow_sub-size-then-asked c = omega arith
-
-pub overflow_add-size-then-asked : goal.overflow_add-size-then-asked
-overflow_add-size-then-asked c = omega arith
-
-pub returns-then-links_length-size : goal.returns-then-links_length-size
-unfolding wish_check outside refuse_if
-returns-then-links_length-size c =
-    simp (
-      le-ltb _ _ c.if-k-lt1.false,
-      le-ltb _ _ c.if-k-gt-ROUTES.false,
-      lt-leb _ _ c.if-n-source.false,
-      lt-leb _ _ c.if-n-goal.false,
-      ne_eqb _ _ c.if-source-goal.false,
-      sym c.withdrawn_end.ensures ∙ c.if-withdrawn_end.false,
-      le-ltb _ _ c.if-counts_length-routes.false,
-      le-ltb _ _ c.if-relays_length-size.false,
-      le-ltb _ _ c.if-scratch_length-routes.false,
-      c.if-asked.true,
-      lt-ltb _ _ c.if-links_length-size.true,
-    )
-
-pub returns-else-links_length-size : goal.returns-else-links_length-size
-unfolding wish_check outside refuse_if
-returns-else-links_length-size c =
-    simp (
-      le-ltb _ _ c.if-k-lt1.false,
-      le-ltb _ _ c.if-k-gt-ROUTES.false,
-      lt-leb _ _ c.if-n-source.false,
-      lt-leb _ _ c.if-n-goal.false,
-      ne_eqb _ _ c.if-source-goal.false,
-      sym c.withdrawn_end.ensures ∙ c.if-withdrawn_end.false,
-      le-ltb _ _ c.if-counts_length-routes.false,
-      le-ltb _ _ c.if-relays_length-size.false,
-      le-ltb _ _ c.if-scratch_length-routes.false,
-      c.if-asked.true,
-      le-ltb _ _ c.if-links_length-size.false,
-    )
-
-pub returns-else-asked : goal.returns-else-asked
-unfolding wish_check outside refuse_if
-returns-else-asked c =
-    simp (
-      le-ltb _ _ c.if-k-lt1.false,
-      le-ltb _ _ c.if-k-gt-ROUTES.false,
-      lt-leb _ _ c.if-n-source.false,
-      lt-leb _ _ c.if-n-goal.false,
-      ne_eqb _ _ c.if-source-goal.false,
-      sym c.withdrawn_end.ensures ∙ c.if-withdrawn_end.false,
-      le-ltb _ _ c.if-counts_length-routes.false,
-      le-ltb _ _ c.if-relays_length-size.false,
-      le-ltb _ _ c.if-scratch_length-routes.false,
-      c.if-asked.false,
+      sym c.is_short.ensures ∙ c.if-is_short.false,
     )

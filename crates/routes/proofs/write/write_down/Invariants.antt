@@ -2,13 +2,9 @@
 use Rattle.routes.specs.Writing.{write_down}
 use lib.ListN.{length}
 use mathlib.Core.Path.{◌≡◌}
-use Prim.Native.Nat.{◌≤◌}
 use Rattle.routes.proofs.write.write_down.Given as goal
 
 abbrev pub invariant-loop-c : goal.invariant-loop-c
 invariant-loop-c l =
-    (length l.relays ≡ length l.initial.relays) × (l.c ≤ 1000)
-    × (write_down l.side l.order l.from l.initial.c l.initial.x.0 l.initial.relays ≡ write_down l.side l.order l.from l.c l.x.0 l.relays)
-
-abbrev pub decreases-loop-c : goal.decreases-loop-c
-decreases-loop-c l = l.c
+    (length l.relays ≡ length l.initial.relays)
+    × (write_down l.side l.order l.from l.count l.initial.x.0 l.initial.relays ≡ write_down l.side l.order l.from l.c l.x.0 l.relays)

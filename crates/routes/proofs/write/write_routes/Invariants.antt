@@ -7,8 +7,5 @@ use Rattle.routes.proofs.write.write_routes.Given as goal
 
 abbrev pub invariant-loop-i : goal.invariant-loop-i
 invariant-loop-i l =
-    (length l.counts ≡ length l.initial.counts) × (length l.relays ≡ length l.initial.relays) × (l.i ≤ l.k) × (l.from ≤ 2001 * l.i)
+    (length l.counts ≡ length l.initial.counts) × (length l.relays ≡ length l.initial.relays) × (l.from ≤ 2001 * l.i)
     × (write_from l.front l.back l.order l.k 0 0 l.initial.counts l.initial.relays ≡ write_from l.front l.back l.order (l.k - l.i) l.i l.from l.counts l.relays)
-
-abbrev pub decreases-loop-i : goal.decreases-loop-i
-decreases-loop-i l = l.k - l.i

@@ -17,29 +17,29 @@ pub slice_bounds-put_both-start : goal.slice_bounds-put_both-start
 unfolding stands_form
 slice_bounds-put_both-start c =
     let input = c.args.input.now in
-    let within : c.in-Reads.p ≤ length input = (stands-taken input _ _ _ (sym c.pair_line.ensures ∙ ap pair_gives c.in-Reads.is)).0 in
+    let within : c.in-Ok.p ≤ length input = (stands-taken input _ _ _ (sym c.pair_line.ensures ∙ ap pair_gives c.in-Ok.is)).0 in
     search rules
 
 pub slice_bounds-put_both-count : goal.slice_bounds-put_both-count
 unfolding stands_form
 slice_bounds-put_both-count c =
     let input = c.args.input.now in
-    (stands-taken input _ _ _ (sym c.pair_line.ensures ∙ ap pair_gives c.in-Reads.is)).0
+    (stands-taken input _ _ _ (sym c.pair_line.ensures ∙ ap pair_gives c.in-Ok.is)).0
 
-pub returns-in-Departs : goal.returns-in-Departs
+pub returns-in-Err : goal.returns-in-Err
 unfolding stands_form printed
-returns-in-Departs c =
+returns-in-Err c =
     let input = c.args.input.now in
     let whole : (c.put_any.result ≡ length (stands_text input)) × (c.put_any.new.output ≡ overwrite (stands_text input) c.args.output.now) =
-    whole-text input _ (stands-departed input _ (sym c.pair_line.ensures ∙ ap pair_gives c.in-Departs.is)) (omega arith)
+    whole-text input _ (stands-departed input _ (sym c.pair_line.ensures ∙ ap pair_gives c.in-Err.is)) (omega arith)
     (line-put _ c.put_any.ensures) in
     record { length = whole.0; bytes = whole.1 }
 
-pub returns-in-Reads : goal.returns-in-Reads
+pub returns-in-Ok : goal.returns-in-Ok
 unfolding stands_form
-returns-in-Reads c =
+returns-in-Ok c =
     let input = c.args.input.now in
     let whole : (c.put_both.result ≡ length (stands_text input)) × (c.put_both.new.output ≡ overwrite (stands_text input) c.args.output.now) =
-    whole-text input _ (stands-taken input _ _ _ (sym c.pair_line.ensures ∙ ap pair_gives c.in-Reads.is)).1 (omega arith)
+    whole-text input _ (stands-taken input _ _ _ (sym c.pair_line.ensures ∙ ap pair_gives c.in-Ok.is)).1 (omega arith)
     c.put_both.ensures in
     record { length = whole.0; bytes = whole.1 }

@@ -4,4 +4,4 @@ use Rattle.sweep.proofs.side.end_of.Goals as goal
 
 pub returns : goal.returns
 unfolding end_in
-returns c = c.get.ensures
+returns c = cc

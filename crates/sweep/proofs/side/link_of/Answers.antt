@@ -4,4 +4,4 @@ use Rattle.sweep.proofs.side.link_of.Goals as goal
 
 pub returns : goal.returns
 unfolding link_in
-returns c = c.get.ensures
+returns c = cc

@@ -4,4 +4,4 @@ use Rattle.sweep.proofs.side.prior_link_of.Goals as goal
 
 pub returns : goal.returns
 unfolding prior_link_in
-returns c = c.get.ensures
+returns c = cc

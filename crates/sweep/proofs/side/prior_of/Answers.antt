@@ -4,4 +4,4 @@ use Rattle.sweep.proofs.side.prior_of.Goals as goal
 
 pub returns : goal.returns
 unfolding prior_in
-returns c = c.get.ensures
+returns c = cc

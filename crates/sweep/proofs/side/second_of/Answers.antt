@@ -4,4 +4,4 @@ use Rattle.sweep.proofs.side.second_of.Goals as goal
 
 pub returns : goal.returns
 unfolding second_in
-returns c = c.get.ensures
+returns c = cc

@@ -1,10 +1,7 @@
--- `text::outs::withdraw` meets its contract: ones, and a zero behind them.
-use native.Mathlib.Omega.{arith}
+-- `withdraw` meets its contract: ones, and a zero behind them.
+use Rattle.std.proofs.Common.{arith}
 use Rattle.text.specs.ReadOuts.{withdraw-stored}
 use Rattle.text.proofs.outs.withdraw.Goals as goal
-
-pub serve-requires : goal.serve-requires
-serve-requires c = (omega arith, omega arith)
 
 pub returns : goal.returns
 returns c =

@@ -1,9 +1,8 @@
--- `text::put::outs_length` meets its contract: nothing where none is withdrawn. The loop: the length so far and that
--- of the lines left make that of all lines.
+-- `text::put::outs_length` meets its contract: nothing where none is withdrawn, and relay by relay otherwise.
 use mathlib.Core.Path.{sym, ap}
 use native.Mathlib.Omega.{arith}
 use lib.ListN.{length}
-use Rattle.text.specs.WrittenOuts.{outs-all, outs-none, length-outs-step, outs-end}
+use Rattle.text.specs.WrittenOuts.{outs-none, length-outs-step, outs-end}
 use Rattle.text.proofs.put.outs_length.Goals as goal
 
 pub returns-then-least_state-ne0 : goal.returns-then-least_state-ne0
@@ -12,33 +11,12 @@ returns-then-least_state-ne0 c =
     let states = c.args.states.now in
     (sym (ap length (outs-none _ states least.ensures c.if-least_state-ne0.true)), omega arith)
 
-pub loop-relay-init : goal.loop-relay-init
-loop-relay-init c = (omega arith, omega arith, omega (arith, ap length (outs-all c.args.states.now)))
-
-pub offset_bounds-states-relay : goal.offset_bounds-states-relay
-offset_bounds-states-relay c = omega arith
-
-pub bounds-states-relay : goal.bounds-states-relay
-bounds-states-relay c = omega arith
-
-pub out_length-total-requires : goal.out_length-total-requires
-out_length-total-requires c = omega arith
-
-pub overflow_add-total : goal.overflow_add-total
-overflow_add-total c = omega arith
-
-pub overflow_add-relay : goal.overflow_add-relay
-overflow_add-relay c = omega arith
-
-pub loop-relay-smaller : goal.loop-relay-smaller
-loop-relay-smaller c = omega arith
-
 pub loop-relay-preserved : goal.loop-relay-preserved
 loop-relay-preserved c =
     let l = c.loop-relay in
     let states = c.args.states.now in
     let more = length-outs-step states l.relay (omega arith) in
-    (omega arith, omega arith, omega (arith, more, c.out_length-total.ensures, l.invariant))
+    (omega arith, omega (arith, more, c.out_length-total.ensures, l.invariant))
 
 pub returns : goal.returns
 returns c =

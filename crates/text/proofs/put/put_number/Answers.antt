@@ -1,78 +1,39 @@
--- `text::put::put_number` meets its contract. The loop: the whole run of stores is that of the digits of the tens left, on
--- the buffer as it is.
-use Prim.Native.Nat.{◌+◌, ◌-◌, ◌/◌}
-use mathlib.Core.Path.{◌≡◌, refl, sym, ◌∙◌}
-use native.Mathlib.Omega.{arith}
-use lib.ListN.{length, length-set}
+-- `text::put::put_number` meets its contract: from the right, each digit is the last of the tens that are left.
+use Rattle.std.proofs.Common.{ℕ, ◌+◌, ◌-◌, ◌/◌, ◌%◌, ◌<◌, ◌≤◌, ◌≡◌, ◌∙◌, Bool, true, false, ltb, List, length, take, set, refl, arith, ltb-true, ltb-false}
+use Rattle.std.proofs.Math.ListN.{length-set}
+use Rattle.std.proofs.lemmas.List.{take_all}
+use Rattle.std.proofs.lemmas.List.Edits.{sets}
 use Rattle.definitions.specs.Form.{decimal}
 use Rattle.text_theory.specs.Decimal.{length-decimal-one, length-decimal-tens}
 use Rattle.text.specs.Put.{number-store, digit-store}
 use Rattle.text.proofs.put.put_number.Goals as goal
 
-pub width-requires : goal.width-requires
-width-requires c = tt
+last-digit : (l : List ℕ) (at p x : ℕ) → at < p → p ≡ at + length (decimal x)
+    → (at < p - 1 → p - 1 ≡ at + length (decimal (x / 10)))
+    × (sets l at (take (p - at) (decimal x)) ≡ sets (set l (p - 1) (48 + x % 10)) at (take (p - 1 - at) (decimal (x / 10))))
+last-digit l at p x h e = go (ltb x 10) refl
+  where
+    whole : take (p - at) (decimal x) ≡ decimal x
+    whole = take_all (p - at) (decimal x) (omega arith)
 
-pub overflow_add-next : goal.overflow_add-next
-overflow_add-next c = omega arith
+    go : (b : Bool) → ltb x 10 ≡ b
+        → (at < p - 1 → p - 1 ≡ at + length (decimal (x / 10)))
+        × (sets l at (take (p - at) (decimal x)) ≡ sets (set l (p - 1) (48 + x % 10)) at (take (p - 1 - at) (decimal (x / 10))))
+    go true t =
+        let small : x < 10 = ltb-true x 10 t in
+        let one = length-decimal-one x small in
+        let none : p - 1 - at ≡ 0 = omega arith in
+        let here : p - 1 ≡ at = omega arith in
+        let last : x % 10 ≡ x = omega arith in
+        (λ more. absurd (omega arith), rw (whole, none, here, last) (digit-store l at x small))
+    go false t =
+        let big : 10 ≤ x = ltb-false x 10 t in
+        let tens = length-decimal-tens x big in
+        let step : p - 1 ≡ at + length (decimal (x / 10)) = omega arith in
+        (λ more. step, rw (whole, take_all (p - 1 - at) (decimal (x / 10)) (omega arith), step) (number-store l at x big))
 
-pub loop-tens-init : goal.loop-tens-init
-loop-tens-init c = (omega (arith, c.width.ensures), omega (arith, c.width.ensures), refl, refl)
-
-pub overflow_sub-p : goal.overflow_sub-p
-overflow_sub-p c =
-    let l = c.loop-tens in
-    omega (arith, length-decimal-tens l.tens c.loop-tens-test.true)
-
-pub overflow_cast-digit : goal.overflow_cast-digit
-overflow_cast-digit c = omega arith
-
-pub overflow_add-buffer : goal.overflow_add-buffer
-overflow_add-buffer c = omega arith
-
-pub bounds-buffer-p : goal.bounds-buffer-p
-bounds-buffer-p c =
-    let l = c.loop-tens in
-    omega (arith, length-decimal-tens l.tens c.loop-tens-test.true)
-
-pub loop-tens-smaller : goal.loop-tens-smaller
-loop-tens-smaller c = omega arith
-
-pub loop-tens-preserved : goal.loop-tens-preserved
-loop-tens-preserved c =
-    let l = c.loop-tens in
-    let a = c.args in
-    let tens = length-decimal-tens l.tens c.loop-tens-test.true in
-    let e : l.p - 1 ≡ a.at + length (decimal (l.tens / 10)) = omega arith in (
-      e,
-      omega arith,
-      length-set l.buffer _ _ ∙ l.invariant.2,
-      rw e (l.invariant.3 ∙ number-store l.buffer a.at l.tens c.loop-tens-test.true),
-    )
-
-pub overflow_cast-first : goal.overflow_cast-first
-overflow_cast-first c = omega arith
-
-pub overflow_add-buffer-2 : goal.overflow_add-buffer-2
-overflow_add-buffer-2 c = omega arith
-
-pub overflow_sub-buffer : goal.overflow_sub-buffer
-overflow_sub-buffer c =
-    let one = length-decimal-one c.loop-tens.tens (omega arith) in
-    omega arith
-
-pub bounds-buffer-p-2 : goal.bounds-buffer-p-2
-bounds-buffer-p-2 c =
-    let one = length-decimal-one c.loop-tens.tens (omega arith) in
-    omega arith
-
-pub returns : goal.returns
-returns c =
-    let l = c.loop-tens in
-    let a = c.args in
-    let one = length-decimal-one l.tens (omega arith) in
-    let e : l.p - 1 ≡ a.at = omega arith in
-    record {
-      bytes = rw e (sym (l.invariant.3 ∙ digit-store l.buffer a.at l.tens (omega arith)));
-      ends = omega (arith, c.width.ensures);
-      same = length-set l.buffer _ _ ∙ l.invariant.2;
-    }
+pub loop-p-preserved : goal.loop-p-preserved
+loop-p-preserved c =
+    let l = c.loop-p in
+    let step = last-digit l.buffer c.args.at l.p l.tens c.loop-p-test.true (l.invariant.1 c.loop-p-test.true) in
+    (length-set l.buffer _ _ ∙ l.invariant.0, step.0, l.invariant.2 ∙ step.1)

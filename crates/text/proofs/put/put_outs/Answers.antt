@@ -1,7 +1,6 @@
--- `text::put::put_outs` meets its contract: nothing where none is withdrawn. The loop: the whole run of stores is that
--- of the lines left, on the buffer as it is.
+-- `text::put::put_outs` meets its contract: nothing where none is withdrawn, and relay by relay otherwise.
 use native.Mathlib.Omega.{arith}
-use Rattle.text.specs.WrittenOuts.{put-none, outs-none, outs-first, length-outs-step, outs-put, outs-written}
+use Rattle.text.specs.WrittenOuts.{put-none, outs-none, length-outs-step, outs-put, outs-written}
 use Rattle.text.proofs.put.put_outs.Goals as goal
 
 pub returns-then-least_state-ne0 : goal.returns-then-least_state-ne0
@@ -10,28 +9,11 @@ returns-then-least_state-ne0 c =
     let a = c.args in
     rw (outs-none _ a.states.now least.ensures c.if-least_state-ne0.true) (put-none a.buffer.now a.at)
 
-pub loop-relay-init : goal.loop-relay-init
-loop-relay-init c =
-    let a = c.args in
-    outs-first a.buffer.now a.at a.states.now
-
-pub offset_bounds-states-relay : goal.offset_bounds-states-relay
-offset_bounds-states-relay c = omega arith
-
-pub bounds-states-relay : goal.bounds-states-relay
-bounds-states-relay c = omega arith
-
 pub put_out-p-requires : goal.put_out-p-requires
 put_out-p-requires c =
     let l = c.loop-relay in
     let states = c.args.states.now in
     omega (arith, l.invariant.same, l.invariant.ends, length-outs-step states l.relay (omega arith))
-
-pub overflow_add-relay : goal.overflow_add-relay
-overflow_add-relay c = omega arith
-
-pub loop-relay-smaller : goal.loop-relay-smaller
-loop-relay-smaller c = omega arith
 
 pub loop-relay-preserved : goal.loop-relay-preserved
 loop-relay-preserved c =

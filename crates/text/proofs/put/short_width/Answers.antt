@@ -6,20 +6,20 @@ use lib.ListN.{length}
 use Rattle.text_theory.specs.Decimal.{decimal-two, length-decimal-one, length-decimal-tens, length-decimal-three, length-decimal-four}
 use Rattle.text.proofs.put.short_width.Goals as goal
 
-pub returns-then-x-lt10 : goal.returns-then-x-lt10
-returns-then-x-lt10 c = sym (length-decimal-one c.args.x (omega arith))
+pub returns-in-0-to-9 : goal.returns-in-0-to-9
+returns-in-0-to-9 c = sym (length-decimal-one c.args.x (omega arith))
 
-pub returns-then-x-lt100 : goal.returns-then-x-lt100
-returns-then-x-lt100 c = sym (ap length (decimal-two c.args.x (omega arith) (omega arith)))
+pub returns-in-0-to-99 : goal.returns-in-0-to-99
+returns-in-0-to-99 c = sym (ap length (decimal-two c.args.x (omega arith) (omega arith)))
 
-pub returns-then-x-lt1000 : goal.returns-then-x-lt1000
-returns-then-x-lt1000 c = sym (length-decimal-three c.args.x (omega arith) (omega arith))
+pub returns-in-0-to-999 : goal.returns-in-0-to-999
+returns-in-0-to-999 c = sym (length-decimal-three c.args.x (omega arith) (omega arith))
 
-pub returns-then-x-lt10000 : goal.returns-then-x-lt10000
-returns-then-x-lt10000 c = sym (length-decimal-four c.args.x (omega arith) (omega arith))
+pub returns-in-0-to-9999 : goal.returns-in-0-to-9999
+returns-in-0-to-9999 c = sym (length-decimal-four c.args.x (omega arith) (omega arith))
 
-pub returns : goal.returns
-returns c =
+pub returns-in_default : goal.returns-in_default
+returns-in_default c =
     let x = c.args.x in
     omega (
       arith,

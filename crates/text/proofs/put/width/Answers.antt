@@ -3,15 +3,6 @@ use native.Mathlib.Omega.{arith}
 use Rattle.text_theory.specs.Decimal.{length-decimal-one, length-decimal-tens}
 use Rattle.text.proofs.put.width.Goals as goal
 
-pub loop-tens-init : goal.loop-tens-init
-loop-tens-init c = omega arith
-
-pub overflow_add-count : goal.overflow_add-count
-overflow_add-count c = omega arith
-
-pub loop-tens-smaller : goal.loop-tens-smaller
-loop-tens-smaller c = omega arith
-
 pub loop-tens-preserved : goal.loop-tens-preserved
 loop-tens-preserved c = omega (arith, length-decimal-tens c.loop-tens.tens c.loop-tens-test.true)
 

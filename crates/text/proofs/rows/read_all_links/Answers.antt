@@ -1,39 +1,22 @@
--- `text::rows::read_all_links` meets its contract: the row starts lent are those of n relays, the marks have room for the
--- pairs, and none is marked before the first line.
-use mathlib.Core.List.{[]}
-use native.Mathlib.Omega.{arith}
-use Rattle.network.specs.RowStarts.{rows-fewer}
-use Rattle.network.specs.Seen.{none-of-32, none-of-128, none-of-512, none-of-1000}
+-- `read_all_links` meets its contract: each way has room for the pairs of its relays.
+use Rattle.std.proofs.Common.{arith, rules}
+use Rattle.network.specs.Pairs.{rows-of-32, rows-of-128, rows-of-512, rows-of-1000}
 use Rattle.text.proofs.rows.read_all_links.Goals as goal
 
-pub read_links-requires : goal.read_links-requires
-read_links-requires c =
-    let got = c.row_starts_of_32-front in
-    let none = c.no_pairs_of_32-fewest.ensures in record {
-      n_bound = (omega arith, omega arith, omega arith);
-      rows_for = (rows-fewer _ 32 got.result (omega arith) got.ensures, none-of-32 _ _ [] [] (omega arith) none);
-    }
+pub read_links_in-requires-clause-sizes : goal.read_links_in-requires-clause-sizes
+read_links_in-requires-clause-sizes g c =
+    let few = rows-of-32 c.args.n c.if-n-le-FEWEST_RELAYS.true in
+    (c.if-n-le-FEWEST_RELAYS.true, search rules, omega (arith, few), search rules)
 
-pub read_links-requires-then-n-le-FEW_RELAYS : goal.read_links-requires-then-n-le-FEW_RELAYS
-read_links-requires-then-n-le-FEW_RELAYS c =
-    let got = c.first_row_starts-first in
-    let none = c.no_pairs_of_128-few.ensures in record {
-      n_bound = (omega arith, omega arith, omega arith);
-      rows_for = (rows-fewer _ 128 got.result (omega arith) got.ensures, none-of-128 _ _ [] [] (omega arith) none);
-    }
+pub read_links_in-requires-then-n-le-FEW_RELAYS-clause-sizes : goal.read_links_in-requires-then-n-le-FEW_RELAYS-clause-sizes
+read_links_in-requires-then-n-le-FEW_RELAYS-clause-sizes g c =
+    (c.if-n-le-FEW_RELAYS.true, search rules, rows-of-128 c.args.n c.if-n-le-FEW_RELAYS.true, search rules)
 
-pub read_links-requires-then-n-le512 : goal.read_links-requires-then-n-le512
-read_links-requires-then-n-le512 c =
-    let got = c.row_starts-rows in
-    let none = c.no_pairs_of_512-more.ensures in record {
-      n_bound = (omega arith, omega arith, omega arith);
-      rows_for = (rows-fewer _ 1000 got.result (omega arith) got.ensures, none-of-512 _ _ [] [] (omega arith) none);
-    }
+pub read_links_in-requires-then-n-le512-clause-sizes : goal.read_links_in-requires-then-n-le512-clause-sizes
+read_links_in-requires-then-n-le512-clause-sizes g c =
+    (c.requires.0, search rules, rows-of-512 c.args.n c.if-n-le512.true, search rules)
 
-pub read_links-requires-2 : goal.read_links-requires-2
-read_links-requires-2 c =
-    let got = c.row_starts-rows in
-    let none = c.no_pairs_of_1000-seen.ensures in record {
-      n_bound = (omega arith, omega arith, omega arith);
-      rows_for = (rows-fewer _ 1000 got.result (omega arith) got.ensures, none-of-1000 _ _ [] [] (omega arith) none);
-    }
+pub read_links_in-requires-else-n-le512-clause-sizes : goal.read_links_in-requires-else-n-le512-clause-sizes
+read_links_in-requires-else-n-le512-clause-sizes g c =
+    let all = rows-of-1000 c.args.n c.requires.0 in
+    (c.requires.0, search rules, omega (arith, all), search rules)

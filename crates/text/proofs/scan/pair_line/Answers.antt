@@ -1,50 +1,44 @@
--- `text::scan::pair_line` meets its contract: one way out for each part that can depart, and one for the whole line.
-use mathlib.Core.List.{[], ◌∷◌}
-use mathlib.Core.Path.{sym, ◌∙◌, ap}
-use Rattle.definitions.specs.Form.{with_front}
-use Rattle.text.specs.Scans.{word_gives, number_gives}
+-- `pair_line` meets its contract: one way out for each part that can depart, and one for the whole line.
+use Rattle.std.proofs.Common.{rules, sym, ◌∙◌, ap, [], ◌∷◌}
+use Rattle.definitions.specs.Form.{word, numeral, with_front}
 use Rattle.text.specs.ItemByItem.{form-word, first-departs, first_reads}
 use Rattle.text.proofs.scan.pair_line.Goals as goal
 
-pub returns-in-Departs : goal.returns-in-Departs
-returns-in-Departs c =
+pub returns-in_err-a : goal.returns-in_err-a
+returns-in_err-a c =
     let a = c.args in
-    let one = c.word_number in
-    sym (first-departs a.text.now a.front.now _ a.at _ (sym one.ensures ∙ ap number_gives c.in-Departs.is))
+    let rest = word a.middle.now ∷ numeral ∷ word a.back.now ∷ [] in
+    let departed = first-departs a.text.now a.front.now rest a.at _ (sym c.in_err-a.ensures) in
+    search rules
 
-pub returns-in-Departs-word_number : goal.returns-in-Departs-word_number
+pub returns-in_err-b : goal.returns-in_err-b
 unfolding with_front
-returns-in-Departs-word_number c =
+returns-in_err-b c =
     let a = c.args in
-    let one = c.word_number in
-    let two = c.word_number-in-Reads in
-    sym
-    (first_reads a.text.now a.front.now _ a.at _ _ (sym one.ensures ∙ ap number_gives c.in-Reads.is)
-    ∙ ap (with_front (c.in-Reads.a ∷ []))
-    (first-departs a.text.now a.middle.now _ _ _ (sym two.ensures ∙ ap number_gives c.in-Departs-word_number.is)))
+    let rest = word a.middle.now ∷ numeral ∷ word a.back.now ∷ [] in
+    let departed =
+    first_reads a.text.now a.front.now rest a.at _ _ (sym c.in_ok-a.ensures)
+    ∙ ap (with_front (c.in_ok-a.a ∷ [])) (first-departs a.text.now a.middle.now (word a.back.now ∷ []) _ _ (sym c.in_err-b.ensures)) in
+    search rules
 
-pub returns-in-Departs-word : goal.returns-in-Departs-word
+pub returns-in_err-end : goal.returns-in_err-end
 unfolding with_front
-returns-in-Departs-word c =
+returns-in_err-end c =
     let a = c.args in
-    let one = c.word_number in
-    let two = c.word_number-in-Reads in
-    let last = c.word.ensures in
-    sym
-    (first_reads a.text.now a.front.now _ a.at _ _ (sym one.ensures ∙ ap number_gives c.in-Reads.is)
-    ∙ ap (with_front (c.in-Reads.a ∷ []))
-    (first_reads a.text.now a.middle.now _ _ _ _ (sym two.ensures ∙ ap number_gives c.in-Reads-word_number.is)
-    ∙ ap (with_front (c.in-Reads-word_number.b ∷ [])) (form-word a.text.now a.back.now _ ∙ sym last ∙ ap word_gives c.in-Departs-word.is)))
+    let rest = word a.middle.now ∷ numeral ∷ word a.back.now ∷ [] in
+    let departed =
+    first_reads a.text.now a.front.now rest a.at _ _ (sym c.in_ok-a.ensures)
+    ∙ ap (with_front (c.in_ok-a.a ∷ []))
+    (first_reads a.text.now a.middle.now (word a.back.now ∷ []) _ _ _ (sym c.in_ok-b.ensures)
+    ∙ ap (with_front (c.in_ok-b.b ∷ [])) (form-word a.text.now a.back.now _ ∙ sym c.in_err-end.ensures)) in
+    search rules
 
-pub returns-in-Reads-word : goal.returns-in-Reads-word
+pub returns : goal.returns
 unfolding with_front
-returns-in-Reads-word c =
+returns c =
     let a = c.args in
-    let one = c.word_number in
-    let two = c.word_number-in-Reads in
-    let last = c.word.ensures in
     sym
-    (first_reads a.text.now a.front.now _ a.at _ _ (sym one.ensures ∙ ap number_gives c.in-Reads.is)
-    ∙ ap (with_front (c.in-Reads.a ∷ []))
-    (first_reads a.text.now a.middle.now _ _ _ _ (sym two.ensures ∙ ap number_gives c.in-Reads-word_number.is)
-    ∙ ap (with_front (c.in-Reads-word_number.b ∷ [])) (form-word a.text.now a.back.now _ ∙ sym last ∙ ap word_gives c.in-Reads-word.is)))
+    (first_reads a.text.now a.front.now _ a.at _ _ (sym c.in_ok-a.ensures)
+    ∙ ap (with_front (c.in_ok-a.a ∷ []))
+    (first_reads a.text.now a.middle.now _ _ _ _ (sym c.in_ok-b.ensures)
+    ∙ ap (with_front (c.in_ok-b.b ∷ [])) (form-word a.text.now a.back.now _ ∙ sym c.in_ok-end.ensures)))

@@ -1,9 +1,7 @@
--- `verify::form::head_line` meets its contract: a line of two numbers, and a third with the line end.
-use mathlib.Core.List.{[], ◌∷◌}
-use mathlib.Core.Path.{refl, sym, ◌∙◌, ap}
+-- `head_line` meets its contract: a line of two numbers, and a third with the line end.
+use Rattle.std.proofs.Common.{refl, rules, sym, ◌∙◌, ap, [], ◌∷◌}
 use Rattle.definitions.specs.Form.{with_front}
 use Rattle.text_theory.specs.Forms.{no_zero}
-use Rattle.text.specs.Scans.{number_gives, pair_gives}
 use Rattle.verify.proofs.EndLaws.{head-line-departs, head-line-reads}
 use Rattle.verify.proofs.form.head_line.Goals as goal
 
@@ -15,23 +13,25 @@ pub number_word-requires : goal.number_word-requires
 unfolding no_zero
 number_word-requires c = refl
 
-pub returns-in-Departs : goal.returns-in-Departs
-returns-in-Departs c =
+pub returns-in_err-from : goal.returns-in_err-from
+returns-in_err-from c =
     let a = c.args in
-    sym (head-line-departs a.text.now _ (sym c.pair_line.ensures ∙ ap pair_gives c.in-Departs.is))
+    let departed = head-line-departs a.text.now _ (sym c.in_err-from.ensures) in
+    search rules
 
-pub returns-in-Departs-number_word : goal.returns-in-Departs-number_word
+pub returns-in_err-k : goal.returns-in_err-k
 unfolding with_front
-returns-in-Departs-number_word c =
+returns-in_err-k c =
+    let a = c.args in
+    let departed =
+    head-line-reads a.text.now _ _ (sym c.in_ok-from.ensures)
+    ∙ ap (with_front (c.in_ok-from.from ∷ c.in_ok-from.to ∷ [])) (sym c.in_err-k.ensures) in
+    search rules
+
+pub returns : goal.returns
+unfolding with_front
+returns c =
     let a = c.args in
     sym
-    (head-line-reads a.text.now _ _ (sym c.pair_line.ensures ∙ ap pair_gives c.in-Reads.is)
-    ∙ ap (with_front (c.in-Reads.from ∷ c.in-Reads.to ∷ [])) (sym c.number_word.ensures ∙ ap number_gives c.in-Departs-number_word.is))
-
-pub returns-in-Reads-number_word : goal.returns-in-Reads-number_word
-unfolding with_front
-returns-in-Reads-number_word c =
-    let a = c.args in
-    sym
-    (head-line-reads a.text.now _ _ (sym c.pair_line.ensures ∙ ap pair_gives c.in-Reads.is)
-    ∙ ap (with_front (c.in-Reads.from ∷ c.in-Reads.to ∷ [])) (sym c.number_word.ensures ∙ ap number_gives c.in-Reads-number_word.is))
+    (head-line-reads a.text.now _ _ (sym c.in_ok-from.ensures)
+    ∙ ap (with_front (c.in_ok-from.from ∷ c.in_ok-from.to ∷ [])) (sym c.in_ok-k.ensures))

@@ -1,11 +1,9 @@
--- `verify::form::rest_of_line` meets its contract: more numbers, and the end of the line.
-use mathlib.Core.Path.{refl, sym, ◌∙◌, ap}
-use lib.ListN.{length}
+-- `rest_of_line` meets its contract: more numbers, and the end of the line.
+use Rattle.std.proofs.Common.{refl, rules, sym, ◌∙◌, length}
 use Rattle.definitions.specs.Form.{bytes, scan_form, scan_more}
 use Rattle.definitions.specs.SheetForm.{line_end}
 use Rattle.text_theory.specs.Forms.{no_zero}
 use Rattle.text.specs.ItemByItem.{form-word}
-use Rattle.text.specs.Scans.{word_gives}
 use Rattle.verify.specs.Offsets.{rest_of_line}
 use Rattle.verify.proofs.FormLaws.{after-departs, after-reads}
 use Rattle.verify.proofs.form.rest_of_line.Goals as goal
@@ -14,20 +12,19 @@ pub word-requires : goal.word-requires
 unfolding no_zero
 word-requires c = refl
 
-pub returns-in-Departs : goal.returns-in-Departs
+pub returns-in_err-p : goal.returns-in_err-p
 unfolding rest_of_line
-returns-in-Departs c =
+returns-in_err-p c =
     let a = c.args in
-    sym
-    (after-departs (scan_more a.text.now a.at (length a.text.now)) (scan_form a.text.now line_end) _
-    (sym c.more_numbers.ensures ∙ ap word_gives c.in-Departs.is))
+    let departed =
+    after-departs (scan_more a.text.now a.at (length a.text.now)) (scan_form a.text.now line_end) _ (sym c.in_err-p.ensures) in
+    search rules
 
-pub returns-in-Reads : goal.returns-in-Reads
+pub returns : goal.returns
 unfolding rest_of_line line_end
-returns-in-Reads c =
+returns c =
     let a = c.args in
     c.word.ensures
     ∙ sym
-    (after-reads (scan_more a.text.now a.at (length a.text.now)) (scan_form a.text.now line_end) _
-    (sym c.more_numbers.ensures ∙ ap word_gives c.in-Reads.is)
+    (after-reads (scan_more a.text.now a.at (length a.text.now)) (scan_form a.text.now line_end) _ (sym c.in_ok-p.ensures)
     ∙ form-word a.text.now (bytes ")\n") _)

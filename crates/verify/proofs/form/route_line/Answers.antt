@@ -1,7 +1,6 @@
--- `verify::form::route_line` meets its contract: the first relay, the second, and the rest of the line.
-use mathlib.Core.Path.{refl, sym, ◌∙◌, ap}
+-- `route_line` meets its contract: the first relay, the second, and the rest of the line.
+use Rattle.std.proofs.Common.{refl, rules, sym, ◌∙◌}
 use Rattle.text_theory.specs.Forms.{no_zero}
-use Rattle.text.specs.Scans.{number_gives}
 use Rattle.verify.proofs.FormLaws.{route-departs, route-departs-later, route-reads}
 use Rattle.verify.proofs.form.route_line.Goals as goal
 
@@ -9,26 +8,23 @@ pub word_number-requires : goal.word_number-requires
 unfolding no_zero
 word_number-requires c = refl
 
-pub word_number-requires-in-Reads : goal.word_number-requires-in-Reads
+pub word_number-requires-2 : goal.word_number-requires-2
 unfolding no_zero
-word_number-requires-in-Reads c = refl
+word_number-requires-2 c = refl
 
-pub returns-in-Departs : goal.returns-in-Departs
-returns-in-Departs c =
+pub returns-in_err-p : goal.returns-in_err-p
+returns-in_err-p c =
     let a = c.args in
-    sym (route-departs a.text.now a.at _ (sym c.word_number.ensures ∙ ap number_gives c.in-Departs.is))
+    let departed = route-departs a.text.now a.at _ (sym c.in_err-p.ensures) in
+    search rules
 
-pub returns-in-Departs-word_number : goal.returns-in-Departs-word_number
-returns-in-Departs-word_number c =
+pub returns-in_err-q : goal.returns-in_err-q
+returns-in_err-q c =
     let a = c.args in
-    sym
-    (route-departs-later a.text.now a.at _ _ _ (sym c.word_number.ensures ∙ ap number_gives c.in-Reads.is)
-    (sym c.word_number-in-Reads.ensures ∙ ap number_gives c.in-Departs-word_number.is))
+    let departed = route-departs-later a.text.now a.at _ _ _ (sym c.in_ok-p.ensures) (sym c.in_err-q.ensures) in
+    search rules
 
-pub returns-in-Reads-word_number : goal.returns-in-Reads-word_number
-returns-in-Reads-word_number c =
+pub returns : goal.returns
+returns c =
     let a = c.args in
-    c.rest_of_line.ensures
-    ∙ sym
-    (route-reads a.text.now a.at _ _ _ _ (sym c.word_number.ensures ∙ ap number_gives c.in-Reads.is)
-    (sym c.word_number-in-Reads.ensures ∙ ap number_gives c.in-Reads-word_number.is))
+    c.rest_of_line.ensures ∙ sym (route-reads a.text.now a.at _ _ _ _ (sym c.in_ok-p.ensures) (sym c.in_ok-q.ensures))

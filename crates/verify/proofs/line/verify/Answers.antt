@@ -1,9 +1,5 @@
--- `verify::line::verify` meets its contract: the line in front departs, or the two texts behind it are read.
-use Prim.Native.Nat.{◌≤◌}
-use mathlib.Core.Path.{◌≡◌, refl, sym, ◌∙◌, ap}
-use native.Mathlib.Omega.{arith}
-use lib.ListN.{length}
-use borrow.Author.Rules.{rules}
+-- `verify` meets its contract: the line in front departs, or the two texts behind it are read.
+use Rattle.std.proofs.Common.{◌≡◌, ◌∙◌, ◌≤◌, refl, rules, sym, ap, arith, length}
 use Rattle.definitions.specs.Lists.{overwrite}
 use Rattle.definitions.specs.Program.{printed}
 use Rattle.definitions.specs.Verify.{verify_form, verify_text}
@@ -21,29 +17,29 @@ pub slice_bounds-put_both-start : goal.slice_bounds-put_both-start
 unfolding verify_form
 slice_bounds-put_both-start c =
     let input = c.args.input.now in
-    let within : c.in-Reads.p ≤ length input = (verify-taken input _ _ _ (sym c.pair_line.ensures ∙ ap pair_gives c.in-Reads.is)).0 in
+    let within : c.in-Ok.p ≤ length input = (verify-taken input _ _ _ (sym c.pair_line.ensures ∙ ap pair_gives c.in-Ok.is)).0 in
     search rules
 
 pub slice_bounds-put_both-count : goal.slice_bounds-put_both-count
 unfolding verify_form
 slice_bounds-put_both-count c =
     let input = c.args.input.now in
-    (verify-taken input _ _ _ (sym c.pair_line.ensures ∙ ap pair_gives c.in-Reads.is)).0
+    (verify-taken input _ _ _ (sym c.pair_line.ensures ∙ ap pair_gives c.in-Ok.is)).0
 
-pub returns-in-Departs : goal.returns-in-Departs
-unfolding verify_form printed
-returns-in-Departs c =
-    let input = c.args.input.now in
-    let whole : (c.put_any.result ≡ length (verify_text input)) × (c.put_any.new.output ≡ overwrite (verify_text input) c.args.output.now) =
-    whole-line input _ _ _ _ (verify-departed input _ (sym c.pair_line.ensures ∙ ap pair_gives c.in-Departs.is)) (omega arith)
-    c.put_any.ensures in
-    record { length = whole.0; bytes = whole.1 }
-
-pub returns-in-Reads : goal.returns-in-Reads
+pub returns-in-Ok : goal.returns-in-Ok
 unfolding verify_form
-returns-in-Reads c =
+returns-in-Ok c =
     let input = c.args.input.now in
     let whole : (c.put_both.result ≡ length (verify_text input)) × (c.put_both.new.output ≡ overwrite (verify_text input) c.args.output.now) =
-    whole-line input _ _ _ _ (verify-taken input _ _ _ (sym c.pair_line.ensures ∙ ap pair_gives c.in-Reads.is)).1 (omega arith)
+    whole-line input _ _ _ _ (verify-taken input _ _ _ (sym c.pair_line.ensures ∙ ap pair_gives c.in-Ok.is)).1 (omega arith)
     c.put_both.ensures in
+    record { length = whole.0; bytes = whole.1 }
+
+pub returns-in-Err : goal.returns-in-Err
+unfolding verify_form printed
+returns-in-Err c =
+    let input = c.args.input.now in
+    let whole : (c.put_any.result ≡ length (verify_text input)) × (c.put_any.new.output ≡ overwrite (verify_text input) c.args.output.now) =
+    whole-line input _ _ _ _ (verify-departed input _ (sym c.pair_line.ensures ∙ ap pair_gives c.in-Err.is)) (omega arith)
+    c.put_any.ensures in
     record { length = whole.0; bytes = whole.1 }

@@ -1,25 +1,18 @@
--- `verify::walk::good_steps` meets its contract.
-use mathlib.Core.Path.{sym}
-use lib.Dec.{eqb}
-use borrow.Author.Tests.{eq-eqb, ne_eqb}
+-- `good_steps` meets its contract.
+use Rattle.std.proofs.lemmas.Bool.{ne_eqb}
 use Rattle.definitions.specs.SheetTest.{good_steps}
-use Rattle.lists.specs.Tests.{and-true, and-false}
 use Rattle.verify.proofs.walk.good_steps.Goals as goal
+use Rattle.verify.proofs.walk.good_steps.Goals.{then-steps-eq1, else-steps-eq1}
 
-pub returns-then-steps-eq0 : goal.returns-then-steps-eq0
+pub returns-after-steps-eq1 : goal.returns-after-steps-eq1
 unfolding good_steps
-returns-then-steps-eq0 c =
+returns-after-steps-eq1 c =
     let a = c.args in
-    sym (rw (eq-eqb a.steps 0 c.if-steps-eq0.true))
+    elim c.if-steps-eq1.branch [
+      | then-steps-eq1 w ↦ rw (w.result-is, w.if-steps-eq1.true)
+      | else-steps-eq1 w ↦ rw (w.result-is, ne_eqb a.steps 1 w.if-steps-eq1.false, ne_eqb a.steps 0 c.if-steps-ne0.true)
+    ]
 
-pub returns-then-not-direct : goal.returns-then-not-direct
+pub returns-else-steps-ne0 : goal.returns-else-steps-ne0
 unfolding good_steps
-returns-then-not-direct c =
-    let a = c.args in
-    sym (rw (ne_eqb a.steps 0 c.if-steps-eq0.false, c.if-not-direct.true, and-false (eqb a.steps 1)))
-
-pub returns : goal.returns
-unfolding good_steps
-returns c =
-    let a = c.args in
-    sym (rw (ne_eqb a.steps 0 c.if-steps-eq0.false, c.if-not-direct.false, and-true (eqb a.steps 1)))
+returns-else-steps-ne0 c = rw c.if-steps-ne0.false

@@ -1,7 +1,8 @@
--- `verify::walk::route_steps` meets its contract: what stands at the two offsets, and the walk from there.
-use mathlib.Core.Path.{refl, sym, ◌∙◌, ap}
+-- `route_steps` meets its contract: what stands at the two offsets, and the walk from there.
+use Rattle.std.proofs.Common.{◌≡◌, eqb, refl, sym}
 use Rattle.text_theory.specs.Forms.{no_zero}
-use Rattle.text.specs.Scans.{word_gives, number_gives}
+use Rattle.std.proofs.lemmas.Bool.{eqb-true, eqb-false}
+use borrow.Author.Tests.{not-true, not-false}
 use Rattle.verify.proofs.RouteLaws.{no-route, no-links, starts-here, starts-elsewhere}
 use Rattle.verify.proofs.walk.route_steps.Goals as goal
 
@@ -13,32 +14,27 @@ pub word-requires : goal.word-requires
 unfolding no_zero
 word-requires c = refl
 
-pub returns-in-Departs : goal.returns-in-Departs
-returns-in-Departs c =
+pub returns-in_default : goal.returns-in_default
+returns-in_default c =
     let a = c.args in
-    no-route a.n a.lows.now a.highs.now a.states.now a.text.now a.from.0 a.to.0
-    a.relays a.links a.marks.now _
-    (sym c.word_number.ensures ∙ ap number_gives c.in-Departs.is) c.requires.mark_room
+    no-route a.network.table a.text.now a.wish.from.0 a.wish.to.0 a.lines.relays a.lines.links a.marks.now _ (sym c.in_default.ensures)
 
-pub returns-in-Departs-word : goal.returns-in-Departs-word
-returns-in-Departs-word c =
+pub returns-in_default-word : goal.returns-in_default-word
+returns-in_default-word c =
     let a = c.args in
-    no-links a.n a.lows.now a.highs.now a.states.now a.text.now a.from.0 a.to.0
-    a.relays a.links a.marks.now _
-    (sym c.word.ensures ∙ ap word_gives c.in-Departs-word.is) c.requires.mark_room
+    no-links a.network.table a.text.now a.wish.from.0 a.wish.to.0 a.lines.relays a.lines.links a.marks.now _ (sym c.in_default-word.ensures)
 
-pub returns-then-first-from : goal.returns-then-first-from
-returns-then-first-from c =
+pub returns-then-ne : goal.returns-then-ne
+returns-then-ne c =
     let a = c.args in
-    starts-here a.n a.lows.now a.highs.now a.states.now a.text.now a.from.0 a.to.0
-    a.relays a.links a.marks.now _ _ _
-    (sym c.word_number.ensures ∙ ap number_gives c.in-Reads.is)
-    (sym c.word.ensures ∙ ap word_gives c.in-Reads-word.is) c.if-first-from.true _ _ c.walk.ensures
+    starts-elsewhere a.network.table a.text.now a.wish.from.0 a.wish.to.0 a.lines.relays a.lines.links a.marks.now _ _ _
+    (sym c.in-Ok.ensures) (sym c.in-Ok-word.ensures)
+    (eqb-false c.in-Ok.first a.wish.from.0 (not-true (eqb c.in-Ok.first a.wish.from.0) (sym c.if-ne.ensures)))
 
-pub returns-else-first-from : goal.returns-else-first-from
-returns-else-first-from c =
+pub returns : goal.returns
+returns c =
     let a = c.args in
-    starts-elsewhere a.n a.lows.now a.highs.now a.states.now a.text.now a.from.0 a.to.0
-    a.relays a.links a.marks.now _ _ _
-    (sym c.word_number.ensures ∙ ap number_gives c.in-Reads.is)
-    (sym c.word.ensures ∙ ap word_gives c.in-Reads-word.is) c.if-first-from.false c.requires.mark_room
+    let same : c.in-Ok.first ≡ a.wish.from.0 =
+    eqb-true c.in-Ok.first a.wish.from.0 (not-false (eqb c.in-Ok.first a.wish.from.0) (sym c.if-ne.ensures)) in
+    starts-here a.network.table a.text.now a.wish.from.0 a.wish.to.0 a.lines.relays a.lines.links a.marks.now _ _ _
+    (sym c.in-Ok.ensures) (sym c.in-Ok-word.ensures) same _ _ c.walk.ensures

@@ -1,9 +1,0 @@
--- `keep::idle::both_serve` meets its contract: the first is withdrawn, or the second decides.
-use mathlib.Core.Path.{sym, ◌∙◌}
-use Rattle.keep.proofs.idle.both_serve.Goals as goal
-
-pub returns-then-in_service : goal.returns-then-in_service
-returns-then-in_service c = rw (sym c.in_service.ensures ∙ c.if-in_service.true) c.in_service-then-in_service.ensures
-
-pub returns-else-in_service : goal.returns-else-in_service
-returns-else-in_service c = rw (sym c.in_service.ensures ∙ c.if-in_service.false)

@@ -1,0 +1,11 @@
+-- The closure of `keeper::main` meets its contract: the front of the output is the text that was printed.
+use Rattle.std.proofs.Common.{arith}
+use Rattle.program.specs.Front.{front-within, front-is}
+use Rattle.keeper.proofs.fn.main.answer.Goals as goal
+
+pub shared_ref_as_front-result : goal.shared_ref_as_front-result
+shared_ref_as_front-result c =
+    omega (arith, front-within _ _ _ _ c.keep-size.ensures.length c.keep-size.ensures.bytes, c.keep-size.array_long)
+
+pub returns : goal.returns
+returns c = front-is _ _ _ _ c.keep-size.ensures.length c.keep-size.ensures.bytes
