@@ -1,5 +1,6 @@
 -- The laws of a report line: those that it sees, turn by turn, and what is bad of a line whose front is read. Assumes nothing.
 use Rattle.std.specs.Prelude.{Option, None, Some, Result, Ok, Err}
+use Rattle.std.specs.Option.{unwrap_or}
 use Rattle.std.specs.Result.{result_ok}
 use Prim.Native.Nat.{ℕ, max, ◌+◌, ◌-◌, ◌≤◌, ◌<◌}
 use mathlib.Core.Bool.{Bool, true, false}
@@ -45,6 +46,15 @@ module _ {V E W : Type 0} (gives : Result V E → W) {scan : W} (r : Result V E)
       go (Ok x) is same = absurd (some_apart (sym same))
       go (Err d) is same = (d, sym told ∙ ap gives is)
 
+-- The least that may be seen next: one more than the last of those seen.
+abbrev pub least_after : Option ℕ → ℕ
+least_after None = 0
+least_after (Some x) = x + 1
+
+last_kept : (last : Option ℕ) → unwrap_or last 0 ≡ least_after last - 1
+last_kept None = refl
+last_kept (Some x) = omega arith
+
 -- The loop over those seen: what is read so far, whose last is just below `least`; where those above the relay begin, which is here as
 -- long as none of them was read; and no more numbers are to come than there are bytes.
 pub record SeenLoop (text : List ℕ) (relay t p least above : ℕ) : Type 0 where
@@ -72,14 +82,14 @@ loop-start text relay t =
     }
 
 module _ {text : List ℕ} {relay t p least above : ℕ} (inv : SeenLoop text relay t p least above) where
-  pub loop-ends : (byte_at text p ≡ 32 → ⊥) → SeenEnds text relay t least p above
+  pub loop-ends : (last : Option ℕ) → least ≡ least_after last → (byte_at text p ≡ 32 → ⊥) → SeenEnds text relay t last p above
   unfolding drop_below
-  loop-ends other =
+  loop-ends last after other =
       record {
         sees = inv.so_far;
         scanned = seen-ends text relay t p inv.left inv.so_far least inv.good other;
         good = seen-good text relay t p inv.left inv.so_far least inv.good;
-        last_is = inv.last_is;
+        last_is = inv.last_is ∙ ap (λ (least : ℕ). least - 1) after ∙ sym (last_kept last);
         higher = go (dec_le least relay);
       }
     where
@@ -238,8 +248,8 @@ module _ (text : List ℕ) (p : ℕ) where
             rw (same, again, last, both.joined, none, append-nil both.front)
             (bad serial both.front both.behind both.first)
 
-        pub line-told : {least v q top above : ℕ} → relay ≤ 999 → serial ≤ 4294967295 → SeenEnds text relay t least v above
-            → scan_word text (bytes "))\n") v ≡ reads [] q → top ≡ max relay (least - 1) → LineTold text p relay serial t top q above
+        pub line-told : {last : Option ℕ} {v q top above : ℕ} → relay ≤ 999 → serial ≤ 4294967295 → SeenEnds text relay t last v above
+            → scan_word text (bytes "))\n") v ≡ reads [] q → top ≡ max relay (unwrap_or last 0) → LineTold text p relay serial t top q above
         unfolding report_of top_of greatest
         line-told near range seen end top_is =
             record {

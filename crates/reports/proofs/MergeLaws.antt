@@ -1,4 +1,5 @@
 -- A row of the merge, in the terms of the code: numbers that are passed, links stored and the row that moves on. Assumes nothing.
+use Rattle.std.specs.Prelude.{Option, None, Some, Ok, Err}
 use Prim.Native.Nat.{ℕ, ◌+◌, ◌≤◌, ◌<◌}
 use mathlib.Core.Bool.{Bool, true, false}
 use mathlib.Core.List.{List, [], ◌∷◌, ◌++◌}
@@ -13,7 +14,9 @@ use Rattle.lists.specs.Cases.{has_here, has_there}
 use Rattle.lists.specs.Cursors.{drop_below, next_is, dropped-less, dropped-stays, Cursors, cursors-step, sees_back}
 use Rattle.lists.specs.Merged.{row-skips, row-misses, row-takes}
 use Rattle.text_theory.specs.SpacedNumbers.{NoNumber, ANumber, none-at, numbers-next}
-use Rattle.reports.specs.Offsets.{numbers_from, offset_of, seen_from}
+use Rattle.network.specs.declared.refusal.Refusal.TheVariants.{LinkCount}
+use Rattle.reports.specs.Offsets.{numbers_from, marked, seen_mark, above_mark, above_of, seen_from}
+use Rattle.reports.specs.declared.places.Places.{Places}
 use Rattle.reports.specs.Merges.{Passed, SawBack, Stored, AllBelowIn, Found, RowMoves, SameRoom, LinkTried, RowMerged}
 
 -- Passing the numbers below a: no number is left, the next is not below a, or it is passed.
@@ -36,16 +39,42 @@ module _ (text : List ℕ) (at a p : ℕ) (inv : drop_below a (numbers_from text
     pub next-passes : x < a → drop_below a (numbers_from text at) ≡ drop_below a (numbers_from text q)
     next-passes less = inv ∙ ap (drop_below a) (numbers-next text p x q one) ∙ dropped-less a x (numbers_from text q) less
 
--- The offset kept for b is moved, and no other.
-pub saw-back : {text offsets : List ℕ} {a b at : ℕ} {there : Bool} → b < length offsets → Passed text (offset_of offsets b) a at there
-    → SawBack text a b offsets (set offsets b at) there
-saw-back {text} {offsets} {a} {b} {at} within passed =
-    record {
-      told = passed.told;
-      moved = ap (numbers_from text) (get_or-set_same offsets b at 0 within) ∙ passed.moved;
-      kept = λ c other. ap (numbers_from text) (get_or-set_other offsets b c at 0 other);
-      room = length-set offsets b at;
-    }
+-- The place kept for b is moved, and no other.
+module _ {text : List ℕ} {places : List (Option Places)} {a b : ℕ} where
+  pub saw-none : get_or places b None ≡ None → SawBack text a b places places false
+  unfolding drop_below next_is
+  saw-none is =
+      record {
+        told = ap (λ (o : Option Places). next_is a (drop_below a (marked text (seen_mark o)))) (sym is);
+        moved = ap (λ (o : Option Places). marked text (seen_mark o)) is ∙ ap (λ (o : Option Places). drop_below a (marked text (seen_mark o))) (sym is);
+        kept = λ c other. refl;
+        aboves = λ c. refl;
+        room = refl;
+      }
+
+  pub saw-back : {kept : Places} {at : ℕ} {there : Bool} → b < length places → get_or places b None ≡ Some kept → Passed text kept.seen a at there
+      → SawBack text a b places (set places b (Some (record { seen = at; above = kept.above }))) there
+  saw-back {kept} {at} {there} within is passed =
+      record {
+        told = passed.told ∙ ap (λ (o : Option Places). next_is a (drop_below a (marked text (seen_mark o)))) (sym is);
+        moved =
+            ap (λ (o : Option Places). marked text (seen_mark o)) same
+            ∙ passed.moved
+            ∙ ap (λ (o : Option Places). drop_below a (marked text (seen_mark o))) (sym is);
+        kept = λ c other. ap (λ (o : Option Places). marked text (seen_mark o)) (get_or-set_other places b c now None other);
+        aboves = λ c. aboves c (ℕ_discrete c b);
+        room = length-set places b now;
+      }
+    where
+      now : Option Places
+      now = Some (record { seen = at; above = kept.above })
+
+      same : get_or (set places b now) b None ≡ now
+      same = get_or-set_same places b now None within
+
+      aboves : (c : ℕ) → Dec (c ≡ b) → above_of (set places b now) c ≡ above_of places c
+      aboves c (yes e) = rw (e, same, is) refl
+      aboves c (no other) = ap above_mark (get_or-set_other places b c now None other)
 
 -- A list with one more number, stored behind the others where there is room.
 stored_more : (found list : List ℕ) (x : ℕ) → Stored found list → Stored (found ++ (x ∷ [])) (set list (length found) x)
@@ -60,29 +89,30 @@ stored_more found list x inv i less within = go (ℕ_discrete i (length found))
         let before : i < length found = omega (arith, less, length-append found (x ∷ [])) in
         get_or-set_other list (length found) i x 0 other ∙ inv i before here ∙ sym (get_or-append found (x ∷ []) 0 i before)
 
-pub same-room : (offsets lows highs : List ℕ) → SameRoom offsets lows highs offsets lows highs
-same-room offsets lows highs = record { offsets_room = refl; lows_room = refl; highs_room = refl }
+pub same-room : (places : List (Option Places)) (lows highs : List ℕ) → SameRoom places lows highs places lows highs
+same-room places lows highs = record { places_room = refl; aboves = λ r. refl; lows_room = refl; highs_room = refl }
 
-pub room-then : {offsets lows highs offsets_then lows_then highs_then o l h : List ℕ} → SameRoom offsets lows highs offsets_then lows_then highs_then
-    → SameRoom offsets_then lows_then highs_then o l h → SameRoom offsets lows highs o l h
+pub room-then : {places places_then o : List (Option Places)} {lows highs lows_then highs_then l h : List ℕ} → SameRoom places lows highs places_then lows_then highs_then
+    → SameRoom places_then lows_then highs_then o l h → SameRoom places lows highs o l h
 room-then one two =
     record {
-      offsets_room = two.offsets_room ∙ one.offsets_room;
+      places_room = two.places_room ∙ one.places_room;
+      aboves = λ r. two.aboves r ∙ one.aboves r;
       lows_room = two.lows_room ∙ one.lows_room;
       highs_room = two.highs_room ∙ one.highs_room;
     }
 
 -- Asking b whether it sees a leaves the cursors right, and the answer is right.
-asked : {text : List ℕ} {a b : ℕ} {offsets after : List ℕ} {r : Bool} → SawBack text a b offsets after r → (seen : ℕ → List ℕ)
-    → Cursors seen a (seen_from text offsets) → Cursors seen a (seen_from text after) × (has (seen b) a ≡ r)
-asked {text} {a} {b} {offsets} {after} saw seen cursors = (
-  cursors-step seen (seen_from text offsets) a cursors (seen_from text after) b saw.moved saw.kept,
-  sym (sees_back seen (seen_from text offsets) a cursors b) ∙ sym saw.told,
+asked : {text : List ℕ} {a b : ℕ} {places after : List (Option Places)} {r : Bool} → SawBack text a b places after r → (seen : ℕ → List ℕ)
+    → Cursors seen a (seen_from text places) → Cursors seen a (seen_from text after) × (has (seen b) a ≡ r)
+asked {text} {a} {b} {places} {after} saw seen cursors = (
+  cursors-step seen (seen_from text places) a cursors (seen_from text after) b saw.moved saw.kept,
+  sym (sees_back seen (seen_from text places) a cursors b) ∙ sym saw.told,
 )
 
 -- The next number b of row a: it is not above a, does not see a, or makes a link.
-module _ {text : List ℕ} {a b found : ℕ} {offsets lows highs : List ℕ} where
-  pub link-skipped : b ≤ a → LinkTried text a b found offsets lows highs offsets lows highs found
+module _ {text : List ℕ} {a b found : ℕ} {places : List (Option Places)} {lows highs : List ℕ} where
+  pub link-skipped : b ≤ a → LinkTried text a b found places lows highs places lows highs found
   link-skipped less =
       record {
         row = λ left seen n rows s.
@@ -93,12 +123,11 @@ module _ {text : List ℕ} {a b found : ℕ} {offsets lows highs : List ℕ} whe
               cursors = s.cursors;
               merging = row-skips seen n a rows s.found_lows s.found_highs b left s.merging less;
             };
-        few = omega arith;
-        room = same-room offsets lows highs;
+        room = same-room places lows highs;
       }
 
-  module _ {after : List ℕ} {r : Bool} (more : a < b) (saw : SawBack text a b offsets after r) where
-    pub link-missed : r ≡ false → LinkTried text a b found offsets lows highs after lows highs found
+  module _ {after : List (Option Places)} {r : Bool} (more : a < b) (saw : SawBack text a b places after r) where
+    pub link-missed : r ≡ false → LinkTried text a b found places lows highs after lows highs found
     link-missed missed =
         record {
           row = λ left seen n rows s.
@@ -110,12 +139,11 @@ module _ {text : List ℕ} {a b found : ℕ} {offsets lows highs : List ℕ} whe
                 cursors = both.0;
                 merging = row-misses seen n a rows s.found_lows s.found_highs b left s.merging more (both.1 ∙ missed);
               };
-          few = omega arith;
-          room = record { offsets_room = saw.room; lows_room = refl; highs_room = refl };
+          room = record { places_room = saw.room; aboves = saw.aboves; lows_room = refl; highs_room = refl };
         }
 
     pub link-taken : {l h : List ℕ} → r ≡ true → l ≡ set lows found a → h ≡ set highs found b
-        → LinkTried text a b found offsets lows highs after l h (found + 1)
+        → LinkTried text a b found places lows highs after l h (found + 1)
     link-taken taken low high =
         rw (low, high)
         record {
@@ -128,8 +156,7 @@ module _ {text : List ℕ} {a b found : ℕ} {offsets lows highs : List ℕ} whe
                 cursors = both.0;
                 merging = row-takes seen n a rows s.found_lows s.found_highs b left s.merging more (both.1 ∙ taken);
               };
-          few = omega arith;
-          room = record { offsets_room = saw.room; lows_room = length-set lows found a; highs_room = length-set highs found b };
+          room = record { places_room = saw.room; aboves = saw.aboves; lows_room = length-set lows found a; highs_room = length-set highs found b };
         }
       where
         found-more : (ls hs : List ℕ) → Found found lows highs ls hs
@@ -143,37 +170,41 @@ module _ {text : List ℕ} {a b found : ℕ} {offsets lows highs : List ℕ} whe
             }
 
 -- Row a, from offset s up to offset p.
-pub record RowSoFar (text : List ℕ) (n a s found : ℕ) (offsets lows highs offsets_then lows_then highs_then : List ℕ) (p count : ℕ) : Type 0 where
-  pub row : RowMoves text a offsets lows highs found (numbers_from text s) offsets_then lows_then highs_then count (numbers_from text p)
+pub record RowSoFar (text : List ℕ) (n a s found : ℕ)
+    (places : List (Option Places)) (lows highs : List ℕ) (places_then : List (Option Places)) (lows_then highs_then : List ℕ) (p count : ℕ) : Type 0 where
+  pub row : RowMoves text a places lows highs found (numbers_from text s) places_then lows_then highs_then count (numbers_from text p)
   pub below : AllBelowIn n (numbers_from text p)
-  pub few : count ≤ 3001
-  pub room : SameRoom offsets lows highs offsets_then lows_then highs_then
+  pub room : SameRoom places lows highs places_then lows_then highs_then
 
-module _ {text : List ℕ} {n a s found : ℕ} {offsets lows highs : List ℕ} where
-  pub row-starts : AllBelowIn n (numbers_from text s) → found ≤ 3000
-      → RowSoFar text n a s found offsets lows highs offsets lows highs s found
-  row-starts below few = record { row = λ seen n rows s. s; below = below; few = omega arith; room = same-room offsets lows highs }
+module _ {text : List ℕ} {n a s found : ℕ} {places : List (Option Places)} {lows highs : List ℕ} where
+  pub row-starts : AllBelowIn n (numbers_from text s)
+      → RowSoFar text n a s found places lows highs places lows highs s found
+  row-starts below = record { row = λ seen n rows s. s; below = below; room = same-room places lows highs }
 
-  module _ {offsets_then lows_then highs_then : List ℕ} {p count : ℕ}
-      (inv : RowSoFar text n a s found offsets lows highs offsets_then lows_then highs_then p count) where
-    pub row_done : NoNumber text p → RowMerged text a s found offsets lows highs offsets_then lows_then highs_then count
-    row_done none =
-        record { left = numbers_from text p; ends = λ few. none-at text p none (length text); row = inv.row; few = inv.few; room = inv.room }
+  module _ {places_then : List (Option Places)} {lows_then highs_then : List ℕ} {p count : ℕ}
+      (inv : RowSoFar text n a s found places lows highs places_then lows_then highs_then p count) where
+    pub row_done : NoNumber text p → count ≤ 3000 → RowMerged text a (numbers_from text s) found places lows highs places_then lows_then highs_then (Ok count)
+    row_done none few =
+        let over : numbers_from text p ≡ [] = none-at text p none (length text) in
+        (few, record { row = λ seen n rows s. rw over at (inv.row seen n rows s); room = inv.room })
 
-    pub row-full : 3000 < count → RowMerged text a s found offsets lows highs offsets_then lows_then highs_then count
-    row-full many =
-        record { left = numbers_from text p; ends = λ few. absurd (omega arith); row = inv.row; few = inv.few; room = inv.room }
+    pub row-full : 3000 < count → RowMerged text a (numbers_from text s) found places lows highs places_then lows_then highs_then (Err LinkCount)
+    row-full many = (refl, record { count = count; left = numbers_from text p; many = many; read = record { row = inv.row; room = inv.room } })
 
     module _ {b q : ℕ} (one : ANumber text p b q) where
       pub next-below : b < n
       next-below = inv.below b (rw (numbers-next text p b q one) (has_here b (numbers_from text q)))
 
-      pub row-tried : {o l h : List ℕ} {r : ℕ} → count ≤ 3000 → LinkTried text a b count offsets_then lows_then highs_then o l h r
-          → RowSoFar text n a s found offsets lows highs o l h q r
-      row-tried few tried =
+      pub row-tried : {o : List (Option Places)} {l h : List ℕ} {r : ℕ} → LinkTried text a b count places_then lows_then highs_then o l h r
+          → RowSoFar text n a s found places lows highs o l h q r
+      row-tried tried =
           record {
             row = λ seen n rows s. tried.row (numbers_from text q) seen n rows (rw (numbers-next text p b q one) at (inv.row seen n rows s));
             below = λ x there. inv.below x (rw (numbers-next text p b q one) (has_there b (numbers_from text q) x there));
-            few = omega (arith, tried.few);
             room = room-then inv.room tried.room;
           }
+
+-- A row with no list of its own adds nothing.
+pub row-none : {text : List ℕ} {a found : ℕ} {places : List (Option Places)} {lows highs : List ℕ} → found ≤ 3000
+    → RowMerged text a [] found places lows highs places lows highs (Ok found)
+row-none {text} {a} {found} {places} {lows} {highs} few = (few, record { row = λ seen n rows s. s; room = same-room places lows highs })

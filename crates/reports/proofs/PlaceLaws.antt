@@ -1,5 +1,5 @@
 -- The first pass over a set, a line at a time, and the states that it leaves. Assumes nothing.
-use Rattle.std.specs.Prelude.{Ok, Err, None}
+use Rattle.std.specs.Prelude.{Option, None, Some, Ok, Err}
 use Prim.Native.Nat.{ℕ, zero, suc, ◌+◌, ◌≤◌, ◌<◌}
 use mathlib.Core.Bool.{Bool, true, false, ◌||◌}
 use mathlib.Core.List.{List, [], ◌∷◌, ◌++◌}
@@ -8,7 +8,7 @@ use native.Mathlib.Decide.{ℕ_discrete}
 use native.Mathlib.Nat.{zero-add}
 use native.Mathlib.Numerals.{add-one}
 use native.Mathlib.Omega.{arith}
-use lib.Dec.{ltb, leb}
+use lib.Dec.{leb}
 use mir.Val.{bool_byte}
 use lib.ListN.{length, get_or, set, take, replicate, length-set, length-replicate}
 use lib.Seq.{get_or-set_same, get_or-set_other, take-suc-set}
@@ -18,49 +18,49 @@ use Rattle.definitions.specs.Form.{Scan, departs, reads}
 use Rattle.definitions.specs.Reports.{Report, report_of, scan_report, top_of}
 use Rattle.definitions.specs.ReportSets.{read_reports, repeats, reporters, beyond}
 use Rattle.lists.specs.Cursors.{drop_below}
-use Rattle.lists.specs.Tables.{get_or-zeros}
 use Rattle.lists.specs.Tests.{or_right, or-false, or-none, or_turn}
 use Rattle.theory.specs.ReportPlaces.{Placed, repeats-more, beyond-more, placed-start, placed-step}
 use Rattle.text_theory.specs.ReportFitting.{not-bad}
-use Rattle.text_theory.specs.ReportTurns.{line-behind, reports-stop, reports-depart, reports-bad, reports-next, start-no-number}
+use Rattle.text_theory.specs.ReportTurns.{line-behind, reports-stop, reports-depart, reports-bad, reports-next}
 use Rattle.network.specs.declared.refusal.Refusal.TheVariants.{ReportForm, ReportRelays, RelayRange}
-use Rattle.reports.proofs.SetLaws.{set-bad, set_twice, set-far}
+use Rattle.reports.proofs.SetLaws.{some-marks, set-bad, set_twice, set-far}
 use Rattle.reports.specs.Lines.{LineTold, LineRead}
-use Rattle.reports.specs.Offsets.{numbers_from, offset_of, Started}
+use Rattle.reports.specs.Offsets.{marked, seen_mark, reports_by, seen_of, seen_from, above_from, Started}
+use Rattle.reports.specs.declared.places.Places.{Places}
 use Rattle.reports.specs.Places.{AllTold, PlacedAll}
 
--- Up to offset p: the reports read so far, and what is told and kept of them. That no number stands at offset 0 is known at the end.
-pub record Placing (text : List ℕ) (n : ℕ) (offsets starts : List ℕ) (p : ℕ) (twice far : Bool) : Type 0 where
+-- Up to offset p: the reports read so far, and what is told and kept of them.
+pub record Placing (text : List ℕ) (n : ℕ) (places : List (Option Places)) (p : ℕ) (twice far : Bool) : Type 0 where
   pub reports : List Report
   pub read : read_reports text [] 0 (length text) ≡ read_reports text reports p (length text)
-  pub twice_is : numbers_from text 0 ≡ [] → repeats (reporters reports) ≡ twice
+  pub twice_is : repeats (reporters reports) ≡ twice
   pub far_is : beyond n reports ≡ far
-  pub placed : numbers_from text 0 ≡ [] → twice ≡ false → Placed (numbers_from text) reports (offset_of offsets)
-  pub room : length offsets ≡ 1000
-  pub started : numbers_from text 0 ≡ [] → Started text offsets starts
-  pub starts_room : length starts ≡ 1000
+  pub placed : twice ≡ false → Placed (marked text) reports (seen_of places)
+  pub room : length places ≡ 1000
+  pub started : Started text places
   pub within : p ≤ length text
 
 -- At the start nothing is kept.
-pub zeros-length : (offsets : List ℕ) → offsets ≡ replicate 1000 0 → length offsets ≡ 1000
-zeros-length offsets e = ap length e ∙ length-replicate {A = ℕ} 1000 0
+none-kept : (count r : ℕ) → ◌≡◌ {A = Option Places} (get_or (replicate count None) r None) None
+none-kept zero r = refl
+none-kept (suc count) zero = refl
+none-kept (suc count) (suc r) = none-kept count r
 
-pub placing-start : (text : List ℕ) (n : ℕ) (offsets starts : List ℕ) → offsets ≡ replicate 1000 0 → starts ≡ replicate 1000 0
-    → Placing text n offsets starts 0 false false
+pub none-length : (places : List (Option Places)) → places ≡ replicate 1000 None → length places ≡ 1000
+none-length places e = ap length e ∙ length-replicate {A = Option Places} 1000 None
+
+pub placing-start : (text : List ℕ) (n : ℕ) (places : List (Option Places)) → places ≡ replicate 1000 None → Placing text n places 0 false false
 unfolding repeats reporters beyond drop_below
-placing-start text n offsets starts e s =
-    let empty : (r : ℕ) → offset_of offsets r ≡ 0 = λ r. ap (λ (l : List ℕ). get_or l r 0) e ∙ get_or-zeros 1000 r in
-    let unset : (r : ℕ) → offset_of starts r ≡ 0 = λ r. ap (λ (l : List ℕ). get_or l r 0) s ∙ get_or-zeros 1000 r in
+placing-start text n places e =
+    let empty : (r : ℕ) → get_or places r None ≡ None = λ r. ap (λ (l : List (Option Places)). get_or l r None) e ∙ none-kept 1000 r in
     record {
       reports = [];
       read = refl;
-      twice_is = λ none. refl;
+      twice_is = refl;
       far_is = refl;
-      placed = λ none once. placed-start (numbers_from text) (offset_of offsets) none empty;
-      room = zeros-length offsets e;
-      started = λ none r.
-          ap (numbers_from text) (unset r) ∙ none ∙ sym (ap (drop_below r) (ap (numbers_from text) (empty r) ∙ none));
-      starts_room = zeros-length starts s;
+      placed = λ once. placed-start (marked text) (seen_of places) refl (λ r. ap seen_mark (empty r));
+      room = none-length places e;
+      started = λ r. rw (empty r) refl;
       within = omega arith;
     }
 
@@ -77,55 +77,56 @@ module _ (text : List ℕ) (p relay serial at top next above : ℕ) (told : Line
       (omega (arith, (not-bad (report_of told.values) told.good).known, told.relay_is), behind.0, behind.1)
 
   -- What its relay sees from its own number on stands there, and so it does for the others.
-  started-more : (offsets starts : List ℕ) → length offsets ≡ 1000 → length starts ≡ 1000 → Started text offsets starts
-      → Started text (set offsets relay at) (set starts relay above)
-  started-more offsets starts room starts_room inv r = go (ℕ_discrete relay r)
+  abbrev pub now : Option Places
+  now = Some (record { seen = at; above = above })
+
+  started-more : (places : List (Option Places)) → length places ≡ 1000 → Started text places → Started text (set places relay now)
+  unfolding drop_below
+  started-more places room inv r = go (ℕ_discrete relay r)
     where
-      go : Dec (relay ≡ r)
-          → numbers_from text (get_or (set starts relay above) r 0) ≡ drop_below r (numbers_from text (get_or (set offsets relay at) r 0))
+      go : Dec (relay ≡ r) → above_from text (set places relay now) r ≡ drop_below r (seen_from text (set places relay now) r)
       go (yes e) =
           let here = line-within.0 in
-          rw (← e, get_or-set_same offsets relay at 0 (omega arith), get_or-set_same starts relay above 0 (omega arith), told.numbers) told.higher
-      go (no other) =
-          rw (get_or-set_other offsets relay r at 0 (λ e. other (sym e)), get_or-set_other starts relay r above 0 (λ e. other (sym e))) (inv r)
+          rw (← e, get_or-set_same places relay now None (omega arith), told.numbers) told.higher
+      go (no other) = rw (get_or-set_other places relay r now None (λ e. other (sym e))) (inv r)
 
-  pub placing-more : (n : ℕ) (offsets starts : List ℕ) (twice far twice_then far_then : Bool) → Placing text n offsets starts p twice far
-      → twice_then ≡ (twice || ltb 0 (offset_of offsets relay)) → far_then ≡ (far || leb n top)
-      → Placing text n (set offsets relay at) (set starts relay above) next twice_then far_then
-  placing-more n offsets starts twice far twice_then far_then inv is_twice is_far =
+  pub placing-more : (n : ℕ) (places : List (Option Places)) (twice far twice_then far_then : Bool) → Placing text n places p twice far
+      → twice_then ≡ (twice || reports_by places relay) → far_then ≡ (far || leb n top)
+      → Placing text n (set places relay now) next twice_then far_then
+  placing-more n places twice far twice_then far_then inv is_twice is_far =
       let report = report_of told.values in
       let facts = line-within in
-      let marked : numbers_from text 0 ≡ [] → twice ≡ false
-      → ltb 0 (offset_of offsets relay) ≡ has (reporters inv.reports) report.relay = λ none once.
-      (inv.placed none once).marks relay ∙ ap (has (reporters inv.reports)) (sym told.relay_is) in
+      let marked_by : twice ≡ false → reports_by places relay ≡ has (reporters inv.reports) report.relay = λ once.
+      some-marks (get_or places relay None)
+      ∙ (inv.placed once).marks relay
+      ∙ ap (has (reporters inv.reports)) (sym told.relay_is) in
       record {
         reports = inv.reports ++ (report ∷ []);
         read = inv.read ∙ reports-next text inv.reports p some told.values next told.scanned told.good;
-        twice_is = λ none.
+        twice_is =
             repeats-more inv.reports report
-            ∙ twice-more twice (ltb 0 (offset_of offsets relay)) (repeats (reporters inv.reports))
-            (has (reporters inv.reports) report.relay) (inv.twice_is none) (marked none)
+            ∙ twice-more twice (reports_by places relay) (repeats (reporters inv.reports))
+            (has (reporters inv.reports) report.relay) inv.twice_is marked_by
             ∙ sym is_twice;
         far_is =
             beyond-more n inv.reports report
             ∙ or_turn (leb n (top_of report)) (beyond n inv.reports)
             ∙ ap₂ (λ (s : Bool) (t : ℕ). s || leb n t) inv.far_is told.top_is
             ∙ sym is_far;
-        placed = λ none once.
-            let both = or-false twice (ltb 0 (offset_of offsets relay)) (sym is_twice ∙ once) in
-            placed-step (numbers_from text) inv.reports (offset_of offsets) (offset_of (set offsets relay at)) report at
-            (inv.placed none both.0) (sym (marked none both.0) ∙ both.1) told.some told.numbers
-            (ap (offset_of (set offsets relay at)) told.relay_is ∙ get_or-set_same offsets relay at 0 (omega (arith, inv.room)))
-            (λ r other. get_or-set_other offsets relay r at 0 (λ e. other (e ∙ sym told.relay_is)));
-        room = length-set offsets relay at ∙ inv.room;
-        started = λ none. started-more offsets starts inv.room inv.starts_room (inv.started none);
-        starts_room = length-set starts relay above ∙ inv.starts_room;
+        placed = λ once.
+            let both = or-false twice (reports_by places relay) (sym is_twice ∙ once) in
+            placed-step (marked text) inv.reports (seen_of places) (seen_of (set places relay now)) report (suc at)
+            (inv.placed both.0) (sym (marked_by both.0) ∙ both.1) (omega arith) told.numbers
+            (ap (seen_of (set places relay now)) told.relay_is ∙ ap seen_mark (get_or-set_same places relay now None (omega (arith, inv.room))))
+            (λ r other. ap seen_mark (get_or-set_other places relay r now None (λ e. other (e ∙ sym told.relay_is))));
+        room = length-set places relay now ∙ inv.room;
+        started = started-more places inv.room inv.started;
         within = facts.2;
       }
 
 -- A line that is out of form or bad, and the end of the text: 20 and 5, or no fault.
-module _ (text : List ℕ) (n : ℕ) (offsets starts : List ℕ) (p : ℕ) (twice far : Bool) (inv : Placing text n offsets starts p twice far) where
-  pub placing-bad : p < length text → LineRead text p None → PlacedAll text n offsets starts (Err ReportForm)
+module _ (text : List ℕ) (n : ℕ) (places : List (Option Places)) (p : ℕ) (twice far : Bool) (inv : Placing text n places p twice far) where
+  pub placing-bad : p < length text → LineRead text p None → PlacedAll text n places (Err ReportForm)
   placing-bad some bad room_lows room_highs room_states least most =
       set-bad n text room_lows room_highs room_states least most (inv.read ∙ go (scan_report text p) refl)
     where
@@ -134,33 +135,30 @@ module _ (text : List ℕ) (n : ℕ) (offsets starts : List ℕ) (p : ℕ) (twic
       go (reads values q) e = reports-bad text inv.reports p some values q e (bad values q e)
 
   module _ (over : length text ≤ p) where
-    told : AllTold text n offsets starts twice far
+    told : AllTold text n places twice far
     told =
-        let whole = inv.read ∙ reports-stop text inv.reports p over in
-        let none = start-no-number text inv.reports whole in
         record {
           reports = inv.reports;
-          read = whole;
-          twice_is = inv.twice_is none;
+          read = inv.read ∙ reports-stop text inv.reports p over;
+          twice_is = inv.twice_is;
           far_is = inv.far_is;
-          placed = inv.placed none;
+          placed = inv.placed;
           room = inv.room;
-          started = inv.started none;
-          starts_room = inv.starts_room;
+          started = inv.started;
         }
 
-    pub placing-twice : twice ≡ true → PlacedAll text n offsets starts (Err ReportRelays)
+    pub placing-twice : twice ≡ true → PlacedAll text n places (Err ReportRelays)
     placing-twice e room_lows room_highs room_states some few =
-        set_twice n text room_lows room_highs room_states some few offsets starts twice far told e
+        set_twice n text room_lows room_highs room_states some few places twice far told e
 
-    pub placing-far : twice ≡ false → far ≡ true → PlacedAll text n offsets starts (Err (RelayRange 0))
+    pub placing-far : twice ≡ false → far ≡ true → PlacedAll text n places (Err (RelayRange 0))
     placing-far once e room_lows room_highs room_states some few =
-        set-far n text room_lows room_highs room_states some few offsets starts twice far told once e
+        set-far n text room_lows room_highs room_states some few places twice far told once e
 
-    pub placing-end : twice ≡ false → far ≡ false → PlacedAll text n offsets starts (Ok tt)
+    pub placing-end : twice ≡ false → far ≡ false → PlacedAll text n places (Ok tt)
     placing-end once near = rw (once, near) at told
 
--- The state of a relay, from whether an offset is kept for it.
+-- The state of a relay, from whether places are kept for it.
 pub state-picked : (kept : Bool) → bool_byte kept ≡ pick {A = ℕ} kept 1 0
 state-picked true = refl
 state-picked false = refl

@@ -1,16 +1,17 @@
 -- What the lines of a set tell decides what it is refused for; a set with no fault is joined. Assumes nothing.
-use Rattle.std.specs.Prelude.{⊤, Result, Ok, Err}
-use Prim.Native.Nat.{ℕ, ◌≤◌}
+use Rattle.std.specs.Prelude.{⊤, Option, None, Some, Result, Ok, Err}
+use Rattle.std.specs.Option.{is_some}
+use Prim.Native.Nat.{ℕ, suc, ◌≤◌}
 use mathlib.Core.Bool.{Bool, true, false}
 use mathlib.Core.List.{List, []}
-use mathlib.Core.Path.{◌≡◌, refl, ◌∙◌, ap, subst, fun_ext}
+use mathlib.Core.Path.{◌≡◌, refl, sym, ◌∙◌, ap, subst, fun_ext}
 use native.Mathlib.Omega.{arith}
-use borrow.Author.Tests.{lt-ltb, ltb-true, ltb-false}
+use borrow.Author.Tests.{lt-ltb}
 use lib.Dec.{ltb}
-use lib.ListN.{length}
+use lib.ListN.{length, get_or}
 use Rattle.definitions.specs.Outcome.{pick, refused, done, refuse_if, and_then}
 use Rattle.definitions.specs.Lists.{table, outside}
-use Rattle.definitions.specs.Text.{sized}
+use Rattle.definitions.specs.Text.{Network, sized}
 use Rattle.definitions.specs.ReportSets.{
   read_reports,
   seen_by,
@@ -30,14 +31,16 @@ use Rattle.lists.specs.Ranges.{inside}
 use Rattle.theory.specs.ReportPlaces.{seen-ascends, seen-within}
 use Rattle.theory.specs.ReportedTable.{not_beyond}
 use Rattle.text_theory.specs.ReportRoundTrip.{reports-written}
+use Rattle.network.specs.Answers.{refusal_of}
 use Rattle.network.specs.declared.refusal.Refusal.{Refusal}
 use Rattle.text.specs.Answers.{read_outcome}
-use Rattle.text.specs.Sizes.{SizeChecked}
+use Rattle.text.specs.Sizes.{SizeChecked, links-many}
 use Rattle.text.specs.Tables.{TableRead, ReadWhole}
 use Rattle.text.specs.declared.TableSize.{TableSize}
-use Rattle.reports.specs.Offsets.{offset_of, seen_from}
+use Rattle.reports.specs.Offsets.{seen_mark, reports_by, seen_from}
+use Rattle.reports.specs.declared.places.Places.{Places}
 use Rattle.reports.specs.Places.{AllTold, StatesPut}
-use Rattle.reports.specs.Merges.{Mergeable, LinksMerged}
+use Rattle.reports.specs.Merges.{Mergeable, AllLinks, LinksMerged}
 
 -- n out of its range, a line out of form or bad, a relay that reports twice, a number not below n.
 module _ (n : ℕ) (text : List ℕ) (room_lows room_highs room_states : ℕ) where
@@ -50,7 +53,7 @@ module _ (n : ℕ) (text : List ℕ) (room_lows room_highs room_states : ℕ) wh
     unfolding reports_network refuse_if and_then
     set-bad e = rw (inside 1 1000 n some few, e)
 
-    module _ (offsets starts : List ℕ) (twice far : Bool) (told : AllTold text n offsets starts twice far) where
+    module _ (places : List (Option Places)) (twice far : Bool) (told : AllTold text n places twice far) where
       set-read : reports_network n text room_lows room_highs room_states
           ≡ refuse_if twice 20 0
           (refuse_if far 5 0
@@ -69,50 +72,72 @@ module _ (n : ℕ) (text : List ℕ) (room_lows room_highs room_states : ℕ) wh
       unfolding refuse_if
       set-far once e = set-read ∙ rw (once, e)
 
+-- Places are kept exactly where their mark is not 0.
+pub some-marks : (kept : Option Places) → is_some kept ≡ ltb 0 (seen_mark kept)
+some-marks None = refl
+some-marks (Some kept) = sym (lt-ltb 0 (suc kept.seen) (omega arith))
+
 -- What is answered once the size is checked.
 abbrev pub table_of : (n m : ℕ) → Result ⊤ Refusal → Result TableSize Refusal
 table_of n m (Ok _) = Ok (record { relays = n; links = m })
 table_of n m (Err refusal) = Err refusal
 
-module _ (text : List ℕ) (n : ℕ) (offsets starts : List ℕ) (some : 1 ≤ n) (few : n ≤ 1000) (told : AllTold text n offsets starts false false) where
-  pub set-merges : Mergeable text n offsets starts
+module _ (text : List ℕ) (n : ℕ) (places : List (Option Places)) (some : 1 ≤ n) (few : n ≤ 1000) (told : AllTold text n places false false) where
+  pub set-merges : Mergeable text n places
   set-merges =
       let reports = told.reports in
       let holds = (told.placed refl).holds in
       record {
         few = few;
         room = told.room;
-        starts_room = told.starts_room;
         started = told.started;
         ascends = λ b. rw (holds b) (seen-ascends reports (reports-written text reports told.read).0 b);
         below = λ b x h. seen-within n reports (not_beyond n reports told.far_is) b x (rw (holds b) at h);
       }
 
-  states-same : table (λ r. pick (ltb 0 (offset_of offsets r)) 1 0) 0 n ≡ table (reported_state told.reports) 0 n
+  states-same : table (λ r. pick (reports_by places r) 1 0) 0 n ≡ table (reported_state told.reports) 0 n
   unfolding reported_state
   states-same =
-      ap (λ (f : ℕ → ℕ). table f 0 n) (fun_ext λ r. ap (λ (t : Bool). pick {A = ℕ} t 1 0) ((told.placed refl).marks r))
+      ap (λ (f : ℕ → ℕ). table f 0 n) (fun_ext λ r. ap (λ (t : Bool). pick {A = ℕ} t 1 0) (some-marks (get_or places r None) ∙ (told.placed refl).marks r))
 
-  module _ (lows highs states lows_then highs_then states_then : List ℕ) (m : ℕ) (put : StatesPut offsets n states states_then)
-      (links : LinksMerged (seen_from text offsets) n lows highs lows_then highs_then m) where
-    merged : LinksMerged (seen_by told.reports) n lows highs lows_then highs_then m
+  -- Over 3,000 links.
+  pub set-many : (lows highs states lows_then highs_then states_then : List ℕ) (refusal : Refusal) → StatesPut places n states states_then
+      → LinksMerged (seen_from text places) n lows highs lows_then highs_then (Err refusal)
+      → TableRead (reports_network n text (length lows) (length highs) (length states)) lows highs states lows_then highs_then states_then (Err refusal)
+  unfolding reported_network reported_link see_each_other
+  set-many lows highs states lows_then highs_then states_then refusal put links =
+      let merged =
+      subst (λ (seen : ℕ → List ℕ). LinksMerged seen n lows highs lows_then highs_then (Err refusal)) (fun_ext (told.placed refl).holds) links in
+      let network = reported_network n told.reports in
+      let number : refusal_of {A = Network} refusal ≡ refused 4 0 = ap (refusal_of {A = Network}) merged.told.0 in
+      let checked =
+      links-many n (length network.lows) (length lows) (length highs) (length states) refusal number (inside 1 1000 n some few) merged.told.1 in
+      record {
+        network =
+            set-read n text (length lows) (length highs) (length states) some few places false false told
+            ∙ refuse-not false 20 0 _ refl
+            ∙ refuse-not false 5 0 _ refl
+            ∙ checked.decides (done network);
+        low_room = omega arith;
+        high_room = omega arith;
+        state_room = omega arith;
+        same_lows = links.same_lows;
+        same_highs = links.same_highs;
+        same_states = put.size;
+      }
+
+  module _ (lows highs states lows_then highs_then states_then : List ℕ) (m : ℕ) (put : StatesPut places n states states_then)
+      (links : LinksMerged (seen_from text places) n lows highs lows_then highs_then (Ok m)) where
+    merged : AllLinks (seen_by told.reports) n lows highs lows_then highs_then m
     merged =
-        subst (λ (seen : ℕ → List ℕ). LinksMerged seen n lows highs lows_then highs_then m) (fun_ext (told.placed refl).holds) links
+        subst (λ (seen : ℕ → List ℕ). AllLinks seen n lows highs lows_then highs_then m) (fun_ext (told.placed refl).holds) links.told
 
-    -- Over 3,000 links are refused as one over that is.
     set-sized : reports_network n text (length lows) (length highs) (length states)
         ≡ sized n m (length lows_then) (length highs_then) (length states_then) (done (reported_network n told.reports))
     unfolding reported_network reported_link see_each_other refuse_if
     set-sized =
-        set-read n text (length lows) (length highs) (length states) some few offsets starts false false told
-        ∙ rw (links.same_lows, links.same_highs, put.size) (go (ltb 3000 m) refl)
-      where
-        go : (t : Bool) → ltb 3000 m ≡ t
-            → sized n (length (reported_network n told.reports).lows) (length lows) (length highs) (length states)
-            (done (reported_network n told.reports))
-            ≡ sized n m (length lows) (length highs) (length states) (done (reported_network n told.reports))
-        go true e = rw (e, lt-ltb 3000 (length (reported_network n told.reports).lows) (merged.many (ltb-true 3000 m e)))
-        go false e = rw (merged.counted (ltb-false 3000 m e))
+        set-read n text (length lows) (length highs) (length states) some few places false false told
+        ∙ rw (links.same_lows, links.same_highs, put.size, merged.counted)
 
     pub set-joined : (r : Result ⊤ Refusal) → SizeChecked n m (length lows_then) (length highs_then) (length states_then) r
         → TableRead (reports_network n text (length lows) (length highs) (length states)) lows highs states lows_then highs_then states_then
@@ -135,8 +160,8 @@ module _ (text : List ℕ) (n : ℕ) (offsets starts : List ℕ) (some : 1 ≤ n
               set-sized
               ∙ checked.decides (done (reported_network n told.reports))
               ∙ rw (
-                merged.lows_are room.short (omega (arith, room.in_lows, links.same_lows)),
-                merged.highs_are room.short (omega (arith, room.in_highs, links.same_highs)),
+                merged.lows_are (omega (arith, room.in_lows, links.same_lows)),
+                merged.highs_are (omega (arith, room.in_highs, links.same_highs)),
                 put.states (omega (arith, room.in_states, put.size)) ∙ states-same,
               );
           low_room = room.in_lows;

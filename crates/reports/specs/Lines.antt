@@ -1,5 +1,6 @@
 -- What reading a report line answers: it is out of form or bad, or what stands in it and where. Assumes nothing.
-use Rattle.std.specs.Prelude.{ℕ, Option, None, Some, ◌-◌, ◌≤◌, ◌<◌, true, false, List, [], ◌∷◌, ◌≡◌, length}
+use Rattle.std.specs.Prelude.{ℕ, Option, None, Some, ◌≤◌, ◌<◌, true, false, List, [], ◌∷◌, ◌≡◌, length}
+use Rattle.std.specs.Option.{unwrap_or}
 use Rattle.definitions.specs.Lists.{greatest}
 use Rattle.definitions.specs.Form.{reads, scan_more, scan_form}
 use Rattle.definitions.specs.Reports.{Report, report_of, report_front, scan_serial, scan_report, top_of, bad_report}
@@ -12,13 +13,12 @@ use Rattle.reports.specs.declared.line.Report as line
 abbrev pub reporting : (relay serial : ℕ) (sees : List ℕ) → Report
 reporting relay serial sees = record { relay = relay; serial = serial; sees = sees }
 
--- Those seen from offset t on, up to p, make a good report of a relay and a serial that are in their ranges. The next one would be at
--- least `least`: one more than the last of them, or 0 after none.
-pub record SeenEnds (text : List ℕ) (relay t least p above : ℕ) : Type 0 where
+-- Those seen from offset t on, up to p, make a good report of a relay and a serial that are in their ranges. `greatest` of none is 0.
+pub record SeenEnds (text : List ℕ) (relay t : ℕ) (last : Option ℕ) (p above : ℕ) : Type 0 where
   pub sees : List ℕ
   pub scanned : scan_more text t (length text) ≡ reads sees p
   pub good : (serial : ℕ) → relay ≤ 999 → serial ≤ 4294967295 → bad_report (reporting relay serial sees) ≡ false
-  pub last_is : greatest sees ≡ least - 1
+  pub last_is : greatest sees ≡ unwrap_or last 0
   pub higher : numbers_at text above (length text) ≡ drop_below relay (numbers_at text t (length text))
 
 -- Whatever is read of those seen, the report is bad; nothing can be read where the text departs.
@@ -28,7 +28,7 @@ SeenBad text relay t =
 
 abbrev pub SeenRead : (text : List ℕ) (relay t : ℕ) → Option Seen → Type 0
 SeenRead text relay t None = SeenBad text relay t
-SeenRead text relay t (Some seen) = SeenEnds text relay t seen.least seen.next seen.above
+SeenRead text relay t (Some seen) = SeenEnds text relay t seen.last seen.next seen.above
 
 -- A report line from offset p on that was read: its report is good, what it sees stands from offset `at` on, and what is not below its
 -- relay from offset `above` on.

@@ -1,20 +1,45 @@
--- What is kept of a set: where those that each relay sees begin, and where those above it do. Assumes nothing.
-use Rattle.std.specs.Prelude.{ℕ, List, ◌≡◌, length, get_or}
+-- What is kept of a set: where those that each relay sees begin, and where those above it do; nothing of a relay that has not reported.
+-- Assumes nothing.
+use Rattle.std.specs.Prelude.{ℕ, zero, suc, Bool, Option, None, Some, List, [], ◌≡◌, length, get_or}
+use Rattle.std.specs.Option.{is_some}
 use Rattle.lists.specs.Cursors.{drop_below}
 use Rattle.text_theory.specs.SpacedNumbers.{numbers_at}
+use Rattle.reports.specs.declared.places.Places.{Places}
 
 -- The numbers that stand in a text from an offset on.
 abbrev pub numbers_from : (text : List ℕ) (p : ℕ) → List ℕ
 numbers_from text p = numbers_at text p (length text)
 
--- The offset that is kept for a relay.
-abbrev pub offset_of : (offsets : List ℕ) (r : ℕ) → ℕ
-offset_of offsets r = get_or offsets r 0
+-- An offset that may be missing, as one number: 0, or one more than the offset; and what stands there.
+abbrev pub marked : (text : List ℕ) (mark : ℕ) → List ℕ
+marked text zero = []
+marked text (suc p) = numbers_from text p
 
--- What stands from the offset kept for a relay on.
-abbrev pub seen_from : (text offsets : List ℕ) (b : ℕ) → List ℕ
-seen_from text offsets b = numbers_from text (offset_of offsets b)
+abbrev pub seen_mark : Option Places → ℕ
+seen_mark None = 0
+seen_mark (Some kept) = suc kept.seen
 
--- From the second offset that is kept for a relay on stands what it sees from its own number on.
-abbrev pub Started : (text offsets starts : List ℕ) → Type 0
-Started text offsets starts = (r : ℕ) → numbers_from text (offset_of starts r) ≡ drop_below r (seen_from text offsets r)
+abbrev pub above_mark : Option Places → ℕ
+above_mark None = 0
+above_mark (Some kept) = suc kept.above
+
+-- Of relay r: whether places are kept, and where.
+abbrev pub reports_by : (places : List (Option Places)) (r : ℕ) → Bool
+reports_by places r = is_some (get_or places r None)
+
+abbrev pub seen_of : (places : List (Option Places)) (r : ℕ) → ℕ
+seen_of places r = seen_mark (get_or places r None)
+
+abbrev pub above_of : (places : List (Option Places)) (r : ℕ) → ℕ
+above_of places r = above_mark (get_or places r None)
+
+-- What stands from the places kept for a relay on.
+abbrev pub seen_from : (text : List ℕ) (places : List (Option Places)) (b : ℕ) → List ℕ
+seen_from text places b = marked text (seen_of places b)
+
+abbrev pub above_from : (text : List ℕ) (places : List (Option Places)) (b : ℕ) → List ℕ
+above_from text places b = marked text (above_of places b)
+
+-- From the second place that is kept for a relay on stands what it sees from its own number on.
+abbrev pub Started : (text : List ℕ) (places : List (Option Places)) → Type 0
+Started text places = (r : ℕ) → above_from text places r ≡ drop_below r (seen_from text places r)

@@ -20,26 +20,25 @@ mod places;
 use merge::merge;
 use network::Refusal;
 use network::limits::{RELAY_ROOM, RELAYS};
-use places::{place_all, put_states};
+use places::{Places, place_all, put_states};
 use text::{TableSize, clear_behind, size_check};
 
 // The table of reports of different relays below n, whose places are kept. Past the room of a list its entries are only counted.
 fn join(
     text: &[u8],
     n: u16,
-    offsets: &mut [usize],
-    starts: &[usize],
+    places: &mut [Option<Places>],
     lows: &mut [u16],
     highs: &mut [u16],
     states: &mut [u16],
 ) -> Result<TableSize, Refusal>
-    requires { (1 ≤ n) × (n ≤ 1000) × AllTold text.now n offsets.old starts.now false false }
+    requires { (1 ≤ n) × (n ≤ 1000) × AllTold text.now n places.old false false }
     ensures { TableRead (reports_network n text.now (length lows.old) (length highs.old)
         (length states.old)) lows.old highs.old states.old lows.new
         highs.new states.new result }
 {
-    put_states(offsets, n, states);
-    let links = merge(text, n, offsets, starts, lows, highs);
+    put_states(places, n, states);
+    let links = merge(text, n, places, lows, highs)?;
     let size = TableSize { relays: n, links };
     size_check(size, lows.len(), highs.len(), states.len())?;
     Ok(size)
@@ -60,11 +59,9 @@ fn reports_table(
     if n < 1 || RELAYS < n {
         return Err(Refusal::RelayCount);
     }
-    // Nothing is kept of any relay yet: those seen never begin at offset 0.
-    let mut offsets = [0; RELAY_ROOM];
-    let mut starts = [0; RELAY_ROOM];
-    place_all(text, n, &mut offsets, &mut starts)?;
-    join(text, n, &mut offsets, &starts, lows, highs, states)
+    let mut places = [None; RELAY_ROOM];
+    place_all(text, n, &mut places)?;
+    join(text, n, &mut places, lows, highs, states)
 }
 
 // Takes a set of reports as a table.

@@ -12,11 +12,10 @@ use text::scan::Departure;
 // The relays over this number are refused.
 const HIGHEST_RELAY: u16 = 999;
 
-// Those that a report sees, read: one more than the last of them, 0 after none, the offset after them, and the offset where those above
-// its relay begin.
+// Those that a report sees, read: the last of them, the offset after them, and the offset where those above its relay begin.
 #[derive(Clone, Copy, PartialEq, Eq)]
 struct Seen {
-    least: u16,
+    last: Option<u16>,
     next: usize,
     above: usize,
 }
@@ -48,21 +47,21 @@ fn read_seen(text: &[u8], relay: u16, at: usize) -> Option<Seen>
     ensures { SeenRead text.now relay at result }
 {
     let mut p = at;
-    let mut least: u16 = 0;
+    let mut last: Option<u16> = None;
     let mut above = at;
     while scan::byte(text, p) == b' ' {
         let (x, q) = scan::number(text, p + 1).ok()?;
-        if x < least || x == relay || HIGHEST_RELAY < x {
+        if last.is_some_and(|last| x <= last) || x == relay || HIGHEST_RELAY < x {
             return None;
         }
         if x < relay {
             above = q;
         }
-        least = x + 1;
+        last = Some(x);
         p = q;
     }
     Some(Seen {
-        least,
+        last,
         next: p,
         above,
     })
@@ -80,7 +79,7 @@ fn tail(text: &[u8], relay: u16, serial: u32, at: usize) -> Option<Report>
         relay: Relay(relay),
         serial,
         seen: start,
-        top: Relay(relay.max(seen.least.saturating_sub(1))),
+        top: Relay(relay.max(seen.last.unwrap_or(0))),
         next,
         above: seen.above,
     })

@@ -1,19 +1,21 @@
 // The first pass over a set: each line is read, and for its relay is kept where those that it sees begin, and where those above it do.
-ghost use Rattle.std.specs.Prelude.{◌≡◌, ◌≤◌, length, replicate};
+ghost use Rattle.std.specs.Prelude.{◌≡◌, ◌≤◌, length, replicate, Option, None};
 ghost use Rattle.reports.specs.Places.{PlacedAll, StatesPut};
 
 use crate::line::report_line;
 use network::Refusal;
 
+// Of a relay that reports: the offset where those that it sees begin, and where those above it do.
+#[derive(Clone, Copy)]
+pub(crate) struct Places {
+    pub seen: usize,
+    pub above: usize,
+}
+
 // All the lines of a set: each is to be a report, no relay is to report twice, and no number is to be n or more, in this order.
-pub(crate) fn place_all(
-    text: &[u8],
-    n: u16,
-    offsets: &mut [usize],
-    starts: &mut [usize],
-) -> Result<(), Refusal>
-    requires { (offsets.old ≡ replicate 1000 0) × (starts.old ≡ replicate 1000 0) }
-    ensures { PlacedAll text.now n offsets.new starts.new result }
+pub(crate) fn place_all(text: &[u8], n: u16, places: &mut [Option<Places>]) -> Result<(), Refusal>
+    requires { places.old ≡ replicate 1000 None }
+    ensures { PlacedAll text.now n places.new result }
 {
     let mut p: usize = 0;
     let mut twice = false;
@@ -24,10 +26,12 @@ pub(crate) fn place_all(
             return Err(Refusal::ReportForm);
         };
         let relay = report.relay.0 as usize;
-        twice |= 0 < offsets[relay];
+        twice |= places[relay].is_some();
         beyond |= n <= report.top.0;
-        offsets[relay] = report.seen;
-        starts[relay] = report.above;
+        places[relay] = Some(Places {
+            seen: report.seen,
+            above: report.above,
+        });
         p = report.next;
     }
     if twice {
@@ -40,15 +44,15 @@ pub(crate) fn place_all(
 }
 
 // The states of n relays, as far as the list goes: in service, with 1, are those that report.
-pub(crate) fn put_states(offsets: &[usize], n: u16, states: &mut [u16])
-    requires { (n ≤ 1000) × (length offsets.now ≡ 1000) }
-    ensures { StatesPut offsets.now n states.old states.new }
+pub(crate) fn put_states(places: &[Option<Places>], n: u16, states: &mut [u16])
+    requires { (n ≤ 1000) × (length places.now ≡ 1000) }
+    ensures { StatesPut places.now n states.old states.new }
 {
     let count = n as usize;
     if states.len() < count {
         return;
     }
     for r in 0..count {
-        states[r] = u16::from(0 < offsets[r]);
+        states[r] = u16::from(places[r].is_some());
     }
 }

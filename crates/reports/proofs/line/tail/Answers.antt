@@ -1,5 +1,6 @@
 -- `reports::line::tail` meets its contract: a word departs, those seen are bad, or it is the rest of a good line.
-use Rattle.std.proofs.Common.{refl, arith}
+use Prim.Native.Nat.{max}
+use Rattle.std.proofs.Common.{refl, ◌∙◌, ap, arith}
 use Rattle.text_theory.specs.Forms.{no_zero}
 use Rattle.text_theory.specs.ReportParts.{name-departs, end-departs}
 use Rattle.text.specs.Scans.{word_gives}
@@ -42,4 +43,4 @@ returns c p u front number =
     let name = read-so word_gives c.word.result c.word.ensures _ c.in_ok-start.ensures.value in
     let end = read-so word_gives c.word-2.result c.word-2.ensures _ c.in_ok-next.ensures.value in
     line-told c.args.text.now p front number name c.requires (omega arith) c.in_ok-seen.ensures end
-    (omega (arith, c.max.ensures, c.saturating_sub.ensures))
+    (c.max.ensures ∙ ap (max _) c.unwrap_or.ensures)

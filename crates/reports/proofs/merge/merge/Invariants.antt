@@ -4,4 +4,4 @@ use Rattle.reports.proofs.merge.merge.Given as goal
 
 abbrev pub invariant-loop-a : goal.invariant-loop-a
 invariant-loop-a l =
-    LinksSoFar l.text l.n l.initial.offsets l.initial.lows l.initial.highs l.offsets l.lows l.highs l.count l.a
+    LinksSoFar l.text l.n l.initial.places l.initial.lows l.initial.highs l.places l.lows l.highs l.count l.a

@@ -6,7 +6,7 @@ use Rattle.reports.proofs.merge.merge_row.Given as goal
 
 abbrev pub invariant-loop-count : goal.invariant-loop-count
 invariant-loop-count l =
-    RowSoFar l.text (length l.initial.offsets) l.a.0 l.start l.found l.initial.offsets l.initial.lows l.initial.highs l.offsets l.lows l.highs l.p l.count
+    RowSoFar l.text (length l.initial.places) l.a.0 l.start l.found l.initial.places l.initial.lows l.initial.highs l.places l.lows l.highs l.p l.count
 
 abbrev pub decreases-loop-count : goal.decreases-loop-count
 decreases-loop-count l = length l.text - l.p

@@ -6,9 +6,9 @@ use Rattle.reports.proofs.merge.try_link.Goals.{then-b-a-via-then-b-a, then-b-a-
 
 pub returns-then-b-a : goal.returns-then-b-a
 returns-then-b-a c = elim c.then-b-a.branch [
-  | then-b-a-via-then-b-a w ↦ rw w.offsets-is (link-skipped w.if-b-a.true)
+  | then-b-a-via-then-b-a w ↦ rw w.places-is (link-skipped w.if-b-a.true)
   | then-b-a-via-else-b-a+then-not-sees_back w ↦
-      rw w.offsets-is (link-missed (omega (arith, w.if-b-a.false)) w.sees_back.ensures w.if-not-sees_back.true)
+      rw w.places-is (link-missed (omega (arith, w.if-b-a.false)) w.sees_back.ensures w.if-not-sees_back.true)
 ]
 
 pub returns : goal.returns

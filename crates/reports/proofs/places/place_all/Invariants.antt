@@ -5,7 +5,7 @@ use Rattle.reports.proofs.PlaceLaws.{Placing}
 use Rattle.reports.proofs.places.place_all.Given as goal
 
 abbrev pub invariant-loop-p : goal.invariant-loop-p
-invariant-loop-p l = Placing l.text l.n l.offsets l.starts l.p l.twice l.beyond
+invariant-loop-p l = Placing l.text l.n l.places l.p l.twice l.beyond
 
 abbrev pub decreases-loop-p : goal.decreases-loop-p
 decreases-loop-p l = length l.text - l.p
