@@ -68,10 +68,12 @@ pub fn put_number(buffer: &mut [u8], at: usize, x: usize) -> usize
 {
     let next = at + width(x);
     let mut tens = x;
-    for p in (at..next).rev() {
+    for p in (at + 1..next).rev() {
         buffer[p] = b'0' + (tens % 10) as u8;
         tens /= 10;
     }
+    // The first digit is left, and needs no division.
+    buffer[at] = b'0' + tens as u8;
     next
 }
 
