@@ -2,8 +2,8 @@
  * link reports, numbers pairs, orders the relays, splits the links into forests and cuts them down to those worth keeping, finds routes
  * that share only their ends and the links that they run over, prints sheets of such routes and lists of such links, and says whether a
  * sheet holds.
- * Link libnolkisei.a (rt lib, in crates/nolkisei). Of libc it needs memcpy and memmove and memset alone; it allocates nothing and keeps
- * nothing between calls.
+ * Link libnolkisei.a (rt lib, in crates/nolkisei). Of libc it needs memcpy and memset alone; it allocates nothing and keeps nothing between
+ * calls.
  *
  * A network has n relays, numbered from 0, and m links, each between two different relays and no two between the same. A table
  * is two lists, lows and highs: link i joins relay lows[i] to relay highs[i], lows[i] below highs[i]. i, counted from 0, is the

@@ -57,7 +57,8 @@ echo 'fn last' >>"$copy/crates/lower/src/lib.rt" && touch -d '-1 year' "$copy/cr
 built 'an edit after that, with an older date' 'run planner'
 
 # What is said, and where an edit comes while it builds.
-rm "$copy/target/bin/planner" && echo 3 >"$room/takes/upper" && echo 12 >"$room/takes/planner"
+# Half a second more than what is due, since the whole seconds are counted from when the first line is read.
+rm "$copy/target/bin/planner" && echo 3.5 >"$room/takes/upper" && echo 12.5 >"$room/takes/planner"
 ask "$copy/nolkisei" plan 4 1 1 -m.net
 rm "$room"/takes/*
 same 'what is said of a build' "nolkisei: building planner, some minutes, once (the kit's own words go to $copy/target/build.log)

@@ -5,7 +5,7 @@ ghost use Rattle.std.specs.Prelude.{suc, ◌<◌, ◌≡◌, length, set};
 ghost use Rattle.forests.specs.Left.{left_index, Enterable, entered, end_entered, LeftOfSome, LeftOfEach};
 
 use crate::scan::place_of;
-use network::{Network, Place, Relay, Table};
+use network::{Place, Relay, Table};
 
 // Link `link` leads from v to left(forest, v): the one place that writes entries.
 fn put_left(table: &mut [u16], n: u16, forest: u16, v: Place, link: usize)
@@ -44,15 +44,15 @@ fn enter_link(
     }
 }
 
-// The left table of an accepted network, from the places and the forest numbers that the scan gives, into zeros.
-pub fn left_table(table: &mut [u16], network: Network, k: u16, places: &[u16], forests: &mut [u16])
-    requires { LeftOfSome network.table.n k network.table.lows.now network.table.highs.now
-        places.now forests.old table.old }
-    ensures { LeftOfEach network.entry.table.n k network.entry.table.lows.now network.entry.table.highs.now
-        places.now forests.old table.old table.new forests.new }
+// The left table of an accepted network, from the places and the forest numbers that the scan gives, into zeros. Of the network's
+// table the states are not read: the condition is over any list of states.
+pub fn left_table(entries: &mut [u16], table: Table, k: u16, places: &[u16], forests: &mut [u16])
+    requires { LeftOfSome table.n k table.lows.now table.highs.now places.now forests.old entries.old }
+    ensures { LeftOfEach table.entry.n k table.entry.lows.now table.entry.highs.now
+        places.now forests.old entries.old entries.new forests.new }
 {
-    let Table { n, lows, highs, .. } = network.table;
+    let Table { n, lows, highs, .. } = table;
     for i in 0..lows.len() {
-        enter_link(table, n, k, i, lows, highs, places, forests);
+        enter_link(entries, n, k, i, lows, highs, places, forests);
     }
 }

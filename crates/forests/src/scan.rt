@@ -9,7 +9,7 @@ use network::limits::{
     FEW_LINKS, FEW_RELAY_ROOM, FEW_RELAYS, FEWEST_LINKS, FEWEST_RELAY_ROOM, FEWEST_RELAYS,
     LINK_ROOM, RELAY_ROOM,
 };
-use network::{Network, Place, Relay, Table};
+use network::{Network, Place, Relay};
 
 // The two halves of each link.
 const HALVES: usize = 2 * LINK_ROOM;
@@ -27,10 +27,10 @@ pub fn place_of(places: &[u16], r: Relay) -> Place
 }
 
 // A small network is worked on in small arrays, so that little is cleared.
-pub fn is_small(table: Table) -> bool
-    ensures { result ≡ is_small table.entry.n (length table.entry.lows.now) }
+pub fn is_small(n: u16, m: usize) -> bool
+    ensures { result ≡ is_small n m }
 {
-    table.n <= FEW_RELAYS && table.lows.len() <= FEW_LINKS
+    n <= FEW_RELAYS && m <= FEW_LINKS
 }
 
 // The scan in arrays for so many relays, halves of links and words of bits.
@@ -77,7 +77,7 @@ pub fn scan(network: Network, relays: &mut [u16], places: &mut [u16], forests: &
         scan_sized::<FEWEST_RELAY_ROOM, FEWEST_HALVES, COLUMN_WORDS>(
             network, relays, places, forests,
         );
-    } else if is_small(table) {
+    } else if is_small(table.n, table.lows.len()) {
         scan_sized::<FEW_RELAY_ROOM, FEW_HALVES, FEW_WORDS>(network, relays, places, forests);
     } else {
         scan_sized::<RELAY_ROOM, HALVES, MOST_WORDS>(network, relays, places, forests);

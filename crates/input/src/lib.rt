@@ -2,7 +2,7 @@
 // complains. The programs name neither read nor write: tests/streams reads their text for it, since each has the runtime.
 #![tactic(auto)]
 
-ghost use Rattle.std.specs.Prelude.{◌≡◌, length, IfOk, None};
+ghost use Rattle.std.specs.Prelude.{◌≡◌, length, IfErr, IfOk, None};
 ghost use Rattle.definitions.specs.Program.{input_room};
 ghost use Rattle.input.specs.Counts.{IsPrefixLen};
 ghost use Rattle.input.specs.declared.arrived.End.TheVariants.{Full};
@@ -12,9 +12,8 @@ ghost use Rattle.input.specs.Whole.{long_input_room, set_input_room};
 mod arrived;
 mod output;
 
-use arrived::{Arrived, End, ReadFailure};
-pub use output::Feature;
-use output::{complain, complain_of_length, hand_over};
+pub use arrived::{Arrived, End, ReadFailure};
+pub use output::{Feature, complain, complain_of_length, hand_over};
 use std::io::Stdin;
 
 // Three functions and not one with a length to choose: each contract ties its length to the definition that the programs' answers rest on.
@@ -82,8 +81,9 @@ pub fn answer<'a, F: FnOnce(&[u8]) -> &'a [u8]>(
 }
 
 // Reads until the buffer is full, the input ends or a read fails. How many reads that takes only the reads tell, so there is no range.
-fn read_all(stdin: &mut Stdin, buffer: &mut [u8]) -> Result<Arrived, ReadFailure>
+pub fn read_all(stdin: &mut Stdin, buffer: &mut [u8]) -> Result<Arrived, ReadFailure>
     ensures within { IfOk result (λ arrived. IsPrefixLen arrived.count buffer.new) }
+    ensures failed { IfErr result (λ failure. IsPrefixLen failure.count buffer.new) }
     ensures full { IfOk result (λ arrived. arrived.end ≡ Full → arrived.count ≡ length buffer.old) }
 {
     let mut size = 0;

@@ -36,7 +36,7 @@ pub fn keep_into(input: &[u8], output: &mut [u8]) -> Result<usize, Refusal>
     ensures answer { print_outcome result ≡ print_answer (keep_text input.now) output.old }
     ensures bytes { output.new ≡ output_after (keep_text input.now) output.old }
 {
-    let mut room = [0; rooms::OUTPUT];
+    let mut room = rooms::output();
     let size = keep(input, &mut room);
     print_into(&room[..size], output)
 }

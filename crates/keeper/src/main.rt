@@ -7,7 +7,7 @@ ghost use Rattle.definitions.specs.Keep.{keep_text};
 use input::{Complaints, Feature};
 
 fn main(rt: HostRuntime) {
-    let mut output = [0; keep::rooms::OUTPUT];
+    let mut output = keep::rooms::output();
     let complaints = Complaints {
         unreadable: b"keeper: standard input cannot be read\n",
         too_long: None,

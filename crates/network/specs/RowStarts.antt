@@ -1,7 +1,7 @@
 -- The rule of a table of row starts, and the test that shows it of a whole table. Assumes nothing.
-use Rattle.std.specs.Prelude.{ℕ, zero, suc, ◌+◌, ◌≤◌, ◌<◌, Bool, true, ◌&&◌, List, [], ◌∷◌, ◌≡◌, eqb, length, get_or, take}
-use Rattle.std.proofs.Common.{◌∙◌, ap, zero-add, arith, eqb-true}
-use Rattle.std.proofs.lemmas.List.{length-take, get_or-take}
+use Rattle.std.specs.Prelude.{ℕ, zero, suc, ◌+◌, ◌≤◌, ◌<◌, Bool, true, false, ◌&&◌, List, [], ◌∷◌, ◌≢◌, ◌≡◌, refl, eqb, length, get_or, set}
+use Rattle.std.proofs.Common.{sym, ◌∙◌, ap, zero-add, arith, eqb-true, length-set, get_or-set_same, get_or-set_other}
+use Rattle.std.proofs.lemmas.Bool.{eqb-false}
 use Rattle.std.proofs.Props.{props}
 use Rattle.definitions.specs.Network.{row_start}
 use Rattle.lists.specs.Tests.{and_both}
@@ -20,11 +20,24 @@ pub rows-fewer : (n k : ℕ) (rows : List ℕ) → n ≤ k → RowsFor k rows �
 unfolding RowsFor
 rows-fewer n k rows h r = (omega (arith, r.0), λ b l. r.1 b (omega arith))
 
--- So will the front of them.
-pub rows-taken : (n : ℕ) (rows : List ℕ) → n ≤ 1000 → RowsFor 1000 rows → RowsFor n (take n rows)
+pub rows_none : (rows : List ℕ) → RowsFor 0 rows
 unfolding RowsFor
-rows-taken n rows h r =
-    (omega (arith, length-take n rows, r.0), λ b l. get_or-take n rows b 0 l ∙ r.1 b (omega arith))
+rows_none rows = (omega arith, λ b h. absurd (omega arith))
+
+-- An entry more, taken from a table that has it.
+pub rows_next : (b : ℕ) (rows front : List ℕ) → RowsFor (b + 1) rows → RowsFor b front → b < length front
+    → RowsFor (b + 1) (set front b (get_or rows b 0))
+unfolding RowsFor
+rows_next b rows front r f l = (omega (arith, length-set front b (get_or rows b 0)), λ i h. go i h (eqb i b) refl)
+  where
+    go : (i : ℕ) → i < b + 1 → (same : Bool) → eqb i b ≡ same → get_or (set front b (get_or rows b 0)) i 0 ≡ row_start i
+    go i h true e =
+        let at : i ≡ b = eqb-true i b e in
+        ap (λ (j : ℕ). get_or (set front b (get_or rows b 0)) j 0) at ∙ get_or-set_same front b (get_or rows b 0) 0 l ∙ r.1 b (omega arith)
+        ∙ ap row_start (sym at)
+    go i h false e =
+        let apart : i ≢ b = eqb-false i b e in
+        get_or-set_other front b i (get_or rows b 0) 0 apart ∙ f.1 i (omega arith)
 
 -- The test: each entry is the row start of its index, and the first has index b.
 unfoldable pub starts_from : ℕ → List ℕ → Bool

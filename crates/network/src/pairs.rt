@@ -35,6 +35,7 @@ impl<'a> PairMarks<'a> {
         requires { RoomFor self.old.n self.old.seen.now × (a.0 < b.0) × (b.0 < self.old.n) }
         ensures checked { LinkChecked self.old.n a.0 b.0 self.old.seen.now self.new.seen.now result }
         ensures same { self.new.n ≡ self.old.n }
+        ensures same_marks { self.new.seen.ghost_name ≡ self.old.seen.ghost_name }
     {
         let pair = pair_index(a, b, self.rows) as usize;
         let word = pair / 64;
@@ -53,6 +54,7 @@ impl<'a> PairMarks<'a> {
         requires { RoomFor self.old.n self.old.seen.now }
         ensures checked { LinkChecked self.old.n a.0 b.0 self.old.seen.now self.new.seen.now result }
         ensures same { self.new.n ≡ self.old.n }
+        ensures same_marks { self.new.seen.ghost_name ≡ self.old.seen.ghost_name }
     {
         if a.0 < b.0 && b.0 < self.n {
             return self.mark_pair(a, b);

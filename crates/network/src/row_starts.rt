@@ -97,14 +97,17 @@ pub fn row_starts() -> [u32; RELAY_ROOM]
     ROW_STARTS
 }
 
-// The front of the table, for up to so many relays; the compiler lays out no more than these entries.
+// The front of the table, for up to so many relays; the compiler lays out no more than these entries. Entry by entry, as
+// `copy_from_slice` calls memmove.
 pub fn front<const RELAYS: usize>() -> [u32; RELAYS]
     requires { RELAYS ≤ 1000 }
     ensures { RowsFor RELAYS result }
 {
     let rows = row_starts();
     let mut front = [0u32; RELAYS];
-    front.copy_from_slice(&rows[..RELAYS]);
+    for b in 0..RELAYS {
+        front[b] = rows[b];
+    }
     front
 }
 

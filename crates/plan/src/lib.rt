@@ -35,7 +35,7 @@ pub fn plan_into(input: &[u8], output: &mut [u8]) -> Result<usize, Refusal>
     ensures answer { print_outcome result ≡ print_answer (plan_text input.now) output.old }
     ensures bytes { output.new ≡ output_after (plan_text input.now) output.old }
 {
-    let mut room = [0; rooms::OUTPUT];
+    let mut room = rooms::output();
     let size = plan(input, &mut room);
     print_into(&room[..size], output)
 }

@@ -7,7 +7,7 @@ ghost use Rattle.definitions.specs.Plan.{plan_text};
 use input::{Complaints, Feature};
 
 fn main(rt: HostRuntime) {
-    let mut output = [0; plan::rooms::OUTPUT];
+    let mut output = plan::rooms::output();
     let complaints = Complaints {
         unreadable: b"planner: standard input cannot be read\n",
         too_long: None,

@@ -27,6 +27,8 @@ use Rattle.network.specs.declared.refusal.Refusal.{Refusal}
 use Rattle.network.specs.declared.refusal.Refusal.TheVariants.{Wish}
 use Rattle.network.specs.Tables.{of_table}
 use Rattle.network.specs.declared.Network.{Network as Lent}
+use Rattle.text.specs.Answers.{read_outcome}
+use Rattle.text.specs.declared.TableSize.{TableSize}
 
 -- Two outcomes that are the same are printed alike.
 pub fits-as : {A : Type 0} (text_of : A → List ℕ) (one other : Outcome A) (size : ℕ) → one ≡ other
@@ -168,6 +170,11 @@ pub table-front : (outcome : Outcome Network) (n m : ℕ) (lows highs states : L
 table-front outcome n m lows highs states table =
     record { in_lows = table.in_lows; in_highs = table.in_highs; in_states = table.in_states; accepted = table.accepted }
 
+-- What a program has once its lists are read into, by what the reading answered: its refusal, or the table in their front.
+abbrev pub Loads : (outcome : Outcome Network) → Result TableSize Refusal → (lows highs states : List ℕ) → Type 0
+Loads outcome (Ok size) lows highs states = FrontTable outcome size.relays size.links lows highs states
+Loads outcome (Err refusal) lows highs states = outcome ≡ refusal_of refusal
+
 -- What follows a reading: its refusal, or the work with the network.
 pub loaded-refused : {A : Type 0} (work : Network → Outcome A) (outcome : Outcome Network) (refusal : Refusal)
     → refusal_of refusal ≡ outcome → and_then outcome work ≡ refusal_of refusal
@@ -193,6 +200,15 @@ read-table text lows highs states n m lows_now highs_now states_now rooms told l
     rw (low, high, state)
     (reading-done (read_network text) lows highs states n m rooms
     (λ network e. (written_read text (length lows) (length highs) (length states) network e).1) (sym told))
+
+pub read-loads : (text lows highs states : List ℕ) (answer : Result TableSize Refusal) (lows_now highs_now states_now : List ℕ)
+    → Rooms lows highs states → read_outcome answer ≡ read_answer text lows highs states → lows_now ≡ lows_after text lows highs states
+    → highs_now ≡ highs_after text lows highs states → states_now ≡ states_after text lows highs states
+    → Loads (read_network text 3000 3000 1000) answer lows_now highs_now states_now
+read-loads text lows highs states (Ok size) lows_now highs_now states_now rooms told low high state =
+    read-table text lows highs states size.relays size.links lows_now highs_now states_now rooms told low high state
+read-loads text lows highs states (Err refusal) lows_now highs_now states_now rooms told low high state =
+    sym (read-refused text lows highs states refusal rooms told)
 
 -- The network that was asked about is an accepted one.
 pub asked-accepted : (form : List Item) (answers : List ℕ → Network → List Answer) (input numbers : List ℕ) (network : Network)

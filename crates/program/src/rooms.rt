@@ -2,7 +2,7 @@
 ghost use Rattle.std.specs.Prelude.{◌≡◌};
 ghost use Rattle.definitions.specs.Program.{room};
 ghost use Rattle.definitions.specs.Text.{read_network};
-ghost use Rattle.program.specs.ReadStage.{Front, front_network, network_in, network_outcome};
+ghost use Rattle.program.specs.ReadStage.{Front, Loads, front_network, network_in, network_outcome};
 
 use network::limits::{LINK_ROOM, RELAY_ROOM};
 use network::{Network, Refusal, Table};
@@ -44,11 +44,18 @@ impl Rooms {
         }
     }
 
-    // Read, with room for every network.
+    // Read into the lists, with room for every network.
+    pub fn read_in(&mut self, text: &[u8]) -> Result<TableSize, Refusal>
+        ensures { Loads (read_network text.now 3000 3000 1000) result self.new.lows self.new.highs self.new.states }
+    {
+        read(text, &mut self.lows, &mut self.highs, &mut self.states)
+    }
+
+    // The same, and the network that it has left. It lends the lists, so what they hold afterwards is said of `read_in` alone.
     pub fn load<'a>(&'a mut self, text: &[u8]) -> Result<Network<'a>, Refusal>
         ensures { network_outcome result ≡ read_network text.now 3000 3000 1000 }
     {
-        let size = read(text, &mut self.lows, &mut self.highs, &mut self.states)?;
+        let size = self.read_in(text)?;
         Ok(self.network(size))
     }
 }

@@ -1,5 +1,6 @@
 -- Laws that the proofs share.
 pub mod LineLaws
+pub mod MarkLaws
 pub mod MergeLaws
 pub mod LinkLaws
 pub mod PlaceLaws

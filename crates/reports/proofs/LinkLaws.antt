@@ -1,18 +1,18 @@
 -- The links of a set merged row by row, up to all of them, in the terms of the code. Assumes nothing.
-use Rattle.std.specs.Prelude.{Option, None, Ok, Err}
+use Rattle.std.specs.Prelude.{Ok, Err}
 use Prim.Native.Nat.{ℕ, suc, ◌+◌, ◌-◌, ◌≤◌, ◌<◌}
 use mathlib.Core.List.{List, []}
 use mathlib.Core.Path.{◌≡◌, refl, sym, ◌∙◌, ap, subst}
 use native.Mathlib.Decide.{dec_le}
 use native.Mathlib.Omega.{arith}
-use lib.ListN.{length, get_or, take, length-append}
+use lib.ListN.{length, take, length-append}
 use lib.Seq.{get_or-take, length-take-le, ext_get_or}
 use Rattle.definitions.specs.Lists.{has}
 use Rattle.lists.specs.Ascending.{Ascending}
 use Rattle.lists.specs.Cursors.{drop_below, dropped-has, dropped-ascends, Cursors, cursors-start, cursors-later}
 use Rattle.lists.specs.Merged.{Merged, merged-start, merged-end, row-begins, row_ends}
 use Rattle.network.specs.declared.refusal.Refusal.{Refusal}
-use Rattle.reports.specs.Offsets.{marked, above_mark, seen_from}
+use Rattle.reports.specs.Offsets.{marked, above_of, seen_from}
 use Rattle.reports.specs.declared.places.Places.{Places}
 use Rattle.reports.specs.Merges.{Stored, AllBelowIn, Found, InRow, SameRoom, RowMerged, Mergeable, LinksMerged}
 use Rattle.reports.proofs.MergeLaws.{same-room, room-then}
@@ -25,7 +25,7 @@ stored-front found list count e inv fits =
 
 -- The links so far: row a comes next.
 pub record LinksSoFar (text : List ℕ) (n : ℕ)
-    (places : List (Option Places)) (lows highs : List ℕ) (places_then : List (Option Places)) (lows_then highs_then : List ℕ) (count a : ℕ) : Type 0 where
+    (places : List Places) (lows highs : List ℕ) (places_then : List Places) (lows_then highs_then : List ℕ) (count a : ℕ) : Type 0 where
   pub found_lows : List ℕ
   pub found_highs : List ℕ
   pub found : Found count lows_then highs_then found_lows found_highs
@@ -35,7 +35,7 @@ pub record LinksSoFar (text : List ℕ) (n : ℕ)
   pub few : count ≤ 3000
   pub room : SameRoom places lows highs places_then lows_then highs_then
 
-module _ {text : List ℕ} {n : ℕ} {places : List (Option Places)} (able : Mergeable text n places) where
+module _ {text : List ℕ} {n : ℕ} {places : List Places} (able : Mergeable text n places) where
   abbrev seen : ℕ → List ℕ
   seen = seen_from text places
 
@@ -59,7 +59,7 @@ module _ {text : List ℕ} {n : ℕ} {places : List (Option Places)} (able : Mer
         room = same-room places lows highs;
       }
 
-  module _ {lows highs : List ℕ} {places_then : List (Option Places)} {lows_then highs_then : List ℕ} {count a : ℕ}
+  module _ {lows highs : List ℕ} {places_then : List Places} {lows_then highs_then : List ℕ} {count a : ℕ}
       (inv : LinksSoFar text n places lows highs places_then lows_then highs_then count a) where
     -- With no row left all links are found.
     pub links-all : n ≤ a → LinksMerged seen n lows highs lows_then highs_then (Ok count)
@@ -82,13 +82,10 @@ module _ {text : List ℕ} {n : ℕ} {places : List (Option Places)} (able : Mer
           same_highs = inv.room.highs_room;
         }
 
-    -- Row a, of what is kept for a.
-    module _ (less : a < n) {kept : Option Places} (is : get_or places_then a None ≡ kept) where
-      abbrev own : List ℕ
-      own = marked text (above_mark kept)
-
+    -- Row a, of what stands from the place kept for a on.
+    module _ (less : a < n) {own : List ℕ} (is : marked text (above_of places_then a) ≡ own) where
       above : own ≡ drop_below a (seen a)
-      above = sym (ap (λ (o : Option Places). marked text (above_mark o)) is) ∙ ap (marked text) (inv.room.aboves a) ∙ able.started a
+      above = sym is ∙ ap (marked text) (inv.room.aboves a) ∙ able.started a
 
       -- It rises, is what a sees above itself, and is below n.
       own-has : (x : ℕ) → a ≤ x → has own x ≡ has (seen a) x
@@ -115,7 +112,7 @@ module _ {text : List ℕ} {n : ℕ} {places : List (Option Places)} (able : Mer
                 (able.below a) (subst (λ (k : ℕ). Merged seen n a k inv.found_lows inv.found_highs) next inv.merged);
           }
 
-      module _ {o : List (Option Places)} {l h : List ℕ} where
+      module _ {o : List Places} {l h : List ℕ} where
         -- Row a ends, and the next one comes.
         pub links-on : {r : ℕ} → RowMerged text a own count places_then lows_then highs_then o l h (Ok r)
             → LinksSoFar text n places lows highs o l h r (a + 1)

@@ -1,5 +1,5 @@
 -- The first pass over a set, a line at a time, and the states that it leaves. Assumes nothing.
-use Rattle.std.specs.Prelude.{Option, None, Some, Ok, Err}
+use Rattle.std.specs.Prelude.{None, Ok, Err}
 use Prim.Native.Nat.{ℕ, zero, suc, ◌+◌, ◌≤◌, ◌<◌}
 use mathlib.Core.Bool.{Bool, true, false, ◌||◌}
 use mathlib.Core.List.{List, [], ◌∷◌, ◌++◌}
@@ -23,14 +23,15 @@ use Rattle.theory.specs.ReportPlaces.{Placed, repeats-more, beyond-more, placed-
 use Rattle.text_theory.specs.ReportFitting.{not-bad}
 use Rattle.text_theory.specs.ReportTurns.{line-behind, reports-stop, reports-depart, reports-bad, reports-next}
 use Rattle.network.specs.declared.refusal.Refusal.TheVariants.{ReportForm, ReportRelays, RelayRange}
-use Rattle.reports.proofs.SetLaws.{some-marks, set-bad, set_twice, set-far}
+use Rattle.reports.proofs.SetLaws.{set-bad, set_twice, set-far}
+use Rattle.reports.proofs.MarkLaws.{mark-kept, some-marks}
 use Rattle.reports.specs.Lines.{LineTold, LineRead}
-use Rattle.reports.specs.Offsets.{marked, seen_mark, reports_by, seen_of, seen_from, above_from, Started}
+use Rattle.reports.specs.Offsets.{marked, no_places, seen_mark, reports_by, seen_of, seen_from, above_from, Started}
 use Rattle.reports.specs.declared.places.Places.{Places}
 use Rattle.reports.specs.Places.{AllTold, PlacedAll}
 
 -- Up to offset p: the reports read so far, and what is told and kept of them.
-pub record Placing (text : List ℕ) (n : ℕ) (places : List (Option Places)) (p : ℕ) (twice far : Bool) : Type 0 where
+pub record Placing (text : List ℕ) (n : ℕ) (places : List Places) (p : ℕ) (twice far : Bool) : Type 0 where
   pub reports : List Report
   pub read : read_reports text [] 0 (length text) ≡ read_reports text reports p (length text)
   pub twice_is : repeats (reporters reports) ≡ twice
@@ -41,18 +42,18 @@ pub record Placing (text : List ℕ) (n : ℕ) (places : List (Option Places)) (
   pub within : p ≤ length text
 
 -- At the start nothing is kept.
-none-kept : (count r : ℕ) → ◌≡◌ {A = Option Places} (get_or (replicate count None) r None) None
+none-kept : (count r : ℕ) → get_or (replicate count no_places) r no_places ≡ no_places
 none-kept zero r = refl
 none-kept (suc count) zero = refl
 none-kept (suc count) (suc r) = none-kept count r
 
-pub none-length : (places : List (Option Places)) → places ≡ replicate 1000 None → length places ≡ 1000
-none-length places e = ap length e ∙ length-replicate {A = Option Places} 1000 None
+pub none-length : (places : List Places) → places ≡ replicate 1000 no_places → length places ≡ 1000
+none-length places e = ap length e ∙ length-replicate 1000 no_places
 
-pub placing-start : (text : List ℕ) (n : ℕ) (places : List (Option Places)) → places ≡ replicate 1000 None → Placing text n places 0 false false
+pub placing-start : (text : List ℕ) (n : ℕ) (places : List Places) → places ≡ replicate 1000 no_places → Placing text n places 0 false false
 unfolding repeats reporters beyond drop_below
 placing-start text n places e =
-    let empty : (r : ℕ) → get_or places r None ≡ None = λ r. ap (λ (l : List (Option Places)). get_or l r None) e ∙ none-kept 1000 r in
+    let empty : (r : ℕ) → get_or places r no_places ≡ no_places = λ r. ap (λ (l : List Places). get_or l r no_places) e ∙ none-kept 1000 r in
     record {
       reports = [];
       read = refl;
@@ -77,27 +78,28 @@ module _ (text : List ℕ) (p relay serial at top next above : ℕ) (told : Line
       (omega (arith, (not-bad (report_of told.values) told.good).known, told.relay_is), behind.0, behind.1)
 
   -- What its relay sees from its own number on stands there, and so it does for the others.
-  abbrev pub now : Option Places
-  now = Some (record { seen = at; above = above })
+  abbrev pub now : Places
+  now = record { seen = at; above = above }
 
-  started-more : (places : List (Option Places)) → length places ≡ 1000 → Started text places → Started text (set places relay now)
+  started-more : (places : List Places) → length places ≡ 1000 → Started text places → Started text (set places relay now)
   unfolding drop_below
   started-more places room inv r = go (ℕ_discrete relay r)
     where
       go : Dec (relay ≡ r) → above_from text (set places relay now) r ≡ drop_below r (seen_from text (set places relay now) r)
       go (yes e) =
           let here = line-within.0 in
-          rw (← e, get_or-set_same places relay now None (omega arith), told.numbers) told.higher
-      go (no other) = rw (get_or-set_other places relay r now None (λ e. other (sym e))) (inv r)
+          rw (← e, get_or-set_same places relay now no_places (omega arith), mark-kept now at told.some, mark-kept now above told.some, told.numbers)
+          told.higher
+      go (no other) = rw (get_or-set_other places relay r now no_places (λ e. other (sym e))) (inv r)
 
-  pub placing-more : (n : ℕ) (places : List (Option Places)) (twice far twice_then far_then : Bool) → Placing text n places p twice far
+  pub placing-more : (n : ℕ) (places : List Places) (twice far twice_then far_then : Bool) → Placing text n places p twice far
       → twice_then ≡ (twice || reports_by places relay) → far_then ≡ (far || leb n top)
       → Placing text n (set places relay now) next twice_then far_then
   placing-more n places twice far twice_then far_then inv is_twice is_far =
       let report = report_of told.values in
       let facts = line-within in
       let marked_by : twice ≡ false → reports_by places relay ≡ has (reporters inv.reports) report.relay = λ once.
-      some-marks (get_or places relay None)
+      some-marks (get_or places relay no_places)
       ∙ (inv.placed once).marks relay
       ∙ ap (has (reporters inv.reports)) (sym told.relay_is) in
       record {
@@ -117,15 +119,16 @@ module _ (text : List ℕ) (p relay serial at top next above : ℕ) (told : Line
             let both = or-false twice (reports_by places relay) (sym is_twice ∙ once) in
             placed-step (marked text) inv.reports (seen_of places) (seen_of (set places relay now)) report (suc at)
             (inv.placed both.0) (sym (marked_by both.0) ∙ both.1) (omega arith) told.numbers
-            (ap (seen_of (set places relay now)) told.relay_is ∙ ap seen_mark (get_or-set_same places relay now None (omega (arith, inv.room))))
-            (λ r other. ap seen_mark (get_or-set_other places relay r now None (λ e. other (e ∙ sym told.relay_is))));
+            (ap (seen_of (set places relay now)) told.relay_is ∙ ap seen_mark (get_or-set_same places relay now no_places (omega (arith, inv.room)))
+            ∙ mark-kept now at told.some)
+            (λ r other. ap seen_mark (get_or-set_other places relay r now no_places (λ e. other (e ∙ sym told.relay_is))));
         room = length-set places relay now ∙ inv.room;
         started = started-more places inv.room inv.started;
         within = facts.2;
       }
 
 -- A line that is out of form or bad, and the end of the text: 20 and 5, or no fault.
-module _ (text : List ℕ) (n : ℕ) (places : List (Option Places)) (p : ℕ) (twice far : Bool) (inv : Placing text n places p twice far) where
+module _ (text : List ℕ) (n : ℕ) (places : List Places) (p : ℕ) (twice far : Bool) (inv : Placing text n places p twice far) where
   pub placing-bad : p < length text → LineRead text p None → PlacedAll text n places (Err ReportForm)
   placing-bad some bad room_lows room_highs room_states least most =
       set-bad n text room_lows room_highs room_states least most (inv.read ∙ go (scan_report text p) refl)

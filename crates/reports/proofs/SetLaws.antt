@@ -1,13 +1,10 @@
 -- What the lines of a set tell decides what it is refused for; a set with no fault is joined. Assumes nothing.
-use Rattle.std.specs.Prelude.{⊤, Option, None, Some, Result, Ok, Err}
-use Rattle.std.specs.Option.{is_some}
-use Prim.Native.Nat.{ℕ, suc, ◌≤◌}
+use Rattle.std.specs.Prelude.{⊤, Result, Ok, Err}
+use Prim.Native.Nat.{ℕ, ◌≤◌}
 use mathlib.Core.Bool.{Bool, true, false}
 use mathlib.Core.List.{List, []}
-use mathlib.Core.Path.{◌≡◌, refl, sym, ◌∙◌, ap, subst, fun_ext}
+use mathlib.Core.Path.{◌≡◌, refl, ◌∙◌, ap, subst, fun_ext}
 use native.Mathlib.Omega.{arith}
-use borrow.Author.Tests.{lt-ltb}
-use lib.Dec.{ltb}
 use lib.ListN.{length, get_or}
 use Rattle.definitions.specs.Outcome.{pick, refused, done, refuse_if, and_then}
 use Rattle.definitions.specs.Lists.{table, outside}
@@ -37,10 +34,11 @@ use Rattle.text.specs.Answers.{read_outcome}
 use Rattle.text.specs.Sizes.{SizeChecked, links-many}
 use Rattle.text.specs.Tables.{TableRead, ReadWhole}
 use Rattle.text.specs.declared.TableSize.{TableSize}
-use Rattle.reports.specs.Offsets.{seen_mark, reports_by, seen_from}
+use Rattle.reports.specs.Offsets.{no_places, reports_by, seen_from}
 use Rattle.reports.specs.declared.places.Places.{Places}
 use Rattle.reports.specs.Places.{AllTold, StatesPut}
 use Rattle.reports.specs.Merges.{Mergeable, AllLinks, LinksMerged}
+use Rattle.reports.proofs.MarkLaws.{some-marks}
 
 -- n out of its range, a line out of form or bad, a relay that reports twice, a number not below n.
 module _ (n : ℕ) (text : List ℕ) (room_lows room_highs room_states : ℕ) where
@@ -53,7 +51,7 @@ module _ (n : ℕ) (text : List ℕ) (room_lows room_highs room_states : ℕ) wh
     unfolding reports_network refuse_if and_then
     set-bad e = rw (inside 1 1000 n some few, e)
 
-    module _ (places : List (Option Places)) (twice far : Bool) (told : AllTold text n places twice far) where
+    module _ (places : List Places) (twice far : Bool) (told : AllTold text n places twice far) where
       set-read : reports_network n text room_lows room_highs room_states
           ≡ refuse_if twice 20 0
           (refuse_if far 5 0
@@ -72,17 +70,12 @@ module _ (n : ℕ) (text : List ℕ) (room_lows room_highs room_states : ℕ) wh
       unfolding refuse_if
       set-far once e = set-read ∙ rw (once, e)
 
--- Places are kept exactly where their mark is not 0.
-pub some-marks : (kept : Option Places) → is_some kept ≡ ltb 0 (seen_mark kept)
-some-marks None = refl
-some-marks (Some kept) = sym (lt-ltb 0 (suc kept.seen) (omega arith))
-
 -- What is answered once the size is checked.
 abbrev pub table_of : (n m : ℕ) → Result ⊤ Refusal → Result TableSize Refusal
 table_of n m (Ok _) = Ok (record { relays = n; links = m })
 table_of n m (Err refusal) = Err refusal
 
-module _ (text : List ℕ) (n : ℕ) (places : List (Option Places)) (some : 1 ≤ n) (few : n ≤ 1000) (told : AllTold text n places false false) where
+module _ (text : List ℕ) (n : ℕ) (places : List Places) (some : 1 ≤ n) (few : n ≤ 1000) (told : AllTold text n places false false) where
   pub set-merges : Mergeable text n places
   set-merges =
       let reports = told.reports in
@@ -98,7 +91,7 @@ module _ (text : List ℕ) (n : ℕ) (places : List (Option Places)) (some : 1 �
   states-same : table (λ r. pick (reports_by places r) 1 0) 0 n ≡ table (reported_state told.reports) 0 n
   unfolding reported_state
   states-same =
-      ap (λ (f : ℕ → ℕ). table f 0 n) (fun_ext λ r. ap (λ (t : Bool). pick {A = ℕ} t 1 0) (some-marks (get_or places r None) ∙ (told.placed refl).marks r))
+      ap (λ (f : ℕ → ℕ). table f 0 n) (fun_ext λ r. ap (λ (t : Bool). pick {A = ℕ} t 1 0) (some-marks (get_or places r no_places) ∙ (told.placed refl).marks r))
 
   -- Over 3,000 links.
   pub set-many : (lows highs states lows_then highs_then states_then : List ℕ) (refusal : Refusal) → StatesPut places n states states_then

@@ -27,7 +27,7 @@ use text::{TableSize, clear_behind, size_check};
 fn join(
     text: &[u8],
     n: u16,
-    places: &mut [Option<Places>],
+    places: &mut [Places],
     lows: &mut [u16],
     highs: &mut [u16],
     states: &mut [u16],
@@ -59,7 +59,7 @@ fn reports_table(
     if n < 1 || RELAYS < n {
         return Err(Refusal::RelayCount);
     }
-    let mut places = [None; RELAY_ROOM];
+    let mut places = [Places { seen: 0, above: 0 }; RELAY_ROOM];
     place_all(text, n, &mut places)?;
     join(text, n, &mut places, lows, highs, states)
 }

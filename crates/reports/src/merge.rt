@@ -39,19 +39,20 @@ fn pass_below(text: &[u8], at: usize, a: u16) -> Cursor
 }
 
 // Whether b sees a: not where b has not reported. The place kept for b moves past the numbers below a.
-fn sees_back(text: &[u8], places: &mut [Option<Places>], a: Relay, b: Relay) -> bool
+fn sees_back(text: &[u8], places: &mut [Places], a: Relay, b: Relay) -> bool
     requires { b.0 < length places.old }
     ensures { SawBack text.now a.0 b.0 places.old places.new result }
 {
     let other = b.0 as usize;
-    let Some(kept) = places[other] else {
+    let kept = places[other];
+    if kept.seen == 0 {
         return false;
-    };
+    }
     let cursor = pass_below(text, kept.seen, a.0);
-    places[other] = Some(Places {
+    places[other] = Places {
         seen: cursor.at,
         ..kept
-    });
+    };
     cursor.there
 }
 
@@ -67,7 +68,7 @@ fn put_at(list: &mut [u16], i: usize, x: u16)
 // The link a b behind those found so far, where b is above a and sees it. Returns how many there are then.
 fn try_link(
     text: &[u8],
-    places: &mut [Option<Places>],
+    places: &mut [Places],
     a: Relay,
     b: Relay,
     found: u16,
@@ -93,7 +94,7 @@ fn merge_row(
     text: &[u8],
     a: Relay,
     start: usize,
-    places: &mut [Option<Places>],
+    places: &mut [Places],
     found: u16,
     lows: &mut [u16],
     highs: &mut [u16],
@@ -121,7 +122,7 @@ fn merge_row(
 pub(crate) fn merge(
     text: &[u8],
     n: u16,
-    places: &mut [Option<Places>],
+    places: &mut [Places],
     lows: &mut [u16],
     highs: &mut [u16],
 ) -> Result<u16, Refusal>
@@ -131,9 +132,10 @@ pub(crate) fn merge(
 {
     let mut count: u16 = 0;
     for a in 0..n {
-        let Some(own) = places[a as usize] else {
+        let own = places[a as usize];
+        if own.seen == 0 {
             continue;
-        };
+        }
         count = merge_row(text, Relay(a), own.above, places, count, lows, highs)?;
     }
     Ok(count)

@@ -1,11 +1,14 @@
 // The first pass over a set: each line is read, and for its relay is kept where those that it sees begin, and where those above it do.
-ghost use Rattle.std.specs.Prelude.{◌≡◌, ◌≤◌, length, replicate, Option, None};
+ghost use Rattle.std.specs.Prelude.{◌≡◌, ◌≤◌, length, replicate};
+ghost use Rattle.reports.specs.Offsets.{no_places};
 ghost use Rattle.reports.specs.Places.{PlacedAll, StatesPut};
 
 use crate::line::report_line;
 use network::Refusal;
 
-// Of a relay that reports: the offset where those that it sees begin, and where those above it do.
+// Of a relay: the offset where those that it sees begin, and where those above it do. Both are 0 where it has not reported: those that a
+// relay sees never begin at offset 0, as its line begins with `(report `. So it is no `Option`: that takes 24 bytes for 16, and the array
+// no longer fits the first cache beside the lists: 0.95 in place of 0.33 µs for two relays.
 #[derive(Clone, Copy)]
 pub(crate) struct Places {
     pub seen: usize,
@@ -13,8 +16,8 @@ pub(crate) struct Places {
 }
 
 // All the lines of a set: each is to be a report, no relay is to report twice, and no number is to be n or more, in this order.
-pub(crate) fn place_all(text: &[u8], n: u16, places: &mut [Option<Places>]) -> Result<(), Refusal>
-    requires { places.old ≡ replicate 1000 None }
+pub(crate) fn place_all(text: &[u8], n: u16, places: &mut [Places]) -> Result<(), Refusal>
+    requires { places.old ≡ replicate 1000 no_places }
     ensures { PlacedAll text.now n places.new result }
 {
     let mut p: usize = 0;
@@ -26,12 +29,12 @@ pub(crate) fn place_all(text: &[u8], n: u16, places: &mut [Option<Places>]) -> R
             return Err(Refusal::ReportForm);
         };
         let relay = report.relay.0 as usize;
-        twice |= places[relay].is_some();
+        twice |= 0 < places[relay].seen;
         beyond |= n <= report.top.0;
-        places[relay] = Some(Places {
+        places[relay] = Places {
             seen: report.seen,
             above: report.above,
-        });
+        };
         p = report.next;
     }
     if twice {
@@ -44,7 +47,7 @@ pub(crate) fn place_all(text: &[u8], n: u16, places: &mut [Option<Places>]) -> R
 }
 
 // The states of n relays, as far as the list goes: in service, with 1, are those that report.
-pub(crate) fn put_states(places: &[Option<Places>], n: u16, states: &mut [u16])
+pub(crate) fn put_states(places: &[Places], n: u16, states: &mut [u16])
     requires { (n ≤ 1000) × (length places.now ≡ 1000) }
     ensures { StatesPut places.now n states.old states.new }
 {
@@ -53,6 +56,6 @@ pub(crate) fn put_states(places: &[Option<Places>], n: u16, states: &mut [u16])
         return;
     }
     for r in 0..count {
-        states[r] = u16::from(places[r].is_some());
+        states[r] = u16::from(0 < places[r].seen);
     }
 }

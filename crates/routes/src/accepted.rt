@@ -7,6 +7,7 @@ ghost use Rattle.routes.specs.Answers.{route_outcome, answered, answer_in, tree_
 
 use crate::Wish;
 use crate::between::{between, one_tree};
+use forests::clear::clear;
 use forests::left::left_table;
 use forests::scan::{is_small, place_of, scan};
 use network::limits::{FEW_LINKS, FEW_RELAY_ROOM, LINK_ROOM, RELAY_ROOM};
@@ -104,8 +105,8 @@ impl<const RELAYS: usize, const LINKS: usize, const SIDE: usize> Arrays<RELAYS, 
         } = self;
         let n = network.table.n;
         let entries = usize::from(wish.k) * usize::from(n);
-        scratch[..entries].fill(0);
-        left_table(scratch, network, wish.k, places, numbers);
+        clear(scratch, entries);
+        left_table(scratch, network.table, wish.k, places, numbers);
         let p = place_of(places, wish.from);
         let q = place_of(places, wish.to);
         let table = LeftTable {
@@ -114,7 +115,8 @@ impl<const RELAYS: usize, const LINKS: usize, const SIDE: usize> Arrays<RELAYS, 
             n,
         };
         let result = answer(a, b, table, wish.k, p, q, order, counts, relays, links);
-        scratch.fill(0);
+        let whole = scratch.len();
+        clear(scratch, whole);
         result
     }
 }
@@ -133,7 +135,7 @@ pub(crate) fn route_accepted(
         ≡ of_wish tree_answer network.entry.table wish counts.old relays.old links.old }
     ensures scratch_left { scratch.new ≡ zeroed scratch.old }
 {
-    if is_small(network.table) {
+    if is_small(network.table.n, network.table.lows.len()) {
         let mut few = Arrays::<FEW_RELAY_ROOM, FEW_LINKS, SMALL_SIDE_ROOM>::new();
         few.scan(network);
         few.route(network, wish, counts, relays, links, scratch)

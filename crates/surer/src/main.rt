@@ -8,7 +8,7 @@ ghost use Rattle.definitions.specs.Sure.{sure_text};
 use input::{Complaints, Feature};
 
 fn main(rt: HostRuntime) {
-    let mut output = [0; plan::rooms::OUTPUT];
+    let mut output = plan::rooms::output();
     let complaints = Complaints {
         unreadable: b"surer: standard input cannot be read\n",
         too_long: None,

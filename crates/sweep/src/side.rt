@@ -38,6 +38,14 @@ pub fn put(list: &mut [u16], at: usize, x: u16)
     }
 }
 
+// The place before v.
+pub fn one_before(v: Place) -> Place
+    requires { 0 < v.0 }
+    ensures { result.0 ≡ v.0 - 1 }
+{
+    Place(v.0 - 1)
+}
+
 // A left table of n entries for each index, one after another: 0 for no neighbour, else one more than the index of the link to it;
 // `ends` has the place of each link's earlier end.
 #[derive(Clone, Copy)]
@@ -73,7 +81,7 @@ impl<'a> LeftTable<'a> {
             return self.neighbour(0);
         }
         let row = (usize::from(i) - 1) * usize::from(self.n);
-        self.neighbour(get(self.entries, row + (usize::from(v.0) - 1)))
+        self.neighbour(get(self.entries, row + usize::from(one_before(v).0)))
     }
 }
 

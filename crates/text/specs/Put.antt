@@ -1,11 +1,8 @@
 -- What a writing function leaves: the bytes stored from an offset on, and the offset behind them. How two writings join.
 -- Assumes nothing.
-use Rattle.std.specs.Prelude.{ℕ, ◌+◌, ◌/◌, ◌%◌, ◌≤◌, ◌<◌, List, [], ◌∷◌, ◌++◌, ◌≡◌, length, set}
-use Rattle.std.proofs.Common.{append_assoc, append-nil, refl, sym, ◌∙◌, ap, arith, length-append}
-use Rattle.std.proofs.Math.Seq.{take-length}
-use Rattle.std.proofs.lemmas.List.Edits.{sets, sets-eq}
-use Rattle.std.proofs.lemmas.Slice.{put_mid-paste}
-use borrow.Rule.Slice.PartMut.{put_mid}
+use Rattle.std.specs.Prelude.{ℕ, suc, ◌+◌, ◌/◌, ◌%◌, ◌≤◌, ◌<◌, List, [], ◌∷◌, ◌++◌, ◌≡◌, length, get_or, drop, set}
+use Rattle.std.proofs.Common.{append_assoc, append-nil, sym, ◌∙◌, ap, add-one, arith, length-append, drop_of_length-le, drop-cons}
+use Rattle.std.proofs.lemmas.List.Edits.{sets}
 use Rattle.definitions.specs.Form.{word, numeral, decimal, write_form}
 use Rattle.lists.specs.Stores.{sets-append, sets_last}
 use Rattle.text_theory.specs.Decimal.{decimal_digit, decimal-tens}
@@ -17,11 +14,15 @@ pub record Put (before : List ℕ) (at : ℕ) (written after : List ℕ) (next :
   pub ends : next ≡ at + length written
   pub same : length after ≡ length before
 
--- The letters of a word, copied as a whole.
-pub word-copied : (l w copy : List ℕ) (at size : ℕ) → copy ≡ w → size ≡ length w → at + length w ≤ length l
-    → put_mid at size l copy ≡ sets l at w
-word-copied l w copy at size e f h =
-    put_mid-paste at size l copy w (length w) e (sym f) refl ∙ simp take-length (sym (sets-eq w l at h))
+-- The first byte that is left of a word.
+pub word-store : (l w : List ℕ) (at i : ℕ) → i < length w
+    → sets l (at + i) (drop i w) ≡ sets (set l (at + i) (get_or w i 0)) (at + (i + 1)) (drop (i + 1) w)
+word-store l w at i h =
+    let e : at + suc i ≡ suc (at + i) = omega arith in
+    rw (drop-cons w i 0 h, add-one i, e)
+
+pub word-stored : (l w : List ℕ) (at i : ℕ) → length w ≤ i → sets l at (drop i w) ≡ l
+word-stored l w at i h = rw (drop_of_length-le w h)
 
 -- The last digit of a number, and then those of its tens.
 pub number-store : (l : List ℕ) (at x : ℕ) → 10 ≤ x

@@ -104,7 +104,7 @@ unfolding read_end
 end_same text n p lows highs one other e = rw e
 
 -- The relay of a line that was taken.
-out-rises : (text : List ℕ) (n next at : ℕ) (r : Result (Relay × ℕ) Refusal) → OutRead text n next at r → (relay : Relay) (p : ℕ) → r ≡ Ok (relay, p)
+pub out-rises : (text : List ℕ) (n next at : ℕ) (r : Result (Relay × ℕ) Refusal) → OutRead text n next at r → (relay : Relay) (p : ℕ) → r ≡ Ok (relay, p)
     → (next ≤ relay.0) × (relay.0 < n)
 out-rises text n next at r line relay p e =
     subst (λ (s : Result (Relay × ℕ) Refusal). IfOk s (λ line. (next ≤ line.0.0) × (line.0.0 < n))) e line.rises

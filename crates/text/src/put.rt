@@ -49,14 +49,16 @@ fn short_width(x: usize) -> usize
 }
 
 // A word to the letter. The buffer and the offset are two parameters, here and below: of a struct that holds the buffer by `&mut` a
-// contract could name what is left by its position alone.
+// contract could name what is left by its position alone. Byte by byte, since `copy_from_slice` calls memmove, and of libc the library
+// needs memcpy and memset alone.
 pub fn put_word(buffer: &mut [u8], at: usize, letters: &[u8]) -> usize
     requires { at + length letters.now ≤ length buffer.old }
     ensures { Put buffer.old at letters.now buffer.new result }
 {
-    let next = at + letters.len();
-    buffer[at..next].copy_from_slice(letters);
-    next
+    for i in 0..letters.len() {
+        buffer[at + i] = letters[i];
+    }
+    at + letters.len()
 }
 
 // A number in base ten, with as many digits as it takes.
@@ -66,10 +68,12 @@ pub fn put_number(buffer: &mut [u8], at: usize, x: usize) -> usize
 {
     let next = at + width(x);
     let mut tens = x;
-    for p in (at..next).rev() {
+    for p in (at + 1..next).rev() {
         buffer[p] = b'0' + (tens % 10) as u8;
         tens /= 10;
     }
+    // The first digit is left, and needs no division.
+    buffer[at] = b'0' + tens as u8;
     next
 }
 

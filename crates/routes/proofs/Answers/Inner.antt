@@ -2,13 +2,12 @@
 -- code's terms.
 use Prim.Native.Nat.{ℕ, ◌+◌, ◌*◌, ◌≤◌, ◌<◌}
 use mathlib.Core.Bool.{Bool, true, false}
-use mathlib.Core.List.{List, [], ◌∷◌, ◌++◌, map}
+use mathlib.Core.List.{List, [], ◌∷◌, ◌++◌, map, append-nil}
 use mathlib.Core.Path.{◌≡◌, refl, ◌∙◌, ap, ap₂}
 use native.Mathlib.Nat.{zero-add}
 use native.Mathlib.Omega.{arith}
-use lib.ListN.{length, take, drop, get_or, replicate, length-replicate}
-use Rattle.std.proofs.Common.{length-take, length-append, length-drop}
-use lib.Seq.{sets}
+use lib.ListN.{length, drop, get_or, replicate}
+use lib.Seq.{drop-length, sets}
 use Rattle.definitions.specs.Outcome.{pick, refused, done}
 use Rattle.definitions.specs.Lists.{overwrite, zeroed, join_all}
 use Rattle.definitions.specs.Network.{linked, Accepted}
@@ -138,21 +137,17 @@ module _ (n : ℕ) (lows highs states : List ℕ) (k from to : ℕ) (counts rela
       let placed_q = relay-placed n lows highs states to asked.goal in
       omega (arith, at_p, at_q, placed_p.0, placed_p.1, placed_q.0, placed_q.1, asked.few, serving-few n states, lent.no_a.room, lent.no_b.room)
 
--- A list of zeros as long as another.
-pub clear_whole : (old mid last : List ℕ) → length mid ≡ length old → last ≡ replicate (length mid) 0 → last ≡ zeroed old
+-- A list cleared as far as it goes, which was as long as another.
+pub clear_whole : (old mid last : List ℕ) → length mid ≡ length old → last ≡ replicate (length mid) 0 ++ drop (length mid) mid
+    → last ≡ zeroed old
 unfolding zeroed
-clear_whole old mid last e clear = clear ∙ ap (λ (x : ℕ). replicate x 0) e
+clear_whole old mid last e clear =
+    clear ∙ rw (drop-length mid) (append-nil (replicate (length mid) 0)) ∙ ap (λ (x : ℕ). replicate x 0) e
 
--- The front of scratch filled with zeros, and the rest as it was; it stays as long.
-module _ (k n : ℕ) {routes size : ℕ} (scratch : List ℕ) {front : List ℕ} (same_k : routes ≡ k) (same_n : size ≡ n) (room : k * n ≤ length scratch)
-    (filled : front ≡ replicate (length (take (routes * size) scratch)) 0) where
-  pub front-cleared : front ++ drop (routes * size) scratch ≡ replicate (k * n) 0 ++ drop (k * n) scratch
-  front-cleared =
-      let long : length (take (k * n) scratch) ≡ k * n = omega (arith, length-take (k * n) scratch) in
-      rw (filled, same_k, same_n, long)
-
-  pub front-long : length (front ++ drop (routes * size) scratch) ≡ length scratch
-  front-long = rw front-cleared (simp (length-append, length-drop, length-replicate {A = ℕ}) (omega arith))
+-- The front of scratch is cleared, by the routes and the size that were multiplied.
+pub front-cleared : (k n : ℕ) {routes size : ℕ} (scratch : List ℕ) {front : List ℕ} → routes ≡ k → size ≡ n
+    → front ≡ replicate (routes * size) 0 ++ drop (routes * size) scratch → front ≡ replicate (k * n) 0 ++ drop (k * n) scratch
+front-cleared k n scratch same_k same_n filled = rw (← same_k, ← same_n) filled
 
 -- What the left table is made from, after the front of scratch is cleared.
 pub table-input : (n : ℕ) (lows highs states : List ℕ) (k from to : ℕ) (counts relays scratch scratch' order places numbers a b : List ℕ)

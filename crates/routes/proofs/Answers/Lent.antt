@@ -29,20 +29,20 @@ module _ (n : ℕ) (lows highs states : List ℕ) (k from to : ℕ) (counts rela
     unfolding short_for
     short-alone = or-none (too_short n k counts relays scratch)
 
-    alone-answer : core_answer None n lows highs states k from to counts relays links scratch ≡ route_answer n lows highs states k from to counts relays scratch
+    pub alone-answer : core_answer None n lows highs states k from to counts relays links scratch ≡ route_answer n lows highs states k from to counts relays scratch
     unfolding core_answer route_answer
     alone-answer = ap (λ (b : Bool). route_unless b n lows highs states k from to) short-alone
 
-    alone-counts : core_counts None n lows highs states k from to counts relays links scratch ≡ counts_after n lows highs states k from to counts relays scratch
+    pub alone-counts : core_counts None n lows highs states k from to counts relays links scratch ≡ counts_after n lows highs states k from to counts relays scratch
     unfolding core_counts counts_after
     alone-counts =
         ap (λ (x : Answer). if_done x (overwrite (map length (routes_of n lows highs states k from to)) counts) counts) alone-answer
 
-    alone-relays : core_relays None n lows highs states k from to counts relays links scratch ≡ route_relays_after n lows highs states k from to counts relays scratch
+    pub alone-relays : core_relays None n lows highs states k from to counts relays links scratch ≡ route_relays_after n lows highs states k from to counts relays scratch
     unfolding core_relays route_relays_after
     alone-relays = ap (λ (x : Answer). if_done x (overwrite (join_all (routes_of n lows highs states k from to)) relays) relays) alone-answer
 
-    alone-scratch : core_scratch None n lows highs states k from to counts relays links scratch ≡ scratch_after n lows highs states k from to counts relays scratch
+    pub alone-scratch : core_scratch None n lows highs states k from to counts relays links scratch ≡ scratch_after n lows highs states k from to counts relays scratch
     unfolding core_scratch scratch_after
     alone-scratch = ap (λ (x : Answer). pick (scratch_used x) (zeroed scratch) scratch) alone-answer
 
@@ -57,20 +57,20 @@ module _ (n : ℕ) (lows highs states : List ℕ) (k from to : ℕ) (counts rela
 
   -- Where one is.
   module _ (links : List ℕ) where
-    lent-answer : core_answer (Some (length links)) n lows highs states k from to counts relays links scratch ≡ route_links_answer n lows highs states k from to counts relays links scratch
+    pub lent-answer : core_answer (Some (length links)) n lows highs states k from to counts relays links scratch ≡ route_links_answer n lows highs states k from to counts relays links scratch
     unfolding core_answer route_links_answer short_for links_too_short
     lent-answer = refl
 
-    lent-counts : core_counts (Some (length links)) n lows highs states k from to counts relays links scratch ≡ route_links_counts n lows highs states k from to counts relays links scratch
+    pub lent-counts : core_counts (Some (length links)) n lows highs states k from to counts relays links scratch ≡ route_links_counts n lows highs states k from to counts relays links scratch
     unfolding core_counts route_links_counts
     lent-counts =
         ap (λ (x : Answer). if_done x (overwrite (map length (routes_of n lows highs states k from to)) counts) counts) lent-answer
 
-    lent-relays : core_relays (Some (length links)) n lows highs states k from to counts relays links scratch ≡ route_links_relays n lows highs states k from to counts relays links scratch
+    pub lent-relays : core_relays (Some (length links)) n lows highs states k from to counts relays links scratch ≡ route_links_relays n lows highs states k from to counts relays links scratch
     unfolding core_relays route_links_relays
     lent-relays = ap (λ (x : Answer). if_done x (overwrite (join_all (routes_of n lows highs states k from to)) relays) relays) lent-answer
 
-    lent-links : core_links (Some (length links)) n lows highs states k from to counts relays links scratch ≡ route_links_links n lows highs states k from to counts relays links scratch
+    pub lent-links : core_links (Some (length links)) n lows highs states k from to counts relays links scratch ≡ route_links_links n lows highs states k from to counts relays links scratch
     unfolding core_links route_links_links route_links_answer links_too_short if_done
     lent-links = rw lent-answer (go (route_links_answer n lows highs states k from to counts relays links scratch) refl)
       where
@@ -95,7 +95,7 @@ module _ (n : ℕ) (lows highs states : List ℕ) (k from to : ℕ) (counts rela
         go (refused number place) e = refl
         go (done values) e = fits values e
 
-    lent-scratch : core_scratch (Some (length links)) n lows highs states k from to counts relays links scratch ≡ route_links_scratch n lows highs states k from to counts relays links scratch
+    pub lent-scratch : core_scratch (Some (length links)) n lows highs states k from to counts relays links scratch ≡ route_links_scratch n lows highs states k from to counts relays links scratch
     unfolding core_scratch route_links_scratch
     lent-scratch = ap (λ (x : Answer). pick (scratch_used x) (zeroed scratch) scratch) lent-answer
 

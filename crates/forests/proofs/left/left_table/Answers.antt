@@ -27,6 +27,6 @@ pub returns : goal.returns
 returns c =
     λ states can.
     let at = c.loop-i in
-    let all : at.i ≡ length c.args.network.table.lows.now = omega arith in
+    let all : at.i ≡ length c.args.table.lows.now = omega arith in
     let whole = at.invariant states can in
     left-ends can (rw all at whole.0) (rw all at whole.1)

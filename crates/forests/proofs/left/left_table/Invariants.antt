@@ -7,6 +7,6 @@ use Rattle.forests.proofs.left.left_table.Given as goal
 
 abbrev pub invariant-loop-i : goal.invariant-loop-i
 invariant-loop-i l =
-    (states : List ℕ) → LeftInput l.n l.k l.lows l.highs states l.places l.initial.forests l.initial.table
-    → LeftTo l.n l.k l.lows l.highs states l.i l.initial.table l.table
+    (states : List ℕ) → LeftInput l.n l.k l.lows l.highs states l.places l.initial.forests l.initial.entries
+    → LeftTo l.n l.k l.lows l.highs states l.i l.initial.entries l.entries
     × EndsTo l.n l.k l.lows l.highs states l.i l.initial.forests l.forests

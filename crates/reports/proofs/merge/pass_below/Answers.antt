@@ -7,6 +7,9 @@ use Rattle.text.specs.Scans.{number_gives}
 use Rattle.reports.proofs.MergeLaws.{none_left, next-stays, next-passes}
 use Rattle.reports.proofs.merge.pass_below.Goals as goal
 
+pub loop-x-init : goal.loop-x-init
+loop-x-init c = record { same = refl; onward = omega arith }
+
 pub word_number-requires : goal.word_number-requires
 unfolding no_zero
 word_number-requires c = refl

@@ -1,9 +1,11 @@
 -- `reports::merge::sees_back` meets its contract.
+use mathlib.Core.Path.{refl}
+use native.Mathlib.Omega.{arith}
 use Rattle.reports.proofs.MergeLaws.{saw-none, saw-back}
 use Rattle.reports.proofs.merge.sees_back.Goals as goal
 
-pub returns-in_default : goal.returns-in_default
-returns-in_default c = saw-none c.in_default.is
+pub returns-then-kept-eq0 : goal.returns-then-kept-eq0
+returns-then-kept-eq0 c = saw-none c.if-kept-eq0.true
 
 pub returns : goal.returns
-returns c = saw-back c.requires c.in-Some.is c.pass_below-cursor.ensures
+returns c = saw-back refl (omega (arith, c.if-kept-eq0.false)) c.requires c.pass_below-cursor.ensures

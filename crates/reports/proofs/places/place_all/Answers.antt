@@ -1,7 +1,6 @@
 -- `reports::places::place_all` meets its contract: a line is no report, or all are read, and a relay reports twice, a number is not
 -- below n, or neither.
-use mathlib.Core.Bool.{Bool, ◌||◌}
-use mathlib.Core.Path.{refl, ap, subst}
+use mathlib.Core.Path.{refl, subst}
 use native.Mathlib.Omega.{arith}
 use Rattle.reports.specs.Lines.{LineRead}
 use Rattle.reports.proofs.PlaceLaws.{placing-start, line-within, placing-more, placing-bad, placing-twice, placing-far, placing-end}
@@ -28,7 +27,7 @@ loop-p-smaller c =
 
 pub loop-p-preserved : goal.loop-p-preserved
 loop-p-preserved c =
-    placing-more _ _ _ _ _ _ _ _ c.in-Some.ensures c.loop-p-test.true _ _ _ _ _ _ c.loop-p.invariant (ap (λ (t : Bool). c.loop-p.twice || t) c.is_some-twice.ensures) refl
+    placing-more _ _ _ _ _ _ _ _ c.in-Some.ensures c.loop-p-test.true _ _ _ _ _ _ c.loop-p.invariant refl refl
 
 pub returns-then-twice : goal.returns-then-twice
 returns-then-twice c = placing-twice _ _ _ _ _ _ c.loop-p.invariant c.loop-p-test.false c.if-twice.true

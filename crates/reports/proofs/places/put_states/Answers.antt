@@ -1,10 +1,7 @@
 -- `reports::places::put_states` meets its contract: the list is too short, or it has a state for each of the n relays.
-use Prim.Native.Nat.{ℕ}
-use mathlib.Core.Bool.{Bool}
-use mathlib.Core.Path.{refl, ◌∙◌, ap}
+use mathlib.Core.Path.{refl, ◌∙◌}
 use native.Mathlib.Omega.{arith}
 use lib.ListN.{length-set}
-use Rattle.definitions.specs.Outcome.{pick}
 use Rattle.definitions.specs.Lists.{table}
 use Rattle.reports.proofs.PlaceLaws.{state-picked, states-more}
 use Rattle.reports.proofs.places.put_states.Goals as goal
@@ -16,4 +13,4 @@ loop-r-init c = (refl, refl)
 pub loop-r-preserved : goal.loop-r-preserved
 loop-r-preserved c =
     let l = c.loop-r in
-    (length-set l.states l.r _ ∙ l.invariant.0, states-more _ _ _ _ l.invariant.1 (omega arith) (c.from.ensures ∙ state-picked _ ∙ ap (λ (t : Bool). pick {A = ℕ} t 1 0) c.is_some.ensures))
+    (length-set l.states l.r _ ∙ l.invariant.0, states-more _ _ _ _ l.invariant.1 (omega arith) (c.from.ensures ∙ state-picked _))

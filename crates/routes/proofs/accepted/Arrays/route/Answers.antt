@@ -5,7 +5,7 @@ use mathlib.Core.Path.{◌≡◌, ◌∙◌}
 use lib.ListN.{length, drop, replicate}
 use Rattle.forests.specs.Left.{LeftInput, LeftOfEach}
 use Rattle.routes.specs.Answers.{route_outcome, answered, Routable, ScanGave, Prepared}
-use Rattle.routes.proofs.Answers.Inner.{table-input, prepared, places-some, answers-tree, clear_whole, front-cleared, front-long}
+use Rattle.routes.proofs.Answers.Inner.{table-input, prepared, places-some, answers-tree, clear_whole, front-cleared}
 use Rattle.routes.proofs.accepted.Arrays.route.Goals as goal
 
 -- What the left table is made from, once the front of scratch is cleared; and what it makes ready.
@@ -22,29 +22,21 @@ module _ {n k from to : ℕ} {lows highs states order places numbers a b counts 
 pub left_table-requires : goal.left_table-requires
 left_table-requires g c =
     let a = c.args in
-    let k = a.wish.k in
-    let n = a.network.table.n in
     let asked = c.requires.asked in
-    let filled = c.fill.ensures.after (λ y e. e) in (
-      a.network.table.states.now,
-      input asked c.requires.given (front-cleared k n a.scratch.now c.from.ensures c.from-2.ensures asked.scratch_room filled)
-          (front-long k n a.scratch.now c.from.ensures c.from-2.ensures asked.scratch_room filled),
-    )
+    let cleared = front-cleared a.wish.k a.network.table.n a.scratch.now c.from.ensures c.from-2.ensures c.clear.ensures in
+    (a.network.table.states.now, input asked c.requires.given cleared c.clear.auto.list)
 
 pub answer-result-requires : goal.answer-result-requires
 answer-result-requires g c =
     let a = c.args in
     let t = a.network.table in
-    let k = a.wish.k in
-    let n = a.network.table.n in
     let asked = c.requires.asked in
     let gave = c.requires.given in
-    let filled = c.fill.ensures.after (λ y e. e) in
+    let cleared = front-cleared a.wish.k t.n a.scratch.now c.from.ensures c.from-2.ensures c.clear.ensures in
     places-some t.n t.lows.now t.highs.now t.states.now a.wish.k a.wish.from.0 a.wish.to.0 a.counts.now a.relays.now a.links.now
     a.scratch.now asked gave.order_before a.self.now.order gave.places_before a.self.now.places gave.numbers_before
-    c.left_table.new.forests (c.fill.new.self ++ drop (c.from.result * c.from-2.result) a.scratch.now) c.left_table.new.table
-    (made asked gave (front-cleared k n a.scratch.now c.from.ensures c.from-2.ensures asked.scratch_room filled)
-    (front-long k n a.scratch.now c.from.ensures c.from-2.ensures asked.scratch_room filled) c.left_table.ensures)
+    c.left_table.new.forests c.clear.new.list c.left_table.new.entries
+    (made asked gave cleared c.clear.auto.list c.left_table.ensures)
     a.self.now.a a.self.now.b gave.arrays
     c.place_of-p.result.0 c.place_of-q.result.0 c.place_of-p.ensures c.place_of-q.ensures
 
@@ -52,22 +44,19 @@ pub returns : goal.returns
 returns g c =
     let a = c.args in
     let t = a.network.table in
-    let k = a.wish.k in
-    let n = a.network.table.n in
     let asked = c.requires.asked in
     let gave = c.requires.given in
     let answer = c.answer-result in
-    let filled = c.fill.ensures.after (λ y e. e) in
-    let long = front-long k n a.scratch.now c.from.ensures c.from-2.ensures asked.scratch_room filled in
+    let cleared = front-cleared a.wish.k t.n a.scratch.now c.from.ensures c.from-2.ensures c.clear.ensures in
     record {
       result_left = answers-tree t.n t.lows.now t.highs.now t.states.now a.wish.k a.wish.from.0 a.wish.to.0 a.counts.now a.relays.now
           a.links.now a.scratch.now asked gave.order_before a.self.now.order gave.places_before a.self.now.places gave.numbers_before
-          c.left_table.new.forests (c.fill.new.self ++ drop (c.from.result * c.from-2.result) a.scratch.now) c.left_table.new.table
-          (made asked gave (front-cleared k n a.scratch.now c.from.ensures c.from-2.ensures asked.scratch_room filled) long c.left_table.ensures)
+          c.left_table.new.forests c.clear.new.list c.left_table.new.entries
+          (made asked gave cleared c.clear.auto.list c.left_table.ensures)
           a.self.now.a a.self.now.b gave.arrays
           c.place_of-p.result.0 c.place_of-q.result.0
           (answered answer.new.counts answer.new.relays answer.new.links (route_outcome answer.result))
           c.place_of-p.ensures c.place_of-q.ensures answer.ensures;
-      scratch_left = clear_whole a.scratch.now c.left_table.new.table c.fill-2.new.self (c.left_table.auto.table ∙ long)
-          (c.fill-2.ensures.after (λ y e. e));
+      scratch_left = clear_whole a.scratch.now c.left_table.new.entries c.clear-2.new.list
+          (c.left_table.auto.entries ∙ c.clear.auto.list) c.clear-2.ensures;
     }
