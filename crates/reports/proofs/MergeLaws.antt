@@ -17,21 +17,16 @@ use Rattle.text_theory.specs.SpacedNumbers.{NoNumber, ANumber, none-at, number_b
 use Rattle.network.specs.declared.refusal.Refusal.TheVariants.{LinkCount}
 use Rattle.reports.specs.Offsets.{numbers_from, marked, no_places, seen_mark, above_mark, seen_of, above_of, seen_from}
 use Rattle.reports.specs.declared.places.Places.{Places}
-use Rattle.reports.specs.Merges.{Passed, SawBack, Stored, AllBelowIn, Found, RowMoves, SameRoom, LinkTried, RowMerged}
+use Rattle.reports.specs.Merges.{Passed, PassedOnward, SawBack, Stored, AllBelowIn, Found, RowMoves, SameRoom, LinkTried, RowMerged}
 use Rattle.reports.proofs.MarkLaws.{no-mark, mark-kept}
 
--- From offset `at` up to p numbers below a are passed.
-pub record PassedUpTo (text : List ℕ) (at a p : ℕ) : Type 0 where
-  pub same : drop_below a (numbers_from text at) ≡ drop_below a (numbers_from text p)
-  pub onward : at ≤ p
-
 -- Passing the numbers below a: no number is left, the next is not below a, or it is passed.
-module _ (text : List ℕ) (at a p : ℕ) (inv : PassedUpTo text at a p) where
+module _ (text : List ℕ) (at a p : ℕ) (inv : drop_below a (numbers_from text at) ≡ drop_below a (numbers_from text p)) where
   stops : (there : Bool) (list : List ℕ) → numbers_from text p ≡ list → drop_below a list ≡ list → there ≡ next_is a list
       → Passed text at a p there
   stops there list e stays told =
-      let all : drop_below a (numbers_from text at) ≡ list = inv.same ∙ ap (drop_below a) e ∙ stays in
-      record { moved = e ∙ sym all; told = told ∙ ap (next_is a) (sym all); onward = inv.onward }
+      let all : drop_below a (numbers_from text at) ≡ list = inv ∙ ap (drop_below a) e ∙ stays in
+      record { moved = e ∙ sym all; told = told ∙ ap (next_is a) (sym all) }
 
   pub none_left : NoNumber text p → Passed text at a p false
   unfolding drop_below next_is
@@ -42,10 +37,27 @@ module _ (text : List ℕ) (at a p : ℕ) (inv : PassedUpTo text at a p) where
     unfolding next_is
     next-stays more = stops (eqb x a) (x ∷ numbers_from text q) (numbers-next text p x q one) (dropped-stays a x (numbers_from text q) more) refl
 
-    pub next-passes : x < a → PassedUpTo text at a q
-    next-passes less =
+    pub next-passes : x < a → drop_below a (numbers_from text at) ≡ drop_below a (numbers_from text q)
+    next-passes less = inv ∙ ap (drop_below a) (numbers-next text p x q one) ∙ dropped-less a x (numbers_from text q) less
+
+-- From offset `at` up to p numbers below a are passed.
+pub record PassedUpTo (text : List ℕ) (at a p : ℕ) : Type 0 where
+  pub same : drop_below a (numbers_from text at) ≡ drop_below a (numbers_from text p)
+  pub onward : at ≤ p
+
+-- The same three, and the offsets rise.
+module _ (text : List ℕ) (at a p : ℕ) (inv : PassedUpTo text at a p) where
+  pub none-onward : NoNumber text p → PassedOnward text at a p false
+  none-onward none = record { passed = none_left text at a p inv.same none; onward = inv.onward }
+
+  module _ (x q : ℕ) (one : ANumber text p x q) where
+    pub stays-onward : a ≤ x → PassedOnward text at a p (eqb x a)
+    stays-onward more = record { passed = next-stays text at a p inv.same x q one more; onward = inv.onward }
+
+    pub passes-onward : x < a → PassedUpTo text at a q
+    passes-onward less =
         record {
-          same = inv.same ∙ ap (drop_below a) (numbers-next text p x q one) ∙ dropped-less a x (numbers_from text q) less;
+          same = next-passes text at a p inv.same x q one less;
           onward = omega (arith, inv.onward, number_behind text p (x ∷ []) q one);
         }
 
@@ -64,9 +76,9 @@ module _ {text : List ℕ} {places : List Places} {a b : ℕ} where
       }
 
   module _ {kept : Places} (is : get_or places b no_places ≡ kept) (some : 0 < kept.seen) where
-    pub saw-back : {at : ℕ} {there : Bool} → b < length places → Passed text kept.seen a at there
+    pub saw-back : {at : ℕ} {there : Bool} → b < length places → 0 < at → Passed text kept.seen a at there
         → SawBack text a b places (set places b (record { seen = at; above = kept.above })) there
-    saw-back {at} {there} within passed =
+    saw-back {at} {there} within still passed =
         record {
           told = passed.told ∙ ap (λ (mark : ℕ). next_is a (drop_below a (marked text mark))) (sym before);
           moved =
@@ -81,10 +93,6 @@ module _ {text : List ℕ} {places : List Places} {a b : ℕ} where
 
         same : get_or (set places b now) b no_places ≡ now
         same = get_or-set_same places b now no_places within
-
-        -- The offset that is kept stays above 0.
-        still : 0 < at
-        still = omega (arith, some, passed.onward)
 
         before : seen_of places b ≡ suc kept.seen
         before = ap seen_mark is ∙ mark-kept kept kept.seen some

@@ -10,10 +10,14 @@ use Rattle.network.specs.declared.refusal.Refusal.TheVariants.{LinkCount}
 use Rattle.reports.specs.Offsets.{numbers_from, above_of, seen_from, Started}
 use Rattle.reports.specs.declared.places.Places.{Places}
 
--- The numbers below a are passed, from offset p onward to q; `there` tells whether the next one is a.
+-- The numbers below a are passed, from offset p to q; `there` tells whether the next one is a.
 pub record Passed (text : List ℕ) (p a q : ℕ) (there : Bool) : Type 0 where
   pub moved : numbers_from text q ≡ drop_below a (numbers_from text p)
   pub told : there ≡ next_is a (drop_below a (numbers_from text p))
+
+-- The same, and q is not before p.
+pub record PassedOnward (text : List ℕ) (p a q : ℕ) (there : Bool) : Type 0 where
+  pub passed : Passed text p a q there
   pub onward : p ≤ q
 
 -- The same at the place that is kept for b; the others stay, and so do all those above a relay.

@@ -2,7 +2,7 @@
 // itself are read again from the place kept for them; where another relay is asked whether it sees this one, the place of those that it
 // sees moves on past the numbers that cannot come again.
 ghost use Rattle.std.specs.Prelude.{◌≡◌, ◌≤◌, ◌<◌, length, set};
-ghost use Rattle.reports.specs.Merges.{Passed, SawBack, LinkTried, RowMerged, AllBelowIn, Mergeable, LinksMerged};
+ghost use Rattle.reports.specs.Merges.{PassedOnward, SawBack, LinkTried, RowMerged, AllBelowIn, Mergeable, LinksMerged};
 ghost use Rattle.reports.specs.Offsets.{numbers_from, seen_from};
 
 use crate::places::Places;
@@ -20,7 +20,7 @@ struct Cursor {
 
 // Passes the numbers below a: as many as there are, so there is no range.
 fn pass_below(text: &[u8], at: usize, a: u16) -> Cursor
-    ensures { Passed text.now at a result.at result.there }
+    ensures { PassedOnward text.now at a result.at result.there }
 {
     let mut p = at;
     while let Ok((x, q)) = scan::word_number(text, b" ", p) {

@@ -4,7 +4,7 @@ use native.Mathlib.Omega.{arith}
 use Rattle.text_theory.specs.Forms.{no_zero}
 use Rattle.text_theory.specs.SpacedNumbers.{ANumber, number_behind}
 use Rattle.text.specs.Scans.{number_gives}
-use Rattle.reports.proofs.MergeLaws.{none_left, next-stays, next-passes}
+use Rattle.reports.proofs.MergeLaws.{none-onward, stays-onward, passes-onward}
 use Rattle.reports.proofs.merge.pass_below.Goals as goal
 
 pub loop-x-init : goal.loop-x-init
@@ -19,7 +19,7 @@ returns-then-a-x c =
     let number : ANumber c.args.text.now c.loop-x.p c.in-Ok.x c.in-Ok.q =
     sym c.word_number.ensures ∙ ap number_gives c.in-Ok.is in
     let a = c.args in
-    next-stays a.text.now a.at a.a c.loop-x.p c.loop-x.invariant _ _ number (omega (arith, c.if-a-x.true))
+    stays-onward a.text.now a.at a.a c.loop-x.p c.loop-x.invariant _ _ number (omega (arith, c.if-a-x.true))
 
 pub loop-x-smaller : goal.loop-x-smaller
 loop-x-smaller c =
@@ -32,10 +32,10 @@ loop-x-preserved c =
     let number : ANumber c.args.text.now c.loop-x.p c.in-Ok.x c.in-Ok.q =
     sym c.word_number.ensures ∙ ap number_gives c.in-Ok.is in
     let a = c.args in
-    next-passes a.text.now a.at a.a c.loop-x.p c.loop-x.invariant _ _ number (omega (arith, c.if-a-x.false))
+    passes-onward a.text.now a.at a.a c.loop-x.p c.loop-x.invariant _ _ number (omega (arith, c.if-a-x.false))
 
 pub returns : goal.returns
 returns c =
     let a = c.args in
-    none_left a.text.now a.at a.a c.loop-x.p c.loop-x.invariant
+    none-onward a.text.now a.at a.a c.loop-x.p c.loop-x.invariant
     (_, sym c.word_number.ensures ∙ ap number_gives c.in_default.is)

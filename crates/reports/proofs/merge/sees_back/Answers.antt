@@ -8,4 +8,6 @@ pub returns-then-kept-eq0 : goal.returns-then-kept-eq0
 returns-then-kept-eq0 c = saw-none c.if-kept-eq0.true
 
 pub returns : goal.returns
-returns c = saw-back refl (omega (arith, c.if-kept-eq0.false)) c.requires c.pass_below-cursor.ensures
+returns c =
+    let passed = c.pass_below-cursor.ensures in
+    saw-back refl (omega (arith, c.if-kept-eq0.false)) c.requires (omega (arith, c.if-kept-eq0.false, passed.onward)) passed.passed
