@@ -45,7 +45,7 @@ pub record PassedUpTo (text : List ℕ) (at a p : ℕ) : Type 0 where
   pub same : drop_below a (numbers_from text at) ≡ drop_below a (numbers_from text p)
   pub onward : at ≤ p
 
--- The same three, and the offsets rise.
+-- The same three, of offsets that do not fall.
 module _ (text : List ℕ) (at a p : ℕ) (inv : PassedUpTo text at a p) where
   pub none-onward : NoNumber text p → PassedOnward text at a p false
   none-onward none = record { passed = none_left text at a p inv.same none; onward = inv.onward }

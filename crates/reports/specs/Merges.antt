@@ -20,7 +20,7 @@ pub record PassedOnward (text : List ℕ) (p a q : ℕ) (there : Bool) : Type 0 
   pub passed : Passed text p a q there
   pub onward : p ≤ q
 
--- The same at the place that is kept for b; the others stay, and so do all those above a relay.
+-- `Passed` at the place that is kept for b; the others stay, and so do all those above a relay.
 pub record SawBack (text : List ℕ) (a b : ℕ) (places after : List Places) (r : Bool) : Type 0 where
   pub told : r ≡ next_is a (drop_below a (seen_from text places b))
   pub moved : seen_from text after b ≡ drop_below a (seen_from text places b)
